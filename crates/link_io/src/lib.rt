@@ -12,8 +12,6 @@ mod source;
 mod standard;
 #[cfg(test)]
 mod tests;
-#[cfg(test)]
-mod tests;
 mod why;
 mod writing;
 

@@ -3,9 +3,8 @@ ghost use Rattle.std.specs.Io.KnownBytes.{WriteAppends, Keeps};
 ghost use Rattle.link_io.specs.Causes.{HasCause, counted};
 ghost use Rattle.link_io.specs.Device.{Device, fresh, TakesSome};
 
-use std::marker::Model;
-
 use crate::{Failed, Sink};
+use std::marker::Model;
 
 /// A sink that keeps what is written in memory, and whose chosen calls fail.
 #[derive(Drop)]
@@ -21,14 +20,12 @@ impl Model for MemSink {
 
     ghost Value = { Device };
 
-    ghost view = {
-        λ s. record {
-            bytes = s.content.items;
-            fails = s.fails.items;
-            calls = s.calls;
-            faults = s.faults
-        }
-    };
+    ghost view = { λ s. record {
+      bytes = s.content.items;
+      fails = s.fails.items;
+      calls = s.calls;
+      faults = s.faults;
+    } };
 }
 
 impl MemSink {

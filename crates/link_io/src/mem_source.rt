@@ -4,9 +4,8 @@ ghost use Rattle.std.specs.Io.KnownBytes.{ReadConsumes};
 ghost use Rattle.link_io.specs.Causes.{HasCause, counted};
 ghost use Rattle.link_io.specs.Device.{Device, fresh};
 
-use std::marker::Model;
-
 use crate::{Failed, Source};
+use std::marker::Model;
 
 /// A source over bytes in memory, whose chosen calls fail.
 #[derive(Drop)]
@@ -24,14 +23,12 @@ impl Model for MemSource {
 
     ghost Value = { Device };
 
-    ghost view = {
-        λ s. record {
-            bytes = drop s.at s.content.items;
-            fails = s.fails.items;
-            calls = s.calls;
-            faults = s.faults
-        }
-    };
+    ghost view = { λ s. record {
+      bytes = drop s.at s.content.items;
+      fails = s.fails.items;
+      calls = s.calls;
+      faults = s.faults;
+    } };
 
     ghost invariant = { λ s. s.at ≤ vec_len s.content };
 }

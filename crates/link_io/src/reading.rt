@@ -3,9 +3,8 @@ ghost use Rattle.std.specs.Io.KnownBytes.{Consumes, IsAtEnd};
 ghost use Rattle.link_io.specs.Causes.{Rose};
 ghost use Rattle.link_io.specs.Reading.{ConsumesUpTo};
 
-use std::alloc::{AllocError, Global};
-
 use crate::Source;
+use std::alloc::{AllocError, Global};
 
 // How many bytes are asked for in one read.
 const PIECE: usize = 4096;
@@ -33,12 +32,19 @@ pub struct Taken {
 /// # Errors
 ///
 /// `AllocError` where the bytes could not be kept. Up to `limit` bytes are then taken and lost.
-pub fn read_to_limit<S: Source>(alloc: Global, source: &mut S, limit: usize) -> Result<Taken, AllocError>
+pub fn read_to_limit<S: Source>(
+    alloc: Global,
+    source: &mut S,
+    limit: usize,
+) -> Result<Taken, AllocError>
     ensures bytes { IfOk result (λ taken. Consumes (S.left source.old) (S.left source.new) taken.bytes.items) }
     ensures at_end { IfOk result (λ taken. taken.ending ≡ Ending.AtEnd → IsAtEnd (S.left source.new)) }
-    ensures at_limit { IfOk result (λ taken. taken.ending ≡ Ending.AtLimit → length taken.bytes.items ≡ limit) }
-    ensures below { IfOk result (λ taken. taken.ending ≢ Ending.AtLimit → length taken.bytes.items < limit) }
-    ensures failed { IfOk result (λ taken. taken.ending ≡ Ending.Failed → Rose (S.faults source.old) (S.faults source.new)) }
+    ensures at_limit { IfOk result (λ taken.
+        taken.ending ≡ Ending.AtLimit → length taken.bytes.items ≡ limit) }
+    ensures below { IfOk result (λ taken.
+        taken.ending ≢ Ending.AtLimit → length taken.bytes.items < limit) }
+    ensures failed { IfOk result (λ taken.
+        taken.ending ≡ Ending.Failed → Rose (S.faults source.old) (S.faults source.new)) }
     ensures later { S.faults source.old ≤ S.faults source.new }
     ensures most { ConsumesUpTo limit (S.left source.old) (S.left source.new) }
 {
@@ -47,10 +53,19 @@ pub fn read_to_limit<S: Source>(alloc: Global, source: &mut S, limit: usize) -> 
     'pieces: while bytes.len() < limit {
         let room = PIECE.min(limit - bytes.len());
         match source.read(&mut buffer[..room]) {
-            Ok(0) => return Ok(Taken { bytes, ending: Ending::AtEnd }),
+            Ok(0) => return Ok(Taken {
+                bytes,
+                ending: Ending::AtEnd,
+            }),
             Ok(count) => bytes.extend_from_slice(&buffer[..count])?,
-            Err(_) => return Ok(Taken { bytes, ending: Ending::Failed }),
+            Err(_) => return Ok(Taken {
+                bytes,
+                ending: Ending::Failed,
+            }),
         }
     }
-    Ok(Taken { bytes, ending: Ending::AtLimit })
+    Ok(Taken {
+        bytes,
+        ending: Ending::AtLimit,
+    })
 }

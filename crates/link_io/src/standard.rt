@@ -1,8 +1,9 @@
 ghost use Rattle.std.specs.Prelude.{◌≡◌};
-
-use std::io::{Read, Write};
+ghost use Rattle.link_io.specs.Counted.{Counted, uncounted};
 
 use crate::{Failed, Sink, Source};
+use std::io::{Read, Write};
+use std::marker::Model;
 
 /// A source over a reader, as standard input. A read that fails is counted.
 #[derive(Drop)]
@@ -11,17 +12,23 @@ pub struct StdIn<R: Drop> {
     faults: u64,
 }
 
+impl<R: Drop> Model for StdIn<R> {
+    ghost Value = { Counted R };
+
+    ghost view = { λ s. record { device = s.reader; faults = s.faults } };
+}
+
 impl<R: Drop> StdIn<R> {
     /// A source over `reader`, with no fault counted.
     pub fn new(reader: R) -> StdIn<R>
-        ensures { result ≡ record { reader = reader; faults = 0 } }
+        ensures { result ≡ uncounted reader }
     {
         StdIn { reader, faults: 0 }
     }
 }
 
 impl<R: Read + Drop> Source for StdIn<R> {
-    ghost left = { λ s. R.remaining s.reader };
+    ghost left = { λ s. R.remaining s.device };
 
     ghost faults = { λ s. s.faults };
 
@@ -44,17 +51,23 @@ pub struct StdOut<W: Drop> {
     faults: u64,
 }
 
+impl<W: Drop> Model for StdOut<W> {
+    ghost Value = { Counted W };
+
+    ghost view = { λ s. record { device = s.writer; faults = s.faults } };
+}
+
 impl<W: Drop> StdOut<W> {
     /// A sink over `writer`, with no fault counted.
     pub fn new(writer: W) -> StdOut<W>
-        ensures { result ≡ record { writer = writer; faults = 0 } }
+        ensures { result ≡ uncounted writer }
     {
         StdOut { writer, faults: 0 }
     }
 }
 
 impl<W: Write + Drop> Sink for StdOut<W> {
-    ghost written = { λ s. W.contents s.writer };
+    ghost written = { λ s. W.contents s.device };
 
     ghost faults = { λ s. s.faults };
 

@@ -1,7 +1,8 @@
+use crate::{
+    Ending, Failed, MemSink, MemSource, Sink, Source, StdIn, StdOut, read_to_limit, write_whole,
+};
 use std::alloc::AllocError;
 use std::io;
-
-use crate::{Ending, Failed, MemSink, MemSource, Sink, Source, StdIn, StdOut, read_to_limit, write_whole};
 
 #[test]
 fn a_source_fails_at_the_chosen_call_and_loses_nothing(rt: HostRuntime) -> Result<(), AllocError> {
@@ -27,7 +28,7 @@ fn a_sink_fails_at_the_chosen_call_and_keeps_the_rest(rt: HostRuntime) -> Result
     assert_eq!(rt; sink.flush(), Err(Failed));
     assert_eq!(rt; sink.flush(), Ok(()));
     assert_eq!(rt; write_whole(&mut sink, &[4, 5]), Ok(()));
-    assert_eq!(rt; sink.bytes(), [9, 1, 2, 4, 5]);
+    assert_eq!(rt; sink.bytes(), [9, 1, 2, 4, 5].as_slice());
     Ok(())
 }
 
@@ -45,7 +46,11 @@ fn reading_stops_at_the_end_the_limit_and_a_fault(rt: HostRuntime) -> Result<(),
         let mut source = MemSource::new(content, Vec::from_slice(rt.alloc(), &[fail])?);
         let taken = read_to_limit(rt.alloc(), &mut source, limit)?;
         assert_eq!(rt; taken.ending, ending, "limit {limit}, failing call {fail}");
-        assert_eq!(rt; taken.bytes.len(), length, "limit {limit}, failing call {fail}");
+        assert_eq!(rt;
+            taken.bytes.len(),
+            length,
+            "limit {limit}, failing call {fail}"
+        );
     }
     Ok(())
 }
@@ -76,22 +81,38 @@ impl io::Write for Broken {
 }
 
 #[test]
-fn the_standard_ends_pass_bytes_on_and_turn_errors_into_faults(rt: HostRuntime) -> Result<(), AllocError> {
+fn the_standard_ends_pass_bytes_on_and_turn_errors_into_faults(
+    rt: HostRuntime,
+) -> Result<(), AllocError> {
     let mut buf = [0; 4];
     let input: [u8; 3] = [1, 2, 3];
     assert_eq!(rt; StdIn::new(&input[..]).read(&mut buf), Ok(3));
     assert_eq!(rt; buf, [1, 2, 3, 0]);
-    assert_eq!(rt; StdIn::new(Broken { takes_nothing: false }).read(&mut buf), Err(Failed));
+    assert_eq!(rt;
+        StdIn::new(Broken {
+            takes_nothing: false
+        })
+        .read(&mut buf),
+        Err(Failed)
+    );
 
     let mut written = Vec::new(rt.alloc());
     let mut output = StdOut::new(&mut written);
     assert_eq!(rt; output.write(&[7, 8]), Ok(2));
     assert_eq!(rt; output.flush(), Ok(()));
-    assert_eq!(rt; written.as_slice(), [7, 8]);
+    assert_eq!(rt; written.as_slice(), [7, 8].as_slice());
     for takes_nothing in [false, true] {
         let mut output = StdOut::new(Broken { takes_nothing });
-        assert_eq!(rt; output.write(&[7]), Err(Failed), "takes nothing: {takes_nothing}");
-        assert_eq!(rt; output.flush(), Err(Failed), "takes nothing: {takes_nothing}");
+        assert_eq!(rt;
+            output.write(&[7]),
+            Err(Failed),
+            "takes nothing: {takes_nothing}"
+        );
+        assert_eq!(rt;
+            output.flush(),
+            Err(Failed),
+            "takes nothing: {takes_nothing}"
+        );
     }
     Ok(())
 }

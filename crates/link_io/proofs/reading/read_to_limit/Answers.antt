@@ -1,4 +1,4 @@
-use Rattle.std.proofs.Common.{◌≡◌, ℕ, ◌++◌, take, length, arith, length-append, length-take}
+use Rattle.std.proofs.Common.{◌≡◌, ◌++◌, take, length, arith, length-append, length-take}
 use Rattle.std.proofs.KnownBytes.{Consumes-trans}
 use Rattle.link_io.proofs.reading.read_to_limit.Goals as goal
 
