@@ -14,14 +14,14 @@ id_text id = encode_lower (to_be_bytes w32 id)
 unfoldable pub frames_line : Counts → List ℕ
 frames_line counts =
     codes "frames " ++ (decimal counts.valid ++ (codes " bad " ++ (decimal counts.bad ++ (codes " other " ++
-      (decimal counts.other ++ (codes " dropped " ++ decimal counts.dropped)))))) ++ 10 ∷ []
+    (decimal counts.other ++ (codes " dropped " ++ decimal counts.dropped)))))) ++ 10 ∷ []
 
 -- a call by its number, with its name, the kind of its method and its status
 unfoldable pub call_line : ℕ → CallName → List ℕ → List ℕ → List ℕ
 call_line number name kind status =
     codes "call " ++ (decimal number ++ (codes " " ++ (decimal name.channel ++ (codes " " ++
-      (id_text name.service ++ (codes " " ++ (id_text name.method ++ (codes " " ++ (decimal name.call ++
-      (codes " " ++ (kind ++ (codes " " ++ status)))))))))))) ++ 10 ∷ []
+    (id_text name.service ++ (codes " " ++ (id_text name.method ++ (codes " " ++ (decimal name.call ++
+    (codes " " ++ (kind ++ (codes " " ++ status)))))))))))) ++ 10 ∷ []
 
 -- a frame that was sent
 unfoldable pub out_line : List ℕ → List ℕ

@@ -7,7 +7,7 @@ ghost use Rattle.rpc_packet.specs.Message.{Message, lent_message};
 ghost use Rattle.pw_run.specs.BuiltForm.{IsEcho, frame_content};
 
 use crate::demo::{DEMO, ECHO};
-use crate::limits::{ADDRESS, LAST_CHANNEL, LARGEST_PAYLOAD};
+use crate::limits::{ADDRESS, LARGEST_PAYLOAD, LAST_CHANNEL};
 use hdlc_frame::{FLAG, UI_CONTROL, crc32};
 use rpc_packet::{PacketRef, of_spelling};
 

@@ -11,8 +11,16 @@ use std::alloc::{AllocError, Global};
 pub(crate) fn add_frames_line(text: &mut String, counts: Counts) -> Result<(), AllocError>
     ensures { OnOk result (string_bytes text.new ≡ string_bytes text.old ++ frames_line counts) }
 {
-    let Counts { valid, bad, other, dropped } = counts;
-    writeln!(text, "frames {valid} bad {bad} other {other} dropped {dropped}")
+    let Counts {
+        valid,
+        bad,
+        other,
+        dropped,
+    } = counts;
+    writeln!(
+        text,
+        "frames {valid} bad {bad} other {other} dropped {dropped}"
+    )
 }
 
 #[tactic(auto, unfolding(crate::specs::Lines::call_line))]
@@ -30,7 +38,10 @@ pub(crate) fn add_call_line(
     let service = hex::encode(alloc, name.service.to_be_bytes())?;
     let method = hex::encode(alloc, name.method.to_be_bytes())?;
     let call = name.call;
-    writeln!(text, "call {number} {channel} {service} {method} {call} {kind} {status}")
+    writeln!(
+        text,
+        "call {number} {channel} {service} {method} {call} {kind} {status}"
+    )
 }
 
 #[tactic(auto, unfolding(crate::specs::Lines::out_line))]

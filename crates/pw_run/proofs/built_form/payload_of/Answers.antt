@@ -12,7 +12,7 @@ returns-in_err-checked-clause-only c payload is =
 pub returns-clause-some : goal.returns-clause-some
 returns-clause-some c =
     IfSome_then c.behind_head.result c.behind_head.ensures.some
-      (λ payload is. c.in_ok-checked.ensures.some ∙ ap with_check_sequence is ∙ sym (ui_content_head payload.now))
+    (λ payload is. c.in_ok-checked.ensures.some ∙ ap with_check_sequence is ∙ sym (ui_content_head payload.now))
 
 pub returns-clause-only : goal.returns-clause-only
 returns-clause-only c payload is =

@@ -11,6 +11,6 @@ returns-in-len1 c =
     let text = c.as_str.ensures.value in
     let tells = Decides-at c.eq.result _ c.eq.ensures (bytes_eq-Decides c.as_str.result.now (codes "replay")) in
     Decides-like c.eq.result
-      (λ same. words ∙ ap (λ word. word ∷ []) (sym text ∙ same))
-      (λ same. text ∙ same_one _ _ (sym words ∙ same))
-      tells
+    (λ same. words ∙ ap (λ word. word ∷ []) (sym text ∙ same))
+    (λ same. text ∙ same_one _ _ (sym words ∙ same))
+    tells
