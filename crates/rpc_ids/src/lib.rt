@@ -4,7 +4,11 @@
 #![tactic(auto)]
 
 mod method;
+mod name_hash;
+mod registry;
 mod status;
 
 pub use method::{Kind, MethodRef, Role};
+pub use name_hash::hash_name;
+pub use registry::{AddRefused, Registry};
 pub use status::Status;
