@@ -1,5 +1,5 @@
 //! The methods that an endpoint knows.
-ghost use Rattle.std.specs.Prelude.{◌≡◌, ◌↔◌, [], ◌∷◌, ◌++◌, IsSome, IfOk, OnErr, None};
+ghost use Rattle.std.specs.Prelude.{◌≡◌, ℕ, ◌↔◌, [], ◌∷◌, ◌++◌, IsSome, IfOk, OnErr, None};
 ghost use Rattle.rpc_ids.specs.Names.{name_id};
 ghost use Rattle.rpc_ids.specs.Registry.{method_of, has_ids as ids_match};
 
@@ -45,6 +45,7 @@ impl Registry {
         }
     }
 
+    #[tactic(auto, using(crate::proofs::RegistryLemmas::others_are_found))]
     /// Adds the method `method` of the service `service`, by the ids of their names.
     pub fn add(
         &mut self,
@@ -56,6 +57,8 @@ impl Registry {
         ensures added { IfOk result (λ m. self.new ≡ self.old ++ m ∷ []) }
         ensures row { IfOk result (λ m. m ≡ record { service = name_id service.now; method = name_id method.now; kind = kind; ticks = ticks }) }
         ensures clash { (result ≡ Err AddRefused.Clash) ↔ IsSome (method_of self.old (name_id service.now) (name_id method.now)) }
+        ensures found { IfOk result (λ m. method_of self.new m.service m.method ≡ Some m) }
+        ensures others { (s t : ℕ) → IsSome (method_of self.old s t) → method_of self.new s t ≡ method_of self.old s t }
         ensures err { OnErr result (self.new ≡ self.old) }
     {
         let row = MethodRef {
@@ -68,8 +71,8 @@ impl Registry {
             return Err(AddRefused::Clash);
         }
         match self.methods.push(row) {
-            Ok(()) => Ok(row),
-            Err(_) => Err(AddRefused::Memory),
+            Ok(()) => return Ok(row),
+            Err(_) => return Err(AddRefused::Memory),
         }
     }
 
