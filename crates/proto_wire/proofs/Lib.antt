@@ -1,3 +1,4 @@
+pub mod EntryLaws
 pub mod FrontLaws
 pub mod OptionLemmas
 pub mod SpellingLaws

@@ -1,3 +1,5 @@
+pub mod Absent
+pub mod Entries
 pub mod Field
 pub mod Front
 pub mod Gives

@@ -1,5 +1,5 @@
 -- The fields of a message in order, each with its offset, up to the first offset where none can be read.
-use Rattle.std.specs.Prelude.{◌≡◌, ◌≢◌, ℕ, ◌+◌, ◌-◌, ◌*◌, List, [], ◌∷◌, ◌++◌, length, Option, Some, None}
+use Rattle.std.specs.Prelude.{◌≡◌, ◌≢◌, ℕ, ◌+◌, ◌-◌, ◌*◌, List, [], ◌∷◌, ◌++◌, length, map, Option, Some, None}
 use Rattle.std.proofs.Common.{zero, suc}
 use Rattle.proto_wire.specs.Field.{WireValue, WireField, IsField}
 use Rattle.proto_wire.specs.Front.{FieldFront, field_front}
@@ -13,6 +13,10 @@ pub record Placed : Type 0 where
 pub record Message : Type 0 where
   pub fields : List Placed
   pub fault : Option ℕ
+
+-- the fields without their offsets
+abbrev pub wire_fields : Message → List WireField
+wire_fields m = map (λ p. p.field) m.fields
 
 abbrev pub no_fields : Message
 no_fields = record { fields = []; fault = None }

@@ -53,11 +53,33 @@ fault_among declared (p ∷ ps) fault =
 abbrev pub fault_of : (ℕ → FieldType) → Message → Option ℕ
 fault_of declared m = fault_among declared m.fields m.fault
 
--- the last value of a number among these fields, or else the one before them
-abbrev pub last_after : Option WireValue → ℕ → List Placed → Option WireValue
-last_after before number [] = before
-last_after before number (p ∷ ps) = last_after (if p.field.number == number then Some p.field.value else before) number ps
+-- the number that a value stands for, whatever its width
+abbrev pub number_in : WireValue → ℕ
+number_in (Varint n) = n
+number_in (Fixed64 n) = n
+number_in (Bytes content) = 0
+number_in (Fixed32 n) = n
 
--- the last value of a number
-abbrev pub last_of : ℕ → List Placed → Option WireValue
-last_of number ps = last_after None number ps
+abbrev pub some_number_in : WireValue → Option ℕ
+some_number_in v = Some (number_in v)
+
+abbrev pub content_in : WireValue → List ℕ
+content_in (Varint n) = []
+content_in (Fixed64 n) = []
+content_in (Bytes content) = content
+content_in (Fixed32 n) = []
+
+-- what the last field of a number has, or `before` where there is none
+abbrev pub last_after : {X : Type 0} → (WireValue → X) → X → ℕ → List WireField → X
+last_after read before number [] = before
+last_after read before number (f ∷ fs) = last_after read (if f.number == number then read f.value else before) number fs
+
+-- of a repeated number the last field counts; without one the value is 0, absent or empty
+abbrev pub last_number : ℕ → List WireField → ℕ
+last_number number fs = last_after number_in 0 number fs
+
+abbrev pub last_option : ℕ → List WireField → Option ℕ
+last_option number fs = last_after some_number_in None number fs
+
+abbrev pub last_content : ℕ → List WireField → List ℕ
+last_content number fs = last_after content_in [] number fs

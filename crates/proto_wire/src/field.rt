@@ -1,5 +1,6 @@
 //! A field and its value.
 ghost use Rattle.std.specs.Prelude.{◌≡◌, option_map};
+ghost use Rattle.proto_wire.specs.Absent.{nonzero_varint as nonzero_varint_of, nonzero_fixed32 as nonzero_fixed32_of, nonempty_bytes as nonempty_bytes_of};
 ghost use Rattle.proto_wire.specs.Typed.{uint64_of, uint32_of, fixed32_of, bytes_of};
 ghost use Rattle.proto_wire.specs.Views.{wire_value};
 
@@ -24,6 +25,36 @@ pub struct Field<'a> {
 }
 
 impl<'a> Value<'a> {
+    /// The value of a varint field that is left out where it is 0.
+    pub fn nonzero_varint(number: u64) -> Option<Value<'a>>
+        ensures { option_map wire_value result ≡ nonzero_varint_of number }
+    {
+        if number == 0 {
+            return None;
+        }
+        Some(Value::Varint(number))
+    }
+
+    /// The value of a `fixed32` field that is left out where it is 0.
+    pub fn nonzero_fixed32(word: u32) -> Option<Value<'a>>
+        ensures { option_map wire_value result ≡ nonzero_fixed32_of word }
+    {
+        if word == 0 {
+            return None;
+        }
+        Some(Value::Fixed32(word))
+    }
+
+    /// The value of a `bytes` field that is left out where it is empty.
+    pub fn nonempty_bytes(content: &'a [u8]) -> Option<Value<'a>>
+        ensures { option_map wire_value result ≡ nonempty_bytes_of content.now }
+    {
+        if content.is_empty() {
+            return None;
+        }
+        Some(Value::Bytes(content))
+    }
+
     /// The value as a `uint64`, or `None` at another wire type.
     pub fn as_uint64(&self) -> Option<u64>
         ensures { result ≡ uint64_of (wire_value self.now) }

@@ -1,6 +1,7 @@
 //! The fields of a message, one after another.
 ghost use Rattle.std.specs.Prelude.{◌≡◌, false};
-ghost use Rattle.proto_wire.specs.Reading.{Reading};
+ghost use Rattle.proto_wire.specs.Message.{fields_of};
+ghost use Rattle.proto_wire.specs.Reading.{Reading, unread};
 
 use crate::field::Field;
 use crate::reader::read_field;
@@ -39,9 +40,11 @@ impl<'a> Model for Fields<'a> {
 }
 
 impl<'a> Fields<'a> {
+    #[tactic(auto, unfolding(crate::specs::Reading::unread))]
     /// The fields of the message in these bytes.
     pub fn new(bytes: &'a [u8]) -> Fields<'a>
-        ensures { result ≡ record { left = bytes.now; at = 0; failed = false } }
+        ensures start { result ≡ record { left = bytes.now; at = 0; failed = false } }
+        ensures unread { unread result ≡ fields_of bytes.now }
     {
         Fields {
             bytes,

@@ -5,9 +5,11 @@
 
 mod field;
 mod fields;
+mod laws;
 mod reader;
 mod writer;
 
 pub use field::{Field, Value};
 pub use fields::{Fields, Malformed};
-pub use writer::Writer;
+pub use laws::{bytes_are_read_in_one_way, written_field_is_read};
+pub use writer::{OptionalField, Writer, write_fields};

@@ -1,5 +1,6 @@
 //! How fields are written.
 ghost use Rattle.std.specs.Prelude.{◌≡◌, ◌≤◌, ◌++◌, ℕ, List, OnOk, OnErr};
+ghost use Rattle.proto_wire.specs.Entries.{AllNumbered, entries_of, entry_of, entry_text, present, fields_text};
 ghost use Rattle.proto_wire.specs.Field.{Varint, Bytes, Fixed32, wire_type as wire_type_of};
 ghost use Rattle.proto_wire.specs.Spelling.{field_text, value_text};
 ghost use Rattle.proto_wire.specs.Varint.{varint_text};
@@ -57,7 +58,6 @@ impl<'o> Writer<'o> {
         self.field(number, Value::Bytes(value))
     }
 
-    #[tactic(auto, unfolding(crate::specs::Spelling::field_text))]
     fn field(&mut self, number: u32, value: Value<'_>) -> Result<(), AllocError>
         requires high { number ≤ 536870911 }
         ensures ok { OnOk result (written self.new ≡ written self.old ++ field_text (record { number = number; value = wire_value value.entry })) }
@@ -65,14 +65,61 @@ impl<'o> Writer<'o> {
         ensures same_out { HasSameOut self.old self.new }
     {
         let before = self.out.len();
-        let tag = u64::from(number) * 8 + wire_type(&value);
-        match push_field(self.out, tag, value) {
+        match push_field(self.out, number, value) {
             Ok(()) => Ok(()),
             Err(error) => {
                 self.out.truncate(before);
                 Err(error)
             }
         }
+    }
+}
+
+/// A field of a message that is written where it has a value.
+#[derive(Clone, Copy, Debug, PartialEq, Eq)]
+pub struct OptionalField<'a> {
+    /// From 1 to 536,870,911.
+    pub number: u32,
+    pub value: Option<Value<'a>>,
+}
+
+/// Appends those fields that have a value, in their order. After an `Err` the bytes are as before.
+pub fn write_fields(out: &mut Vec<u8>, fields: &[OptionalField<'_>]) -> Result<(), AllocError>
+    requires numbers { AllNumbered (entries_of fields.now) }
+    ensures ok { OnOk result (out.new.items ≡ out.old.items ++ fields_text (present (entries_of fields.now))) }
+    ensures err { OnErr result (out.new.items ≡ out.old.items) }
+{
+    let before = out.len();
+    match push_fields(out, fields) {
+        Ok(()) => Ok(()),
+        Err(error) => {
+            out.truncate(before);
+            Err(error)
+        }
+    }
+}
+
+// Appends fields. After an `Err` a part of them may stand there.
+fn push_fields(out: &mut Vec<u8>, fields: &[OptionalField<'_>]) -> Result<(), AllocError>
+    requires { AllNumbered (entries_of fields.now) }
+    ensures ok { OnOk result (out.new.items ≡ out.old.items ++ fields_text (present (entries_of fields.now))) }
+    ensures begun { (part : List ℕ) × (out.new.items ≡ out.old.items ++ part) }
+{
+    for field in fields {
+        push_entry(out, field)?;
+    }
+    Ok(())
+}
+
+// Appends a field, if it has a value. After an `Err` a part of it may stand there.
+fn push_entry(out: &mut Vec<u8>, field: &OptionalField<'_>) -> Result<(), AllocError>
+    requires { field.now.number ≤ 536870911 }
+    ensures ok { OnOk result (out.new.items ≡ out.old.items ++ entry_text (entry_of field.now)) }
+    ensures begun { (part : List ℕ) × (out.new.items ≡ out.old.items ++ part) }
+{
+    match field.value {
+        Some(value) => push_field(out, field.number, value),
+        None => Ok(()),
     }
 }
 
@@ -102,11 +149,13 @@ fn push_varint(out: &mut Vec<u8>, value: u64) -> Result<(), AllocError>
 }
 
 // Appends a field. After an `Err` a part of it may stand there.
-fn push_field(out: &mut Vec<u8>, tag: u64, value: Value<'_>) -> Result<(), AllocError>
-    ensures ok { OnOk result (out.new.items ≡ out.old.items ++ (varint_text tag ++ value_text (wire_value value.entry))) }
+#[tactic(auto, unfolding(crate::specs::Spelling::field_text))]
+fn push_field(out: &mut Vec<u8>, number: u32, value: Value<'_>) -> Result<(), AllocError>
+    requires { number ≤ 536870911 }
+    ensures ok { OnOk result (out.new.items ≡ out.old.items ++ field_text (record { number = number; value = wire_value value.entry })) }
     ensures begun { (part : List ℕ) × (out.new.items ≡ out.old.items ++ part) }
 {
-    push_varint(out, tag)?;
+    push_varint(out, u64::from(number) * 8 + wire_type(&value))?;
     push_value(out, value)?;
     Ok(())
 }
