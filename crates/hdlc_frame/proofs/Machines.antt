@@ -524,3 +524,10 @@ take_within n m xs h = elim (cases_lt m (length xs)) [
       sym (take-append-le n (take m xs) (drop m xs) (omega (arith, length-take m xs))) ∙ ap (take n) (take-append-drop m xs)
   | inr w ↦ ap (take n) (take_all m xs w)
 ]
+
+-- a stream, a piece as far as it was read, and more of its rest
+pub more_taken :
+    (stream piece rest : List ℕ) (at n : ℕ) → rest ≡ drop at piece → (stream ++ take at piece) ++ take n rest ≡ stream ++ take (at + n) piece
+more_taken stream piece rest at n e =
+    append_assoc stream (take at piece) (take n rest) ∙ ap (λ l. stream ++ (take at piece ++ take n l)) e ∙
+    ap (λ l. stream ++ l) (sym (take-add at n piece))

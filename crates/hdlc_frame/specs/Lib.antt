@@ -4,5 +4,6 @@ pub mod Encoded
 pub mod Found
 pub mod Lent
 pub mod Machine
+pub mod Owned
 pub mod Pushed
 pub mod Segments
