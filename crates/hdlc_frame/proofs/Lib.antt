@@ -1,6 +1,8 @@
+pub mod Carried
 pub mod Contents
 pub mod Headers
 pub mod Machines
 pub mod Numbers
 pub mod Parting
+pub mod ReadBack
 pub mod Register

@@ -16,10 +16,11 @@ use Rattle.hdlc_frame.specs.declared.found.Bad.TheVariants.{Long}
 use Rattle.hdlc_frame.specs.Found.{Found, found, found_in, found_in_content, found_in_unescaped}
 use Rattle.hdlc_frame.specs.Found.Found.{fault}
 use Rattle.hdlc_frame.specs.Pushed.{closed_by, closed_found}
+use Rattle.hdlc_frame.specs.Laws.{ended}
 use Rattle.hdlc_frame.specs.Machine.{HasRead, HasReadIn, HasReadText, IsOrdinary, Moves, Reading, after_escape, after_run, begun, content_behind, escape_in, keeping, run_in}
 use Rattle.hdlc_frame.specs.Segments.{has_octets, is_flag, open_text}
 use Rattle.hdlc_frame.proofs.Contents.{neq-eqb, walk_cut, walk_end, walk_escape, walk_escaped, walk_itself, walk_twice}
-use Rattle.hdlc_frame.proofs.Parting.{NoFlag, ended, found_flag, found_text, open_text_flag, open_text_text}
+use Rattle.hdlc_frame.proofs.Parting.{NoFlag, found_flag, found_text, open_text_flag, open_text_text}
 
 abbrev with_phase : Reading → Phase → Reading
 with_phase r p = record r { phase = p }
