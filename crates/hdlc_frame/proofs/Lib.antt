@@ -1,5 +1,6 @@
 pub mod Carried
 pub mod Contents
+mod Examples
 pub mod Headers
 pub mod Machines
 pub mod Numbers

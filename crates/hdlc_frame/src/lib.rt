@@ -12,6 +12,8 @@ pub mod laws;
 mod octets;
 mod phase;
 mod pieces;
+#[cfg(test)]
+mod tests;
 mod text;
 
 pub use crc::crc32;
