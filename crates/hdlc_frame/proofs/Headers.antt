@@ -23,12 +23,12 @@ pub text_of_none : text_of [] ≡ []
 unfolding text_of
 text_of_none = refl
 
-groups_more :
+pub groups_more :
     (n address : ℕ) → 128 ≤ address → address_groups (suc n) address ≡ (address % 128 * 2) ∷ address_groups n (address / 128)
 unfolding address_groups
 groups_more n address h = rw (le-ltb address 128 h) refl
 
-groups_last : (n address : ℕ) → address < 128 → address_groups (suc n) address ≡ (address * 2 + 1) ∷ []
+pub groups_last : (n address : ℕ) → address < 128 → address_groups (suc n) address ≡ (address * 2 + 1) ∷ []
 unfolding address_groups
 groups_last n address h = rw (lt-ltb address 128 h) refl
 

@@ -1,3 +1,9 @@
-mod Contents
-mod Headers
-mod Register
+pub mod Carried
+pub mod Contents
+mod Examples
+pub mod Headers
+pub mod Machines
+pub mod Numbers
+pub mod Parting
+pub mod ReadBack
+pub mod Register
