@@ -5,7 +5,7 @@
 
 mod call_name;
 mod canonical;
-mod field;
+mod field_number;
 mod owned;
 mod packet_ref;
 mod packet_type;
