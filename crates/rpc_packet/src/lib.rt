@@ -9,6 +9,8 @@ mod field_number;
 mod owned;
 mod packet_ref;
 mod packet_type;
+#[cfg(test)]
+mod tests;
 
 pub use call_name::CallName;
 pub use canonical::of_spelling;

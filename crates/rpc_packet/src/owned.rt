@@ -10,7 +10,7 @@ use proto_wire::{OptionalField, Value, write_fields};
 use std::alloc::AllocError;
 
 /// A packet that owns its payload, to be kept or sent.
-#[derive(Debug, PartialEq, Eq, Drop)]
+#[derive(Clone, Debug, PartialEq, Eq, Drop)]
 pub struct Packet {
     pub ptype: PacketType,
     pub name: CallName,
