@@ -65,13 +65,13 @@ impl<'a> PacketRef<'a> {
         ensures only { (t : PacketType) → Hears role (lent_message self.now) t → result ≡ Some t }
         ensures value { result ≡ heard_as role (lent_message self.now) }
     {
-        if self.name.channel == 0 {
-            return None;
-        }
-        if self.name.service == 0 {
-            return None;
-        }
-        if self.name.method == 0 {
+        let CallName {
+            channel,
+            service,
+            method,
+            ..
+        } = self.name;
+        if channel == 0 || service == 0 || method == 0 {
             return None;
         }
         let ptype = PacketType::of(self.ptype)?;
