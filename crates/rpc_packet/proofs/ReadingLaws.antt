@@ -1,5 +1,5 @@
 -- What the computed answer of a reader says of the bytes.
-use Rattle.std.proofs.Common.{◌≡◌, ℕ, List, Option, Some, None, Result, Ok, Err, IfOk, IfErr, refl, sym, ap, ◌∙◌}
+use Rattle.std.proofs.Common.{◌≡◌, ℕ, List, Option, Some, None, Result, Ok, Err, IfOk, IfErr, refl}
 use Rattle.proto_wire.specs.declared.fields.Malformed.{Malformed}
 use Rattle.proto_wire.specs.Message.{wire_fields, fields_of}
 use Rattle.proto_wire.specs.Typed.{fault_of}

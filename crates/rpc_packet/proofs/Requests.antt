@@ -1,20 +1,19 @@
 -- A REQUEST that is read is spelled so, and what is spelled so is read.
-use Rattle.std.proofs.Common.{◌≡◌, ℕ, ◌+◌, ◌*◌, ◌^◌, ◌<◌, ◌≤◌, Bool, true, false, cond, eqb, List, [], ◌∷◌, ◌++◌, length, get_or, Option, Some, None, refl, sym, ap, subst, ◌∙◌, append_assoc, arith, inl, inr}
+use Rattle.std.proofs.Common.{◌≡◌, ℕ, ◌^◌, ◌<◌, ◌≤◌, eqb, List, [], ◌++◌, length, Option, Some, None, refl, sym, ap, subst, ◌∙◌, arith, inl, inr}
 use Rattle.std.specs.Prelude.{IfSome, option_map}
-use Rattle.std.proofs.lemmas.Bool.{cases_eq, eqb-true, eqb-false, ne_eqb, eq-eqb}
+use Rattle.std.proofs.lemmas.Bool.{cases_eq, eqb-true, eqb-false, ne_eqb}
 use Rattle.std.proofs.lemmas.List.{append-nil, nil_from_length, length-append}
 use Rattle.std.proofs.lemmas.Option.{same_Some}
-use Rattle.rpc_packet.specs.declared.call_name.CallName.{CallName}
 use Rattle.rpc_packet.specs.declared.packet_ref.PacketRef.{PacketRef}
 use Rattle.proto_wire.specs.Absent.{nonzero_varint, nonzero_fixed32, nonempty_bytes}
-use Rattle.proto_wire.specs.Entries.{with_entry, present, fields_text}
+use Rattle.proto_wire.specs.Entries.{with_entry, fields_text}
 use Rattle.proto_wire.specs.Field.{WireField}
 use Rattle.proto_wire.specs.Spelling.{field_text}
 use Rattle.proto_wire.specs.Varint.{groups_of, varint_text}
 use Rattle.rpc_packet.specs.Spelling.{packet_entries, spelling_of}
 use Rattle.rpc_packet.specs.Message.{Message, lent_message}
-use Rattle.rpc_packet.specs.Canonical.{◌>>=◌, IsRequest, uint32_at, word_at, bytes_at, request_at}
-use Rattle.rpc_packet.proofs.Fronts.{IsBytes, number_unless_zero, word_unless_zero, bytes_unless_empty, then_some, unless_some, when_some, Takes, Takes-then, IsTag, NotAt, uint32_takes, uint32_again, word_takes, word_again, bytes_takes, bytes_again, number_other}
+use Rattle.rpc_packet.specs.Canonical.{IsRequest, uint32_at, word_at, bytes_at, request_at}
+use Rattle.rpc_packet.proofs.Fronts.{IsBytes, number_unless_zero, word_unless_zero, bytes_unless_empty, then_some, unless_some, when_some, Takes-then, IsTag, NotAt, uint32_takes, uint32_again, word_takes, word_again, bytes_takes, bytes_again, number_other}
 
 channel_tag : IsTag 16 0x10
 unfolding varint_text groups_of

@@ -1,20 +1,19 @@
 -- What is written is read as itself.
-use Rattle.std.proofs.Common.{◌≡◌, ℕ, ◌^◌, ◌<◌, ◌≤◌, true, false, cond, eqb, List, [], ◌∷◌, ◌++◌, length, Option, Some, None, IfSome, Ok, refl, sym, ap, ◌∙◌, arith, inl, inr}
+use Rattle.std.proofs.Common.{◌≡◌, ℕ, ◌^◌, ◌<◌, true, List, [], length, Option, IfSome, Ok, refl, sym, arith, inl, inr}
 use Rattle.std.proofs.lemmas.Bool.{cases_eq, lt-ltb, ne_eqb}
 use Rattle.std.proofs.lemmas.List.{nil_from_length}
 use Rattle.proto_wire.specs.Absent.{nonzero_varint, nonzero_fixed32, nonempty_bytes}
-use Rattle.proto_wire.specs.Entries.{present, fields_text, IsFitting, AllFitting}
+use Rattle.proto_wire.specs.Entries.{present, AllFitting}
 use Rattle.proto_wire.specs.Field.{WireValue}
-use Rattle.proto_wire.specs.Message.{wire_fields, fields_of}
 use Rattle.proto_wire.specs.Spelling.{FitsWire}
-use Rattle.proto_wire.specs.Typed.{FieldType, Uint64, Uint32, FourBytes, SomeBytes, may_have, number_in, content_in, fault_of}
+use Rattle.proto_wire.specs.Typed.{FieldType, Uint64, Uint32, FourBytes, SomeBytes, may_have, number_in, content_in}
 use Rattle.proto_wire.proofs.EntryLaws.{written_fields, written_fault, last_after-present, value_or}
 use Rattle.rpc_packet.specs.declared.packet_type.PacketType.{PacketType}
 use Rattle.rpc_packet.specs.declared.packet_type.PacketType.TheVariants.{Request, Response, ClientStream, ClientError, ServerError, ServerStream, Completion}
 use Rattle.rpc_packet.specs.Message.{Message}
 use Rattle.rpc_packet.specs.PacketType.{type_number}
 use Rattle.rpc_packet.specs.Table.{packet_fields, message_in}
-use Rattle.rpc_packet.specs.Reading.{unless_fault, packet_of}
+use Rattle.rpc_packet.specs.Reading.{packet_of}
 use Rattle.rpc_packet.specs.Spelling.{packet_entries, spelling_of, IsWithinLimits}
 
 -- a value that may be left out can be written, and a field of this type may have it

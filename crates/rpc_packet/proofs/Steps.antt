@@ -1,5 +1,5 @@
 -- The steps of reading a packet field by field.
-use Rattle.std.proofs.Common.{◌≡◌, ℕ, Bool, true, false, List, [], ◌∷◌, ◌⊎◌, Option, Some, None, Result, Ok, Err, refl, sym, ap, ◌∙◌, subst}
+use Rattle.std.proofs.Common.{◌≡◌, ℕ, true, false, List, [], ◌⊎◌, Some, None, Result, Ok, Err, subst}
 use Rattle.proto_wire.specs.declared.field.Field.{Field}
 use Rattle.proto_wire.specs.declared.fields.Malformed.{Malformed}
 use Rattle.proto_wire.specs.Field.{WireField}
@@ -10,7 +10,7 @@ use Rattle.proto_wire.specs.Gives.{GivesField, GivesFault, Gives}
 use Rattle.proto_wire.proofs.UnreadLaws.{unread_field, unread_fault, unread_end, unread_start}
 use Rattle.proto_wire.specs.Views.{wire_field}
 use Rattle.rpc_packet.specs.Message.{Message}
-use Rattle.rpc_packet.specs.Reading.{packet_of, with_field, then_fields, read_on, nothing_said}
+use Rattle.rpc_packet.specs.Reading.{packet_of, with_field, read_on, nothing_said}
 use Rattle.rpc_packet.proofs.Tables.{reads_all}
 
 -- with these fields still to come, what was said so far leads to this answer

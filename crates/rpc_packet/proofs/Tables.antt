@@ -1,14 +1,14 @@
 -- Reading field by field gives what all the fields say.
-use Rattle.std.proofs.Common.{◌≡◌, ℕ, ◌^◌, Bool, true, false, cond, eqb, ltb, List, [], ◌∷◌, ◌++◌, Option, Some, None, Result, Ok, Err, refl, subst, append_assoc, inl, inr}
+use Rattle.std.proofs.Common.{◌≡◌, ℕ, ◌^◌, Bool, true, false, cond, eqb, ltb, List, [], ◌∷◌, ◌++◌, Option, Some, None, refl, append_assoc, inl, inr}
 use Rattle.std.specs.Prelude.{map, option_map, is_some}
-use Rattle.std.proofs.lemmas.Bool.{cases_eq, cases_Bool, eq-eqb, ne_eqb}
+use Rattle.std.proofs.lemmas.Bool.{cases_eq, cases_Bool, ne_eqb}
 use Rattle.std.proofs.lemmas.List.{append-nil}
 use Rattle.proto_wire.specs.Field.{WireValue, Varint, Fixed64, Bytes, Fixed32, WireField}
 use Rattle.proto_wire.specs.Message.{Placed}
 use Rattle.proto_wire.specs.Typed.{uint64_of, uint32_of, fixed32_of, bytes_of, may_have, fault_among, number_in, content_in, last_after}
 use Rattle.rpc_packet.specs.Message.{Message}
 use Rattle.rpc_packet.specs.Table.{packet_fields, message_in}
-use Rattle.rpc_packet.specs.Reading.{unless_fault, with_field, then_fields, read_on, nothing_said}
+use Rattle.rpc_packet.specs.Reading.{unless_fault, with_field, read_on, nothing_said}
 
 last_after-more : {X : Type 0} (view : WireValue → X) (before : X) (number : ℕ) (fields : List WireField) (f : WireField) → last_after view before number (fields ++ f ∷ []) ≡ cond (eqb f.number number) (view f.value) (last_after view before number fields)
 last_after-more view before number [] f = refl

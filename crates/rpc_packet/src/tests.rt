@@ -5,19 +5,24 @@ use rpc_ids::Role;
 
 // Packets of `demo.Demo`'s `Echo`, with the payload `abc`, on channel 1.
 const ECHO: u32 = 0x8B47_0EE9;
+
 const DEMO: u32 = 0x70F4_5CFB;
+
 const REQUEST_1: [u8; 19] = [
     0x10, 0x01, 0x1D, 0xFB, 0x5C, 0xF4, 0x70, 0x25, 0xE9, 0x0E, 0x47, 0x8B, 0x2A, 0x03, 0x61, 0x62,
     0x63, 0x38, 0x01,
 ];
+
 const RESPONSE_1: [u8; 21] = [
     0x08, 0x01, 0x10, 0x01, 0x1D, 0xFB, 0x5C, 0xF4, 0x70, 0x25, 0xE9, 0x0E, 0x47, 0x8B, 0x2A, 0x03,
     0x61, 0x62, 0x63, 0x38, 0x01,
 ];
+
 const REQUEST_2: [u8; 19] = [
     0x10, 0x01, 0x1D, 0xFB, 0x5C, 0xF4, 0x70, 0x25, 0xE9, 0x0E, 0x47, 0x8B, 0x2A, 0x03, 0x61, 0x62,
     0x63, 0x38, 0x02,
 ];
+
 const RESPONSE_2: [u8; 21] = [
     0x08, 0x01, 0x10, 0x01, 0x1D, 0xFB, 0x5C, 0xF4, 0x70, 0x25, 0xE9, 0x0E, 0x47, 0x8B, 0x2A, 0x03,
     0x61, 0x62, 0x63, 0x38, 0x02,
@@ -127,7 +132,10 @@ fn reads_or_refuses_single_fields(rt: HostRuntime) {
         (b"\x30\x80\x80\x80\x80\x10", Err(Malformed { at: 0 })),
         (b"\x38\x80\x80\x80\x80\x10", Err(Malformed { at: 0 })),
         // any number is a type, in whatever spelling
-        (b"\x08\x80\x80\x80\x80\x10", Ok(packet(4_294_967_296, none, b"", 0))),
+        (
+            b"\x08\x80\x80\x80\x80\x10",
+            Ok(packet(4_294_967_296, none, b"", 0)),
+        ),
         (b"\x08\x83\x80\x00", Ok(packet(3, none, b"", 0))),
         // known fields of another wire type
         (b"\x0D\x01\x00\x00\x00", Err(Malformed { at: 0 })),
@@ -138,8 +146,14 @@ fn reads_or_refuses_single_fields(rt: HostRuntime) {
         (b"\x38\x02\x32\x01\x00", Err(Malformed { at: 2 })),
         (b"\x38\x02\x3D\x00\x00\x00\x00", Err(Malformed { at: 2 })),
         // of a repeated field the last counts; unknown fields are skipped, groups are not
-        (b"\x2A\x01a\x38\x01\x2A\x02bc\x38\x02", Ok(packet(0, second, b"bc", 0))),
-        (b"\x4D\x00\x00\x00\x00\x38\x02\x41\x00\x00\x00\x00\x00\x00\x00\x00", Ok(packet(0, second, b"", 0))),
+        (
+            b"\x2A\x01a\x38\x01\x2A\x02bc\x38\x02",
+            Ok(packet(0, second, b"bc", 0)),
+        ),
+        (
+            b"\x4D\x00\x00\x00\x00\x38\x02\x41\x00\x00\x00\x00\x00\x00\x00\x00",
+            Ok(packet(0, second, b"", 0)),
+        ),
         (b"\x38\x02\x7B\x7C", Err(Malformed { at: 2 })),
         // the first fault in the order of the bytes
         (b"\x38\x02\x18\x01\x7B", Err(Malformed { at: 2 })),
@@ -170,8 +184,14 @@ fn hears_the_types_of_its_role(rt: HostRuntime) {
         assert_eq!(rt; heard.hear(Role::Client), client);
         let whole = name(1, 4_294_967_295);
         for nameless in [
-            CallName { channel: 0, ..whole },
-            CallName { service: 0, ..whole },
+            CallName {
+                channel: 0,
+                ..whole
+            },
+            CallName {
+                service: 0,
+                ..whole
+            },
             CallName { method: 0, ..whole },
         ] {
             let dropped = packet(ptype, nameless, b"", 0);

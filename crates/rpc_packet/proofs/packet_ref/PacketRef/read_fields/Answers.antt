@@ -1,4 +1,4 @@
-use Rattle.std.proofs.Common.{◌≡◌, sym}
+use Rattle.std.proofs.Common.{sym}
 use Rattle.std.proofs.lemmas.Result.{err_from_is_err_and}
 use Rattle.rpc_packet.proofs.Steps.{starts, ends, fails, refuses, goes_on, given_field, given_fault}
 use Rattle.rpc_packet.proofs.packet_ref.PacketRef.read_fields.Goals as goal
