@@ -1,14 +1,15 @@
 -- A chunk that was written is read as itself.
-use Rattle.std.proofs.Common.{◌≡◌, ℕ, ◌<◌, ◌≤◌, ◌^◌, Bool, true, false, cond, eqb, List, [], ◌∷◌, length, Option, Some, None, option_map, IfSome, Result, Ok, Err, refl, sym, ap, ◌∙◌, subst, arith, lt-ltb, inl, inr, ◌⊎◌, eq-eqb, lit≤}
+use Rattle.std.proofs.Common.{◌≡◌, ℕ, ◌<◌, ◌≤◌, ◌^◌, true, false, eqb, List, [], ◌∷◌, length, Option, Some, None, option_map, IfSome, Ok, refl, sym, ap, ◌∙◌, arith, lt-ltb, inl, inr, ◌⊎◌, lit≤}
 use Rattle.std.proofs.lemmas.Bool.Decides.{eqb_tells}
 use Rattle.proto_wire.specs.Absent.{nonzero_varint, nonempty_bytes}
-use Rattle.proto_wire.specs.Entries.{Entry, IsFitting, AllFitting, present, fields_text}
-use Rattle.proto_wire.specs.Field.{WireValue, Varint, Bytes, WireField}
+use Rattle.proto_wire.specs.Entries.{IsFitting, AllFitting, present, fields_text}
+use Rattle.proto_wire.specs.Field.{WireValue, Varint, Bytes}
 use Rattle.proto_wire.specs.Message.{fields_of, wire_fields}
 use Rattle.proto_wire.specs.Spelling.{FitsWire}
-use Rattle.proto_wire.specs.Typed.{FieldType, Uint64, Uint32, SomeBytes, may_have, fault_of, number_in, some_number_in, content_in, last_after}
+use Rattle.proto_wire.specs.Typed.{Uint64, Uint32, SomeBytes, may_have, number_in, some_number_in, content_in}
 use Rattle.proto_wire.proofs.EntryLaws.{written_fields, written_fault, last_after-present, value_or}
-use Rattle.transfer_chunk.specs.Chunk.{Chunk, chunk_of, chunk_after, read_after, unless_fault, declared, no_chunk}
+use Rattle.transfer_chunk.specs.Chunk.{Chunk, chunk_after, declared, no_chunk}
+use Rattle.transfer_chunk.specs.Reading.{chunk_of, unless_fault}
 use Rattle.transfer_chunk.specs.ChunkText.{number_entry, kept_entry, data_entry, chunk_entries, chunk_text, HasWidths}
 
 again_by : (n : ℕ) → ((eqb n 0 ≡ true) × (n ≡ 0)) ⊎ ((eqb n 0 ≡ false) × (n ≡ 0 → ⊥)) → value_or number_in 0 (nonzero_varint n) ≡ n

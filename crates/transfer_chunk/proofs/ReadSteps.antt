@@ -1,15 +1,16 @@
 -- The steps of reading a chunk, field by field.
-use Rattle.std.proofs.Common.{◌≡◌, ℕ, Bool, true, false, cond, List, [], ◌∷◌, ◌⊎◌, Option, Some, None, Result, Ok, Err, refl, sym, ap, ◌∙◌, subst}
+use Rattle.std.proofs.Common.{◌≡◌, ℕ, Bool, true, false, cond, List, [], ◌∷◌, ◌⊎◌, Some, None, Result, Ok, Err, refl, sym, ap, ◌∙◌, subst}
 use Rattle.proto_wire.specs.declared.field.Field.{Field}
 use Rattle.proto_wire.specs.declared.fields.Malformed.{Malformed}
 use Rattle.proto_wire.specs.Field.{WireField}
-use Rattle.proto_wire.specs.Message.{Message, no_fields, faulty, fields_of, with_field, wire_fields}
+use Rattle.proto_wire.specs.Message.{Message, fields_of, with_field}
 use Rattle.proto_wire.specs.Reading.{Reading, unread}
 use Rattle.proto_wire.specs.Gives.{GivesField, GivesFault, Gives}
-use Rattle.proto_wire.specs.Typed.{may_have, fault_of}
+use Rattle.proto_wire.specs.Typed.{may_have}
 use Rattle.proto_wire.specs.Views.{wire_field}
-use Rattle.proto_wire.proofs.UnreadLaws.{unread_field, unread_fault, unread_end, unread_start}
-use Rattle.transfer_chunk.specs.Chunk.{Chunk, chunk_of, chunk_after, read_after, taken, declared, no_chunk}
+use Rattle.proto_wire.proofs.UnreadLaws.{unread_field, unread_fault, unread_end}
+use Rattle.transfer_chunk.specs.Chunk.{Chunk, chunk_after, taken, declared, no_chunk}
+use Rattle.transfer_chunk.specs.Reading.{chunk_of, read_after}
 
 -- with these fields still to come, the chunk so far leads to this answer
 abbrev pub LeadsTo : Message → Chunk → Result Chunk ℕ → Type 0

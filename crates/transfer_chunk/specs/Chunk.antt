@@ -1,8 +1,7 @@
 -- The chunk that fields make.
-use Rattle.std.specs.Prelude.{ℕ, ◌==◌, if◌then◌else◌, List, [], ◌∷◌, Option, Some, None, Result, Ok, Err, slice_get, unwrap_or}
+use Rattle.std.specs.Prelude.{ℕ, if◌then◌else◌, List, [], ◌∷◌, Option, Some, None, slice_get, unwrap_or}
 use Rattle.proto_wire.specs.Field.{WireField}
-use Rattle.proto_wire.specs.Message.{Message, fields_of, wire_fields}
-use Rattle.proto_wire.specs.Typed.{FieldType, Undeclared, Uint64, Uint32, SomeBytes, may_have, fault_of, number_in, some_number_in, content_in, last_after}
+use Rattle.proto_wire.specs.Typed.{FieldType, Undeclared, Uint64, Uint32, SomeBytes, may_have, number_in, some_number_in, content_in, last_after}
 use Rattle.transfer_chunk.specs.declared.chunk.ChunkRef.{ChunkRef}
 
 -- a chunk's fields as plain values
@@ -95,16 +94,3 @@ no_chunk = record {
   desired = None;
   initial = 0;
 }
-
--- this chunk, unless a field was at fault
-abbrev pub unless_fault : Option ℕ → Chunk → Result Chunk ℕ
-unless_fault None c = Ok c
-unless_fault (Some at) c = Err at
-
--- the chunk after what was read of a message, or the offset of the first field at fault
-abbrev pub read_after : Chunk → Message → Result Chunk ℕ
-read_after c m = unless_fault (fault_of declared m) (chunk_after c (wire_fields m))
-
--- the chunk that these bytes spell, or the offset of the first field at fault
-unfoldable pub chunk_of : List ℕ → Result Chunk ℕ
-chunk_of bytes = read_after no_chunk (fields_of bytes)

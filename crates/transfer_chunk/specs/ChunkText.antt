@@ -2,7 +2,7 @@
 use Rattle.std.specs.Prelude.{ℕ, ◌<◌, ◌^◌, List, [], ◌∷◌, Option, option_map, IfSome, length}
 use Rattle.proto_wire.specs.Absent.{nonzero_varint, nonempty_bytes}
 use Rattle.proto_wire.specs.Entries.{Entry, present, fields_text}
-use Rattle.proto_wire.specs.Field.{WireValue, Varint}
+use Rattle.proto_wire.specs.Field.{Varint}
 use Rattle.transfer_chunk.specs.Chunk.{Chunk}
 
 -- a number that is left out where it is 0, one that is written wherever it is there, and data that is left out where it is empty

@@ -1,3 +1,4 @@
 pub mod Chunk
 pub mod ChunkText
 pub mod ChunkTypes
+pub mod Reading

@@ -1,10 +1,11 @@
 //! A chunk and its fields.
-ghost use Rattle.std.specs.Prelude.{◌≡◌, ◌++◌, option_map, IfOk, IfErr, OnOk, OnErr, Ok, Err};
+ghost use Rattle.std.specs.Prelude.{◌≡◌, ◌++◌, option_map, IfOk, IfErr, OnOk, OnErr};
 ghost use Rattle.proto_wire.specs.Entries.{entries_of, entry_of};
 ghost use Rattle.proto_wire.specs.Views.{wire_field};
 ghost use Rattle.transfer_chunk.specs.ChunkText.{chunk_entries, chunk_text, kept_entry, number_entry};
 ghost use Rattle.transfer_chunk.specs.ChunkTypes.{type_of};
-ghost use Rattle.transfer_chunk.specs.Chunk.{chunk_of, lent_chunk, no_chunk, taken};
+ghost use Rattle.transfer_chunk.specs.Chunk.{Chunk, lent_chunk, no_chunk, taken};
+ghost use Rattle.transfer_chunk.specs.Reading.{IsChunk, IsFaultAt, chunk_of, seen};
 
 use crate::chunk_type::ChunkType;
 use proto_wire::{Field, Fields, Malformed, OptionalField, Value, write_fields};
@@ -54,8 +55,17 @@ impl<'a> ChunkRef<'a> {
     /// `Malformed` tells the offset of the first field that can't be read, that has another wire type than a chunk
     /// declares, or that is a `uint32` of 2^32 or more.
     pub fn read(bytes: &'a [u8]) -> Result<ChunkRef<'a>, Malformed>
-        ensures chunk { IfOk result (λ c. chunk_of bytes.now ≡ Ok (lent_chunk c)) }
-        ensures malformed { IfErr result (λ e. chunk_of bytes.now ≡ Err e.at) }
+        ensures chunk { IfOk result (λ c. IsChunk bytes.now (lent_chunk c)) }
+        ensures only { (c : Chunk) → IsChunk bytes.now c → seen result ≡ Ok c }
+        ensures fault { IfErr result (λ e. IsFaultAt bytes.now e.at) }
+        ensures value { seen result ≡ chunk_of bytes.now }
+    {
+        ChunkRef::read_fields(bytes)
+    }
+
+    // The answer of `read`, field by field.
+    fn read_fields(bytes: &'a [u8]) -> Result<ChunkRef<'a>, Malformed>
+        ensures { seen result ≡ chunk_of bytes.now }
     {
         let mut fields = Fields::new(bytes);
         let mut chunk = ChunkRef::empty();

@@ -1,6 +1,7 @@
 //! What holds of reading and writing together.
 ghost use Rattle.std.specs.Prelude.{◌≡◌, Ok};
-ghost use Rattle.transfer_chunk.specs.Chunk.{Chunk, chunk_of};
+ghost use Rattle.transfer_chunk.specs.Chunk.{Chunk};
+ghost use Rattle.transfer_chunk.specs.Reading.{chunk_of};
 ghost use Rattle.transfer_chunk.specs.ChunkText.{chunk_text, HasWidths};
 
 /// A chunk that was written is read as itself.

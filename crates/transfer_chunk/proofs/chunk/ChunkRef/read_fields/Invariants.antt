@@ -1,9 +1,10 @@
-use Rattle.std.proofs.Common.{◌≡◌, ◌+◌, length}
+use Rattle.std.proofs.Common.{◌+◌, length}
 use Rattle.std.specs.Prelude.{if◌then◌else◌}
 use Rattle.proto_wire.specs.Reading.{unread}
-use Rattle.transfer_chunk.specs.Chunk.{Chunk, chunk_of}
+use Rattle.transfer_chunk.specs.Chunk.{Chunk}
+use Rattle.transfer_chunk.specs.Reading.{chunk_of}
 use Rattle.transfer_chunk.proofs.ReadSteps.{LeadsTo}
-use Rattle.transfer_chunk.proofs.chunk.ChunkRef.read.Given as goal
+use Rattle.transfer_chunk.proofs.chunk.ChunkRef.read_fields.Given as goal
 
 -- the chunk so far, with the fields to come, is the whole
 abbrev pub invariant-fields : goal.invariant-fields
