@@ -20,9 +20,9 @@ pub Stand-take :
     Stand decoder tally (stream ++ take (done + count) piece)
 Stand-take decoder tally stream piece done count stand =
     let parts : take (done + count) piece ≡ take done piece ++ take count (take (length piece - done) (drop done piece)) =
-          take-add done count piece ∙ ap (λ rest. take done piece ++ take count rest) (sym (take_rest piece done)) in
+    take-add done count piece ∙ ap (λ rest. take done piece ++ take count rest) (sym (take_rest piece done)) in
     let same : (stream ++ take done piece) ++ take count (take (length piece - done) (drop done piece)) ≡ stream ++ take (done + count) piece =
-          append_assoc stream (take done piece) (take count (take (length piece - done) (drop done piece))) ∙ ap (λ more. stream ++ more) (sym parts) in
+    append_assoc stream (take done piece) (take count (take (length piece - done) (drop done piece))) ∙ ap (λ more. stream ++ more) (sym parts) in
     subst (λ read. Stand decoder tally read) same stand
 
 -- nothing is found in an empty stream

@@ -38,7 +38,7 @@ heard_of-frame : (found : List Found) (f : FrameParts) → heard_of (found ++ fr
 unfolding heard_of
 heard_of-frame found f =
     ap (flat_map heard_in_frame) (frames_of-frame found f) ∙ flat_map-append heard_in_frame (frames_of found) (f ∷ []) ∙
-      ap (λ more. flat_map heard_in_frame (frames_of found) ++ more) (append-nil (heard_in_frame f))
+    ap (λ more. flat_map heard_in_frame (frames_of found) ++ more) (append-nil (heard_in_frame f))
 
 call_lines-append : (n : ℕ) (calls more : List CallEnd) → call_lines n (calls ++ more) ≡ call_lines n calls ++ call_lines (n + length calls) more
 call_lines-append n [] more = ap (λ k. call_lines k more) (omega arith)
@@ -46,7 +46,7 @@ call_lines-append n (call ∷ calls) more =
     let rest = call_lines-append (n + 1) calls more in
     let number : n + 1 + length calls ≡ n + length (call ∷ calls) = omega arith in
     ap (λ lines. call_line n call ++ lines) (rest ∙ ap (λ k. call_lines (n + 1) calls ++ call_lines k more) number) ∙
-      sym (append_assoc (call_line n call) (call_lines (n + 1) calls) (call_lines (n + length (call ∷ calls)) more))
+    sym (append_assoc (call_line n call) (call_lines (n + 1) calls) (call_lines (n + length (call ∷ calls)) more))
 
 count_more : {X : Type 0} (p : X → Bool) (xs : List X) (x : X) → count_by p (xs ++ x ∷ []) ≡ count_by p xs + cond (p x) 1 0
 count_more p xs x = sum_by-append (λ y. cond (p y) 1 0) xs (x ∷ []) ∙ omega arith
@@ -62,7 +62,7 @@ unfolding counts_of
 counts_of-fault found bad =
     let frames = frames_of-fault found bad in
     same_counts _ _ _ _ _ _ _ _ (ap length frames) (ap length (faults-fault found bad) ∙ length_more (flat_map faults_in found) bad)
-      (ap (count_by is_other) frames) (ap (count_by is_dropped) frames)
+    (ap (count_by is_other) frames) (ap (count_by is_dropped) frames)
 
 pub counts_of-frame :
     (found : List Found) (f : FrameParts) → counts_of (found ++ frame f ∷ []) ≡
@@ -75,8 +75,8 @@ unfolding counts_of
 counts_of-frame found f =
     let frames = frames_of-frame found f in
     same_counts _ _ _ _ _ _ _ _ (ap length frames ∙ length_more (frames_of found) f) (ap length (faults-frame found f))
-      (ap (count_by is_other) frames ∙ count_more is_other (frames_of found) f)
-      (ap (count_by is_dropped) frames ∙ count_more is_dropped (frames_of found) f)
+    (ap (count_by is_other) frames ∙ count_more is_other (frames_of found) f)
+    (ap (count_by is_dropped) frames ∙ count_more is_dropped (frames_of found) f)
 
 -- one more fault
 pub tallies-fault :
@@ -112,20 +112,20 @@ tallies-frame old new found f heard told is counts calls lines outs unbuilt =
     let all_sent : flat_map sent_for (heard_of (found ++ frame f ∷ [])) ≡ flat_map sent_for (heard_of found) ++ flat_map sent_for heard = ap (flat_map sent_for) more ∙ flat_map-append sent_for (heard_of found) heard in
     record {
       counts = counts ∙ ap (λ (c : Counts). record c {
-          valid = c.valid + 1;
-          other = c.other + cond (is_other f) 1 0;
-          dropped = c.dropped + cond (is_dropped f) 1 0;
-        }) told.counts ∙ sym (counts_of-frame found f);
+        valid = c.valid + 1;
+        other = c.other + cond (is_other f) 1 0;
+        dropped = c.dropped + cond (is_dropped f) 1 0;
+      }) told.counts ∙ sym (counts_of-frame found f);
       calls = calls ∙ ap (λ n. n + length (flat_map calls_of heard)) told.calls ∙ sym (ap length all_calls ∙ length-append (flat_map calls_of (heard_of found)) (flat_map calls_of heard));
       call_lines =
-        lines ∙ ap (λ front. front ++ call_lines old.calls (flat_map calls_of heard)) told.call_lines ∙
+          lines ∙ ap (λ front. front ++ call_lines old.calls (flat_map calls_of heard)) told.call_lines ∙
           ap (λ n. call_lines 0 (flat_map calls_of (heard_of found)) ++ call_lines n (flat_map calls_of heard)) (told.calls ∙ omega arith) ∙
           sym (ap (call_lines 0) all_calls ∙ call_lines-append 0 (flat_map calls_of (heard_of found)) (flat_map calls_of heard));
       out_lines =
-        outs ∙ ap (λ front. front ++ out_lines (flat_map sent_for heard)) told.out_lines ∙
+          outs ∙ ap (λ front. front ++ out_lines (flat_map sent_for heard)) told.out_lines ∙
           sym (ap out_lines all_sent ∙ flat_map-append out_line (flat_map sent_for (heard_of found)) (flat_map sent_for heard));
       unbuilt =
-        unbuilt ∙ ap (λ b. b || list_any is_unbuilt heard) told.unbuilt ∙
+          unbuilt ∙ ap (λ b. b || list_any is_unbuilt heard) told.unbuilt ∙
           sym (ap (list_any is_unbuilt) more ∙ list_any-append is_unbuilt (heard_of found) heard);
     }
 
@@ -145,9 +145,9 @@ tallies-unheard :
     Tallies new (found ++ frame f ∷ [])
 tallies-unheard old new found f told is counts calls lines outs unbuilt =
     tallies-frame old new found f [] told is counts (calls ∙ omega arith)
-      (ap string_bytes lines ∙ sym (append-nil (string_bytes old.call_lines)))
-      (ap string_bytes outs ∙ sym (append-nil (string_bytes old.out_lines)))
-      (unbuilt ∙ sym (or_false old.has_unbuilt))
+    (ap string_bytes lines ∙ sym (append-nil (string_bytes old.call_lines)))
+    (ap string_bytes outs ∙ sym (append-nil (string_bytes old.out_lines)))
+    (unbuilt ∙ sym (or_false old.has_unbuilt))
 
 -- a frame for another address, or with another control octet
 pub tallies-other :
@@ -186,14 +186,14 @@ tallies-served old mid new found f packet told is one counts calls lines outs un
     let its_calls : calls_of packet ≡ flat_map calls_of (packet ∷ []) = sym (append-nil (calls_of packet)) in
     let its_sent : sent_for packet ≡ flat_map sent_for (packet ∷ []) = sym (append-nil (sent_for packet)) in
     tallies-frame old new found f (packet ∷ []) told heard
-      (served.counts ∙ counts ∙ same_counts _ _ _ _ _ _ _ _ refl refl other dropped)
-      (served.calls ∙ ap (λ n. n + length (calls_of packet)) calls ∙ ap (λ more. old.calls + length more) its_calls)
-      (served.call_lines ∙ ap (λ front. string_bytes front ++ call_lines mid.calls (calls_of packet)) lines ∙
-        ap (λ n. string_bytes old.call_lines ++ call_lines n (calls_of packet)) calls ∙
-        ap (λ more. string_bytes old.call_lines ++ call_lines old.calls more) its_calls)
-      (served.out_lines ∙ ap (λ front. string_bytes front ++ out_lines (sent_for packet)) outs ∙
-        ap (λ more. string_bytes old.out_lines ++ out_lines more) its_sent)
-      (served.unbuilt ∙ ap (λ b. b || is_unbuilt packet) unbuilt ∙ ap (λ b. old.has_unbuilt || b) (sym (or_false (is_unbuilt packet))))
+    (served.counts ∙ counts ∙ same_counts _ _ _ _ _ _ _ _ refl refl other dropped)
+    (served.calls ∙ ap (λ n. n + length (calls_of packet)) calls ∙ ap (λ more. old.calls + length more) its_calls)
+    (served.call_lines ∙ ap (λ front. string_bytes front ++ call_lines mid.calls (calls_of packet)) lines ∙
+    ap (λ n. string_bytes old.call_lines ++ call_lines n (calls_of packet)) calls ∙
+    ap (λ more. string_bytes old.call_lines ++ call_lines old.calls more) its_calls)
+    (served.out_lines ∙ ap (λ front. string_bytes front ++ out_lines (sent_for packet)) outs ∙
+    ap (λ more. string_bytes old.out_lines ++ out_lines more) its_sent)
+    (served.unbuilt ∙ ap (λ b. b || is_unbuilt packet) unbuilt ∙ ap (λ b. old.has_unbuilt || b) (sym (or_false (is_unbuilt packet))))
 
 -- before the first
 pub tallies-empty :

@@ -23,7 +23,7 @@ line text = text ++ 10 ∷ []
 unfoldable pub frames_line : Counts → List ℕ
 frames_line counts =
     line (codes "frames " ++ (decimal counts.valid ++ (codes " bad " ++ (decimal counts.bad ++ (codes " other " ++
-      (decimal counts.other ++ (codes " dropped " ++ decimal counts.dropped)))))))
+    (decimal counts.other ++ (codes " dropped " ++ decimal counts.dropped)))))))
 
 -- the id of a service or a method, in eight hexadecimal digits
 abbrev pub id_text : ℕ → List ℕ
@@ -39,8 +39,8 @@ kind_name Bidi = codes "bidi"
 unfoldable pub call_line : ℕ → CallEnd → List ℕ
 call_line number call =
     line (codes "call " ++ (decimal number ++ (codes " " ++ (decimal call.name.channel ++ (codes " " ++
-      (id_text call.name.service ++ (codes " " ++ (id_text call.name.method ++ (codes " " ++ (decimal call.name.call ++
-      (codes " " ++ (kind_name call.kind ++ (codes " " ++ status_name call.status)))))))))))))
+    (id_text call.name.service ++ (codes " " ++ (id_text call.name.method ++ (codes " " ++ (decimal call.name.call ++
+    (codes " " ++ (kind_name call.kind ++ (codes " " ++ status_name call.status)))))))))))))
 
 -- the calls by number, the first of which has the number given
 abbrev pub call_lines : ℕ → List CallEnd → List ℕ

@@ -21,7 +21,10 @@ pub(crate) fn add_frames_line(text: &mut String, counts: Counts) -> Result<(), A
         other,
         dropped,
     } = counts;
-    writeln!(text, "frames {valid} bad {bad} other {other} dropped {dropped}")
+    writeln!(
+        text,
+        "frames {valid} bad {bad} other {other} dropped {dropped}"
+    )
 }
 
 #[tactic(auto, unfolding(crate::specs::Lines::call_line))]
@@ -42,7 +45,10 @@ pub(crate) fn add_call_line(
     let call = name.call;
     let kind = name_of(kind);
     let status = status.name();
-    writeln!(text, "call {number} {channel} {service} {method} {call} {kind} {status}")
+    writeln!(
+        text,
+        "call {number} {channel} {service} {method} {call} {kind} {status}"
+    )
 }
 
 fn name_of(kind: Kind) -> &'static str
@@ -57,7 +63,11 @@ fn name_of(kind: Kind) -> &'static str
 }
 
 #[tactic(auto, unfolding(crate::specs::Lines::out_line))]
-pub(crate) fn add_out_line(alloc: Global, text: &mut String, packet: &Packet) -> Result<(), AllocError>
+pub(crate) fn add_out_line(
+    alloc: Global,
+    text: &mut String,
+    packet: &Packet,
+) -> Result<(), AllocError>
     ensures { OnOk result (string_bytes text.new ≡ string_bytes text.old ++ out_line (message_of packet.now)) }
 {
     let digits = hex::encode(alloc, frame(alloc, packet)?.as_slice())?;

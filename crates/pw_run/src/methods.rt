@@ -23,11 +23,29 @@ impl Methods {
         let mut served = Registry::new(alloc);
         add(&mut served, "demo.Demo", "Echo", Kind::Unary, false)?;
         let mut unbuilt = Registry::new(alloc);
-        add(&mut unbuilt, "demo.Demo", "Count", Kind::ServerStream, false)?;
+        add(
+            &mut unbuilt,
+            "demo.Demo",
+            "Count",
+            Kind::ServerStream,
+            false,
+        )?;
         add(&mut unbuilt, "demo.Demo", "Sum", Kind::ClientStream, false)?;
         add(&mut unbuilt, "demo.Demo", "Chat", Kind::Bidi, false)?;
-        add(&mut unbuilt, "pw.transfer.Transfer", "Read", Kind::Bidi, true)?;
-        add(&mut unbuilt, "pw.transfer.Transfer", "Write", Kind::Bidi, true)?;
+        add(
+            &mut unbuilt,
+            "pw.transfer.Transfer",
+            "Read",
+            Kind::Bidi,
+            true,
+        )?;
+        add(
+            &mut unbuilt,
+            "pw.transfer.Transfer",
+            "Write",
+            Kind::Bidi,
+            true,
+        )?;
         Ok(Methods { served, unbuilt })
     }
 }

@@ -5,7 +5,7 @@ ghost use Rattle.rpc_packet.specs.Message.{lent_message};
 ghost use Rattle.pw_run.specs.Methods.{served_methods, unbuilt_methods};
 ghost use Rattle.pw_run.specs.Heard.{heard_packet};
 
-use crate::limits::{LAST_CHANNEL, LARGEST_PAYLOAD};
+use crate::limits::{LARGEST_PAYLOAD, LAST_CHANNEL};
 use crate::methods::Methods;
 use rpc_ids::{Kind, MethodRef, Status};
 use rpc_packet::{CallName, PacketRef, PacketType};
@@ -71,5 +71,9 @@ pub(crate) fn names_unbuilt(methods: &Methods, ptype: PacketType, packet: &Packe
     requires { methods.now.unbuilt ≡ unbuilt_methods }
     ensures { result ≡ is_unbuilt (heard_packet ptype (lent_message packet.now)) }
 {
-    is_in(packet.name) && methods.unbuilt.find(packet.name.service, packet.name.method).is_some()
+    is_in(packet.name)
+        && methods
+            .unbuilt
+            .find(packet.name.service, packet.name.method)
+            .is_some()
 }

@@ -7,26 +7,35 @@ use Rattle.pw_run.specs.Tally.{Stand}
 use Rattle.pw_run.proofs.stream.read_stream.Goals as goal
 
 pub pieces-init : goal.pieces-init
-pieces-init g c =
-    ( omega arith, c.requires.methods, c.requires.within, all_built _ c.requires.empty, omega arith,
-      ( [], Consumes-nil _, refl,
-        record { limit = c.in_ok-decoder.ensures.limit; read = c.in_ok-decoder.ensures.read; tallies = tallies_nothing _ c.requires.empty } ) )
+pieces-init g c = (
+  omega arith,
+  c.requires.methods,
+  c.requires.within,
+  all_built _ c.requires.empty,
+  omega arith,
+  (
+    [],
+    Consumes-nil _,
+    refl,
+    record { limit = c.in_ok-decoder.ensures.limit; read = c.in_ok-decoder.ensures.read; tallies = tallies_nothing _ c.requires.empty },
+  ),
+)
 
 pub returns-in_err-feed-in-Ok-clause-read : goal.returns-in_err-feed-in-Ok-clause-read
 returns-in_err-feed-in-Ok-clause-read g c =
     let room : length c.read.new.buf ≡ length (take c.min-room.result c.pieces.buffer) = c.read.auto.buf in
     let before = c.pieces.invariant.5 in
     reads_more (g.I.Source.left c.args.input.now) (g.I.Source.left c.pieces.input) (g.I.Source.left c.read.new.self) before.0 c.read.new.buf
-      c.pieces.total c.min-room.result c.in-Ok.count before.1 before.2 c.in-Ok.ensures.bytes.0
-      (omega (arith, room, length-take c.min-room.result c.pieces.buffer)) (omega arith)
+    c.pieces.total c.min-room.result c.in-Ok.count before.1 before.2 c.in-Ok.ensures.bytes.0
+    (omega (arith, room, length-take c.min-room.result c.pieces.buffer)) (omega arith)
 
 pub returns-then-has_unbuilt-clause-read : goal.returns-then-has_unbuilt-clause-read
 returns-then-has_unbuilt-clause-read g c =
     let room : length c.read.new.buf ≡ length (take c.min-room.result c.pieces.buffer) = c.read.auto.buf in
     let before = c.pieces.invariant.5 in
     reads_more (g.I.Source.left c.args.input.now) (g.I.Source.left c.pieces.input) (g.I.Source.left c.read.new.self) before.0 c.read.new.buf
-      c.pieces.total c.min-room.result c.in-Ok.count before.1 before.2 c.in-Ok.ensures.bytes.0
-      (omega (arith, room, length-take c.min-room.result c.pieces.buffer)) (omega arith)
+    c.pieces.total c.min-room.result c.in-Ok.count before.1 before.2 c.in-Ok.ensures.bytes.0
+    (omega (arith, room, length-take c.min-room.result c.pieces.buffer)) (omega arith)
 
 pub pieces-preserved : goal.pieces-preserved
 pieces-preserved g c =

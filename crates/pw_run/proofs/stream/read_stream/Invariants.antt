@@ -9,7 +9,7 @@ invariant-pieces g l =
     (l.total ≤ INPUT_LIMIT) × HasMethods l.tally.methods × IsWithin l.total l.tally × (l.tally.has_unbuilt ≡ false) ×
     (g.I.Source.faults l.fn.input ≤ g.I.Source.faults l.input) ×
     ((stream : List ℕ) × Consumes (g.I.Source.left l.fn.input) (g.I.Source.left l.input) stream × (length stream ≡ l.total) ×
-      Stand l.decoder l.tally stream)
+    Stand l.decoder l.tally stream)
 
 abbrev pub decreases-pieces : goal.decreases-pieces
 decreases-pieces g l = INPUT_LIMIT - l.total

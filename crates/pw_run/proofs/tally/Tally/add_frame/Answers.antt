@@ -15,5 +15,5 @@ returns-in-Dropped-clause-tallies c found told =
 pub returns-in-Packet-clause-tallies : goal.returns-in-Packet-clause-tallies
 returns-in-Packet-clause-tallies c =
     on_ok_weaker c.serve.result
-      (λ served found told. tallies-served c.args.self.now _ c.serve.new.self found (parts_of c.args.lent.now) _ told c.in-Packet.ensures.0 c.in-Packet.ensures.1 refl refl refl refl refl served)
-      c.serve.ensures.serves
+    (λ served found told. tallies-served c.args.self.now _ c.serve.new.self found (parts_of c.args.lent.now) _ told c.in-Packet.ensures.0 c.in-Packet.ensures.1 refl refl refl refl refl served)
+    c.serve.ensures.serves
