@@ -1,5 +1,5 @@
 -- What the server makes of a packet. Echo ends each call at once, so no call lives when the next packet comes.
-use Rattle.std.specs.Prelude.{ℕ, ◌&&◌, Bool, not, List, [], ◌∷◌, length, nat_lt, nat_le, if◌then◌else◌, Option, Some, None}
+use Rattle.std.specs.Prelude.{ℕ, ◌&&◌, Bool, List, [], ◌∷◌, length, nat_lt, nat_le, if◌then◌else◌, Option, Some, None}
 use Rattle.rpc_ids.specs.declared.method.Kind.{Kind}
 use Rattle.rpc_ids.specs.declared.method.MethodRef.{MethodRef}
 use Rattle.rpc_ids.specs.declared.status.Status.{Status}
@@ -9,7 +9,7 @@ use Rattle.rpc_ids.specs.Status.{status_number}
 use Rattle.rpc_packet.specs.declared.call_name.CallName.{CallName}
 use Rattle.rpc_packet.specs.declared.owned.Packet.{Packet}
 use Rattle.rpc_packet.specs.declared.packet_type.PacketType.{PacketType}
-use Rattle.rpc_packet.specs.declared.packet_type.PacketType.TheVariants.{Request, Response, ClientStream, ClientError, ServerError, ServerStream, Completion}
+use Rattle.rpc_packet.specs.declared.packet_type.PacketType.TheVariants.{Request, Response, ClientError, ServerError}
 use Rattle.rpc_packet.specs.Message.{Message}
 use Rattle.rpc_packet.specs.PacketType.{type_number}
 use Rattle.pw_run.specs.declared.limits.TheConstants.{LAST_CHANNEL, LARGEST_PAYLOAD}

@@ -1,4 +1,4 @@
-use Rattle.std.proofs.Common.{ℕ, ◌≡◌, ◌≤◌, [], ◌++◌, refl, sym, ◌∙◌, ap, subst, length, take, drop, arith, length-append, length-take}
+use Rattle.std.proofs.Common.{◌≡◌, ◌≤◌, [], ◌++◌, refl, sym, ◌∙◌, ap, subst, length, take, drop, arith, length-append, length-take}
 use Rattle.std.proofs.lemmas.List.{take-append-le, length-take-le}
 use Rattle.std.proofs.KnownBytes.{Consumes-nil, Consumes-trans}
 use Rattle.pw_run.proofs.StreamLemmas.{tallies_nothing, all_built, reads_more}
