@@ -1,5 +1,5 @@
 -- Closed examples of the definitions, by computing: the vectors of the format, and streams with faults.
-use Rattle.std.proofs.Common.{◌≡◌, ℕ, List, [], ◌∷◌, ◌++◌, refl}
+use Rattle.std.proofs.Common.{◌≡◌, ℕ, List, [], ◌∷◌, refl}
 use Rattle.hdlc_frame.specs.declared.found.Bad.TheVariants.{Address, Check, Escape, Long, Short}
 use Rattle.hdlc_frame.specs.CheckSequence.{after_bits, after_octet, check_sequence_of}
 use Rattle.hdlc_frame.specs.Content.{unescaped}

@@ -2,8 +2,10 @@ pub mod Carried
 pub mod Contents
 mod Examples
 pub mod Headers
+mod Tables
 pub mod Machines
 pub mod Numbers
 pub mod Parting
 pub mod ReadBack
 pub mod Register
+mod Words

@@ -1,9 +1,9 @@
 -- The steps of the decoder, against the stream.
-use Rattle.std.proofs.Common.{◌≡◌, ◌≢◌, ℕ, ◌+◌, ◌-◌, ◌<◌, ◌≤◌, ◌==◌, ◌||◌, not, zero, suc, ltb, min, Bool, true, false, cond, List, [], ◌∷◌, ◌++◌, length, get_or, get_or-take, slice_range, take, drop, map, Option, Some, None, refl, sym, ap, ◌∙◌, append_assoc, subst, inl, inr, ◌⊎◌, bit_xor, arith}
+use Rattle.std.proofs.Common.{◌≡◌, ◌≢◌, ℕ, ◌+◌, ◌-◌, ◌<◌, ◌≤◌, ◌||◌, zero, suc, ltb, min, Bool, true, false, List, [], ◌∷◌, ◌++◌, length, get_or, slice_range, take, drop, map, Option, Some, None, refl, sym, ap, ◌∙◌, append_assoc, subst, inl, inr, bit_xor, arith}
 use Rattle.std.specs.Bool.{if◌then◌else◌}
 use Rattle.std.specs.Option.{option_map}
-use Rattle.std.proofs.lemmas.Bool.{cases_lt, eq-eqb, or_left, or_right, lt-ltb, le-ltb, ltb-true, ltb-false}
-use Rattle.std.proofs.lemmas.List.{append-nil, get_or_default, length-append, length-drop, length-take, take_more, length-take-le, take-append-drop, take-append-le, take_all}
+use Rattle.std.proofs.lemmas.Bool.{cases_lt, lt-ltb, le-ltb, ltb-false}
+use Rattle.std.proofs.lemmas.List.{append-nil, length-append, length-drop, length-take, take_more, length-take-le, take-append-drop, take-append-le, take_all}
 use Rattle.std.proofs.lemmas.List.Elements.{All-take}
 use Rattle.std.proofs.Math.Seq.{take-add, take-append-add}
 use Rattle.hdlc_frame.specs.declared.phase.Phase.{Phase}

@@ -1,13 +1,12 @@
 -- How a stream's segments grow with it.
-use Rattle.std.proofs.Common.{◌≡◌, ◌≢◌, ℕ, ◌+◌, ◌-◌, ◌<◌, ◌≤◌, ◌==◌, zero, suc, Bool, true, false, cond, List, [], ◌∷◌, ◌++◌, length, take, drop, map, Option, Some, None, refl, sym, ap, ◌∙◌, append_assoc, subst, inl, inr, arith}
+use Rattle.std.proofs.Common.{◌≡◌, ℕ, Bool, true, false, List, [], ◌∷◌, ◌++◌, drop, map, Option, Some, None, refl, sym, ap, ◌∙◌, append_assoc}
 use Rattle.std.specs.List.{All, filter, slice_split, onto_first}
 use Rattle.std.specs.Option.{option_map}
-use Rattle.std.proofs.lemmas.Bool.{eq-eqb}
 use Rattle.std.proofs.lemmas.List.{append-nil, map-append}
 use Rattle.std.proofs.lemmas.List.Elements.{filter-append}
 use Rattle.std.proofs.lemmas.List.Splits.{slice_split-cons_yes, slice_split-cons_no, slice_split_none}
 use Rattle.hdlc_frame.specs.declared.octets.TheConstants.{FLAG}
-use Rattle.hdlc_frame.specs.Found.{Found, found, found_in}
+use Rattle.hdlc_frame.specs.Found.{found, found_in}
 use Rattle.hdlc_frame.specs.Laws.{SegmentsGrow, ended}
 use Rattle.hdlc_frame.specs.Segments.{but_last, has_octets, is_flag, last_of, open_text, segments, texts_behind_flags}
 

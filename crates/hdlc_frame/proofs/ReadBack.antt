@@ -1,29 +1,27 @@
 -- What is written is read back.
-use Rattle.std.proofs.Common.{◌≡◌, ◌≢◌, ℕ, ◌+◌, ◌-◌, ◌*◌, ◌/◌, ◌%◌, ◌^◌, ◌<◌, ◌≤◌, ◌==◌, ◌||◌, not, zero, suc, ltb, Bool, true, false, List, [], ◌∷◌, ◌++◌, length, take, drop, map, Option, Some, None, refl, sym, ap, ◌∙◌, append_assoc, subst, inl, inr, ◌⊎◌, bit_xor, arith}
+use Rattle.std.proofs.Common.{◌≡◌, ◌≢◌, ℕ, ◌+◌, ◌-◌, ◌*◌, ◌/◌, ◌%◌, ◌^◌, ◌<◌, ◌≤◌, ◌==◌, ◌||◌, zero, suc, Bool, true, false, List, [], ◌∷◌, ◌++◌, length, drop, map, Option, Some, refl, sym, ap, ◌∙◌, append_assoc, subst, inl, inr, bit_xor, arith}
 use Rattle.std.specs.Bool.{if◌then◌else◌}
 use Rattle.std.specs.Int.{from_le_bytes, to_le_bytes, w32}
-use Rattle.std.specs.List.{All}
 use Rattle.std.specs.Option.{option_map}
 use Rattle.std.proofs.lemmas.Bool.{cases_lt, eq-eqb, le-ltb, lt-ltb}
 use Rattle.std.proofs.lemmas.Bool.Decides.{eqb_tells}
-use Rattle.std.proofs.lemmas.List.{append-nil, drop_at, length-append, map-append, take_at}
-use Rattle.std.proofs.lemmas.List.Concat.{flat_map-cons}
-use Rattle.std.proofs.lemmas.Nat.{from_le_bytes-to_le_bytes_4, shr_below, xor_lt}
+use Rattle.std.proofs.lemmas.List.{drop_at, length-append, map-append, take_at}
+use Rattle.std.proofs.lemmas.Nat.{from_le_bytes-to_le_bytes_4, xor_lt}
 use Rattle.std.proofs.Math.Nat.{pow-suc}
 use Rattle.hdlc_frame.specs.declared.crc.TheConstants.{ALL_ONES, POLYNOMIAL}
 use Rattle.hdlc_frame.specs.declared.octets.TheConstants.{ESCAPE, ESCAPE_BIT, FLAG, UI_CONTROL}
 use Rattle.hdlc_frame.specs.CheckSequence.{after_bit, after_bits, after_octet, after_octets, check_sequence_of}
-use Rattle.hdlc_frame.specs.Content.{StandsFor, unescaped}
+use Rattle.hdlc_frame.specs.Content.{StandsFor}
 use Rattle.hdlc_frame.specs.Content.StandsFor.{escaped, itself, nothing}
 use Rattle.hdlc_frame.specs.Encoded.{address_groups, encoded_ui, shortest_address, text_of, text_of_octet, ui_content, with_check_sequence}
-use Rattle.hdlc_frame.specs.Found.{Found, FrameParts, found, found_in, found_in_content, found_in_unescaped, framed, head_of, is_checked, number_at}
-use Rattle.hdlc_frame.specs.Found.Found.{fault, frame}
+use Rattle.hdlc_frame.specs.Found.{found, found_in, found_in_content, found_in_unescaped, framed, head_of, is_checked, number_at}
+use Rattle.hdlc_frame.specs.Found.Found.{frame}
 use Rattle.hdlc_frame.specs.Laws.{IsReadBack, ended}
-use Rattle.hdlc_frame.specs.Segments.{has_octets, is_flag, open_text, segments}
+use Rattle.hdlc_frame.specs.Segments.{has_octets, open_text, segments}
 use Rattle.hdlc_frame.proofs.Contents.{neq-eqb, stands_walk}
 use Rattle.hdlc_frame.proofs.Headers.{groups_last, groups_more}
 use Rattle.hdlc_frame.proofs.Numbers.{behind, number_last, number_more}
-use Rattle.hdlc_frame.proofs.Parting.{NoFlag, found_flag, found_text, open_text_flag, open_text_text, segments_flag, segments_text}
+use Rattle.hdlc_frame.proofs.Parting.{NoFlag, open_text_flag, open_text_text, segments_flag, segments_text}
 
 -- the check sequence fits four octets
 bit_fits : (r b : ℕ) → r < 2 ^ 32 → after_bit r b < 2 ^ 32

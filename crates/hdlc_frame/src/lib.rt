@@ -8,6 +8,7 @@ mod decoder;
 mod encode;
 mod found;
 mod judge;
+mod lanes;
 pub mod laws;
 mod octets;
 mod phase;

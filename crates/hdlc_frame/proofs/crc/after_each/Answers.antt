@@ -1,7 +1,7 @@
 use Rattle.std.proofs.Common.{arith, ◌%◌, ap, ◌∙◌, bit_xor}
 use Rattle.std.proofs.lemmas.Nat.{and_mask}
 use Rattle.hdlc_frame.specs.CheckSequence.{after_bits}
-use Rattle.hdlc_frame.proofs.crc.register_after.Goals as goal
+use Rattle.hdlc_frame.proofs.crc.after_each.Goals as goal
 use Rattle.hdlc_frame.proofs.Register.{step}
 
 pub loop-octet-preserved : goal.loop-octet-preserved
