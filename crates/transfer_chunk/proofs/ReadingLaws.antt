@@ -1,12 +1,12 @@
 -- What bytes say, and the same computed.
-use Rattle.std.proofs.Common.{◌≡◌, ℕ, List, Option, Some, None, IfOk, IfErr, Result, Ok, Err, refl, sym, ap, ◌∙◌, subst}
-use Rattle.proto_wire.specs.Message.{Message, IsRead, fields_of, wire_fields}
+use Rattle.std.proofs.Common.{◌≡◌, ℕ, List, Option, Some, None, IfOk, IfErr, Result, Ok, Err, refl, sym, ap, ◌∙◌}
+use Rattle.proto_wire.specs.Message.{fields_of, wire_fields}
 use Rattle.proto_wire.specs.Typed.{fault_of}
 use Rattle.proto_wire.specs.declared.fields.Malformed.{Malformed}
 use Rattle.proto_wire.proofs.UnreadLaws.{IsRead-fields_from, IsRead_same}
 use Rattle.transfer_chunk.specs.declared.chunk.ChunkRef.{ChunkRef}
 use Rattle.transfer_chunk.specs.Chunk.{Chunk, lent_chunk, declared, chunk_after, no_chunk}
-use Rattle.transfer_chunk.specs.Reading.{IsChunk, IsFaultAt, unless_fault, read_after, chunk_of, seen}
+use Rattle.transfer_chunk.specs.Reading.{IsChunk, IsFaultAt, unless_fault, chunk_of, seen}
 
 no_fault : (fault : Option ℕ) (c d : Chunk) → unless_fault fault c ≡ Ok d → (fault ≡ None) × (d ≡ c)
 no_fault None c d e = (refl, cc)
