@@ -1,0 +1,5 @@
+pub mod Places
+pub mod Keeping
+pub mod Counting
+pub mod Calls
+pub mod Closing
