@@ -52,6 +52,7 @@ module _ {X E B : Type 0} (log : X → List E) (maker : E → ℕ) where
         ap (λ (v : View E B). v.known.mine) is
         ∙ (goes_on_own maker p.view.known.number p.view.known.seen (log x) goes
         ∙ (ap (λ l. l ++ goes.added) shown ∙ ap (λ l. p.view.known.mine ++ l) same));
+    no_look = ap (λ (v : View E B). v.looks) is;
     idle = ap (λ (v : View E B). v.holds) is;
   }
 

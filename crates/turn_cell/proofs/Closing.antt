@@ -55,7 +55,12 @@ module _ {E B : Type 0} where
   split_first [] first others some_there at rest = absurd (omega arith)
   split_first (p ∷ ps) first others some_there at rest = cc
 
-  there : (l : List (Stand E B)) (i : ℕ) → i < length l → (p : Stand E B) × (get_elem? l i ≡ some p)
+  pub parts_all : (r : Ring B) (ps : List (Stand E B)) (first : Stand E B) (others : List (Stand E B)) → AreAll r (IsIdle r) ps → (0 < r.count) → first ≡ slice_index_or ps 0 first → others ≡ remove ps 0 → AreAll r (IsIdle r) (first ∷ others)
+  parts_all r ps first others all some_there at rest =
+      let counted = all.count in
+      subst (λ (l : List (Stand E B)). AreAll r (IsIdle r) l) (split_first ps first others (omega arith) at rest) all
+
+  pub there : (l : List (Stand E B)) (i : ℕ) → i < length l → (p : Stand E B) × (get_elem? l i ≡ some p)
   there [] i h = absurd (omega arith)
   there (p ∷ ps) zero h = (p, refl)
   there (p ∷ ps) (suc i) h = there ps i (omega arith)

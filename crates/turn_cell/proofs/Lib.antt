@@ -3,3 +3,4 @@ pub mod Keeping
 pub mod Counting
 pub mod Calls
 pub mod Closing
+pub mod Passes

@@ -83,6 +83,11 @@ module _ {E B : Type 0} where
     pub count : length ps ≡ r.count
     pub each : (k : ℕ) (p : Stand E B) → get_elem? ps k ≡ some p → Ok k p
 
+  -- the passes are back in their order, each the same as before, and none holds
+  pub record AreBack (ps qs : List (Stand E B)) : Type 0 where
+    pub count : length qs ≡ length ps
+    pub each : (k : ℕ) (p : Stand E B) → get_elem? ps k ≡ some p → (q : Stand E B) × (get_elem? qs k ≡ some q) × IsSame p q × (q.view.holds ≡ false)
+
 module _ {X E B : Type 0} (log : X → List E) (maker : E → ℕ) where
   -- the value was given back. The pass has seen its log, and what was added since is the pass's own
   pub record HasGiven (p q : Stand E B) (x : X) : Type 0 where
@@ -90,6 +95,7 @@ module _ {X E B : Type 0} (log : X → List E) (maker : E → ℕ) where
     pub begins : IsPrefix p.view.known.seen (log x)
     pub seen : q.view.known.seen ≡ log x
     pub mine : (added : List E) → log x ≡ p.view.known.seen ++ added → q.view.known.mine ≡ p.view.known.mine ++ added
+    pub no_look : q.view.looks ≡ p.view.looks
     pub idle : q.view.holds ≡ false
 
 module _ {X E B : Type 0} (log : X → List E) (maker : E → ℕ) (base : X → B) where
@@ -103,6 +109,17 @@ module _ {X E B : Type 0} (log : X → List E) (maker : E → ℕ) (base : X →
     pub seen : q.view.known.seen ≡ log x
     pub mine : q.view.known.mine ≡ p.view.known.mine
     pub holds : q.view.holds ≡ true
+
+  -- the lock was taken with the value x and given back with y
+  pub record HasChanged (p q : Stand E B) (x y : X) : Type 0 where
+    pub same : IsSame p q
+    pub begins : IsPrefix p.view.known.seen (log x)
+    pub own : made_by maker p.view.known.number (log x) ≡ p.view.known.mine
+    pub shown : made_by maker p.view.known.number p.view.known.seen ≡ p.view.known.mine
+    pub based : Some (base x) ≡ p.view.base
+    pub seen : q.view.known.seen ≡ log y
+    pub mine : (added : List E) → log y ≡ log x ++ added → q.view.known.mine ≡ p.view.known.mine ++ added
+    pub idle : q.view.holds ≡ false
 
   -- a pass fits the value: its log begins with what the pass saw, and the pass has just the entries of its number, all of which it saw
   pub record FitsValue (k : ℕ) (p : Stand E B) (x : X) : Type 0 where

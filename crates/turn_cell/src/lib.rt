@@ -10,6 +10,8 @@ pub mod pass;
 mod rule;
 
 
+#[cfg(test)]
+mod tests;
 pub mod turn;
 pub mod view;
 

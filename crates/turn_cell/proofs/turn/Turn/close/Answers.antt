@@ -3,7 +3,7 @@ use Rattle.std.specs.Slots.{slots_items}
 use mathlib.Core.Option.{some, some-injective}
 use Rattle.turn_cell.specs.declared.view.View.{View}
 use Rattle.turn_cell.specs.Passes.{Ring, Stand, IsIdle, AreAll, AllFit}
-use Rattle.turn_cell.proofs.Closing.{split_first, first_idle, others_free, closed_fit}
+use Rattle.turn_cell.proofs.Closing.{split_first, parts_all, first_idle, others_free, closed_fit}
 use Rattle.turn_cell.proofs.turn.Turn.close.Goals as goal
 
 pub remove-first-requires : goal.remove-first-requires
@@ -17,9 +17,7 @@ gather-requires-clause-table g c =
     let table = ap (λ (z : Ring g.row.T-Base.Denot). z.table) c.self.view_is in
     let first = c.remove-first.result in
     let others = c.remove-first.new.self.items in
-    let some_there : 0 < length c.args.passes.items = omega (arith, c.requires.all.count, c.self.invariant.2, counted) in
-    let parts = split_first c.args.passes.items first others some_there c.remove-first.ensures.value c.remove-first.ensures.items in
-    let all = subst (λ (ps : List (Stand g.row.T-Entry.Denot g.row.T-Base.Denot)). AreAll c.args.self (IsIdle c.args.self) ps) parts c.requires.all in
+    let all = parts_all c.args.self c.args.passes.items first others c.requires.all (omega (arith, c.self.invariant.2, counted)) c.remove-first.ensures.value c.remove-first.ensures.items in
     ((first_idle c.args.self first others all).pass.table ∙ sym table, omega (arith, c.self.invariant.0))
 
 pub gather-requires-clause-zero : goal.gather-requires-clause-zero
@@ -27,9 +25,7 @@ gather-requires-clause-zero g c =
     let counted = ap (λ (z : Ring g.row.T-Base.Denot). z.count) c.self.view_is in
     let first = c.remove-first.result in
     let others = c.remove-first.new.self.items in
-    let some_there : 0 < length c.args.passes.items = omega (arith, c.requires.all.count, c.self.invariant.2, counted) in
-    let parts = split_first c.args.passes.items first others some_there c.remove-first.ensures.value c.remove-first.ensures.items in
-    let all = subst (λ (ps : List (Stand g.row.T-Entry.Denot g.row.T-Base.Denot)). AreAll c.args.self (IsIdle c.args.self) ps) parts c.requires.all in
+    let all = parts_all c.args.self c.args.passes.items first others c.requires.all (omega (arith, c.self.invariant.2, counted)) c.remove-first.ensures.value c.remove-first.ensures.items in
     ((first_idle c.args.self first others all).pass.number, (first_idle c.args.self first others all).idle)
 
 pub gather-requires-clause-free : goal.gather-requires-clause-free
@@ -38,9 +34,7 @@ gather-requires-clause-free g c =
     let table = ap (λ (z : Ring g.row.T-Base.Denot). z.table) c.self.view_is in
     let first = c.remove-first.result in
     let others = c.remove-first.new.self.items in
-    let some_there : 0 < length c.args.passes.items = omega (arith, c.requires.all.count, c.self.invariant.2, counted) in
-    let parts = split_first c.args.passes.items first others some_there c.remove-first.ensures.value c.remove-first.ensures.items in
-    let all = subst (λ (ps : List (Stand g.row.T-Entry.Denot g.row.T-Base.Denot)). AreAll c.args.self (IsIdle c.args.self) ps) parts c.requires.all in
+    let all = parts_all c.args.self c.args.passes.items first others c.requires.all (omega (arith, c.self.invariant.2, counted)) c.remove-first.ensures.value c.remove-first.ensures.items in
     others_free c.args.self first others all c.self.inside.table.shared.table_id (sym table)
 
 pub into_seat-requires : goal.into_seat-requires
@@ -48,9 +42,7 @@ into_seat-requires g c =
     let counted = ap (λ (z : Ring g.row.T-Base.Denot). z.count) c.self.view_is in
     let first = c.remove-first.result in
     let others = c.remove-first.new.self.items in
-    let some_there : 0 < length c.args.passes.items = omega (arith, c.requires.all.count, c.self.invariant.2, counted) in
-    let parts = split_first c.args.passes.items first others some_there c.remove-first.ensures.value c.remove-first.ensures.items in
-    let all = subst (λ (ps : List (Stand g.row.T-Entry.Denot g.row.T-Base.Denot)). AreAll c.args.self (IsIdle c.args.self) ps) parts c.requires.all in
+    let all = parts_all c.args.self c.args.passes.items first others c.requires.all (omega (arith, c.self.invariant.2, counted)) c.remove-first.ensures.value c.remove-first.ensures.items in
     ap (λ (z : Stand g.row.T-Entry.Denot g.row.T-Base.Denot). z.view.holds) c.gather.ensures.first ∙ (first_idle c.args.self first others all).idle
 
 pub close_with-closed-requires : goal.close_with-closed-requires
@@ -59,9 +51,7 @@ close_with-closed-requires g c =
     let table = ap (λ (z : Ring g.row.T-Base.Denot). z.table) c.self.view_is in
     let first = c.remove-first.result in
     let others = c.remove-first.new.self.items in
-    let some_there : 0 < length c.args.passes.items = omega (arith, c.requires.all.count, c.self.invariant.2, counted) in
-    let parts = split_first c.args.passes.items first others some_there c.remove-first.ensures.value c.remove-first.ensures.items in
-    let all = subst (λ (ps : List (Stand g.row.T-Entry.Denot g.row.T-Base.Denot)). AreAll c.args.self (IsIdle c.args.self) ps) parts c.requires.all in
+    let all = parts_all c.args.self c.args.passes.items first others c.requires.all (omega (arith, c.self.invariant.2, counted)) c.remove-first.ensures.value c.remove-first.ensures.items in
     ap (λ (z : Stand g.row.T-Entry.Denot g.row.T-Base.Denot). z.table) c.into_seat.ensures.0
     ∙ (ap (λ (z : Stand g.row.T-Entry.Denot g.row.T-Base.Denot). z.table) c.gather.ensures.first ∙ ((first_idle c.args.self first others all).pass.table ∙ sym table))
 
@@ -71,9 +61,7 @@ unreachable-requires g c =
     let counted = ap (λ (z : Ring g.row.T-Base.Denot). z.count) c.self.view_is in
     let first = c.remove-first.result in
     let others = c.remove-first.new.self.items in
-    let some_there : 0 < length c.args.passes.items = omega (arith, c.requires.all.count, c.self.invariant.2, counted) in
-    let parts = split_first c.args.passes.items first others some_there c.remove-first.ensures.value c.remove-first.ensures.items in
-    let all = subst (λ (ps : List (Stand g.row.T-Entry.Denot g.row.T-Base.Denot)). AreAll c.args.self (IsIdle c.args.self) ps) parts c.requires.all in
+    let all = parts_all c.args.self c.args.passes.items first others c.requires.all (omega (arith, c.self.invariant.2, counted)) c.remove-first.ensures.value c.remove-first.ensures.items in
     let seat = c.into_seat.result in
     let closed = c.close_with-closed.result in
     let found = closed_fit
@@ -105,7 +93,7 @@ returns g c =
     let others = c.remove-first.new.self.items in
     let some_there : 0 < length c.args.passes.items = omega (arith, c.requires.all.count, c.self.invariant.2, counted) in
     let parts = split_first c.args.passes.items first others some_there c.remove-first.ensures.value c.remove-first.ensures.items in
-    let all = subst (λ (ps : List (Stand g.row.T-Entry.Denot g.row.T-Base.Denot)). AreAll c.args.self (IsIdle c.args.self) ps) parts c.requires.all in
+    let all = parts_all c.args.self c.args.passes.items first others c.requires.all (omega (arith, c.self.invariant.2, counted)) c.remove-first.ensures.value c.remove-first.ensures.items in
     let seat = c.into_seat.result in
     let closed = c.close_with-closed.result in
     let found = closed_fit
