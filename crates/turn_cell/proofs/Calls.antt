@@ -1,5 +1,5 @@
 -- What the calls say of a pass follows from what their steps told its seat.
-use Rattle.std.proofs.Common.{◌≡◌, ◌⊎◌, ⊎_elim, length, zero, suc, add-one, ℕ, ◌+◌, ◌≤◌, true, false, List, [], ◌∷◌, ◌++◌, Option, Some, refl, ap, sym, ◌∙◌, subst, arith, le_refl}
+use Rattle.std.proofs.Common.{◌≡◌, ⊎_elim, length, zero, suc, add-one, ℕ, ◌+◌, List, [], ◌∷◌, ◌++◌, refl, ap, sym, ◌∙◌, arith, le_refl}
 use Rattle.std.proofs.lemmas.List.{append_cancel_left}
 use Rattle.atomic_table.specs.Table.{rest}
 use Rattle.entry_lists.specs.Entries.{made_by, GoesOn}
@@ -10,7 +10,7 @@ use lib.ListN.{get_elem?}
 use Rattle.turn_cell.specs.Views.{starting, giving_view, newcomer}
 use Rattle.turn_cell.specs.Helpers.{AreNewcomers}
 use Rattle.turn_cell.proofs.Places.{at_end}
-use Rattle.turn_cell.specs.Passes.{Ring, Stand, IsSame, HasGiven, IsPass, IsNew, AreAll}
+use Rattle.turn_cell.specs.Passes.{Ring, Stand, IsSame, HasGiven, IsNew, AreAll}
 
 -- the slot that was taken last is the first of the list
 pub taken_first : {S : Type 0} (l m : List (ℕ × S)) (x : S) → l ≡ (0, x) ∷ m → l ≡ (0, x) ∷ rest l
@@ -71,36 +71,36 @@ module _ {E B : Type 0} where
   pub all_new : (r : Ring B) (bare first : Stand E B) (ps : List (Stand E B)) → bare.table ≡ r.table → bare.view ≡ starting r.base → first ≡ record bare { view = record bare.view { given = r.count } }
       → AreNewcomers bare ps → length ps + 1 ≡ r.count → AreAll r (IsNew r) (first ∷ ps)
   all_new r bare first ps table view is all count = record { count = omega arith; each = each }
-      where
-        at_first : first.view ≡ record (starting r.base) { given = r.count }
-        at_first = ap (λ (z : Stand E B). z.view) is ∙ ap (λ (v : View E B). record v { given = r.count }) view
+    where
+      at_first : first.view ≡ record (starting r.base) { given = r.count }
+      at_first = ap (λ (z : Stand E B). z.view) is ∙ ap (λ (v : View E B). record v { given = r.count }) view
 
-        each : (k : ℕ) (p : Stand E B) → get_elem? (first ∷ ps) k ≡ some p → IsNew r k p
-        each zero p e =
-            let same : first ≡ p = some-injective first p e in
-            let v : p.view ≡ record (starting r.base) { given = r.count } = ap (λ (z : Stand E B). z.view) (sym same) ∙ at_first in record {
-              pass = record {
-                table = ap (λ (z : Stand E B). z.table) (sym same) ∙ (ap (λ (z : Stand E B). z.table) is ∙ table);
-                number = ap (λ (u : View E B). u.known.number) v;
-                base = ap (λ (u : View E B). u.base) v;
-                rights = λ _. (ap (λ (u : View E B). u.given) v, ap (λ (u : View E B). u.ended) v);
-              };
-              seen = ap (λ (u : View E B). u.known.seen) v;
-              mine = ap (λ (u : View E B). u.known.mine) v;
-              looks = ap (λ (u : View E B). u.looks) v;
-              idle = ap (λ (u : View E B). u.holds) v;
-            }
-        each (suc i) p e =
-            let fresh = all i p e in
-            let v = fresh.1 in record {
-              pass = record {
-                table = fresh.0 ∙ table;
-                number = ap (λ (u : View E B). u.known.number) v ∙ add-one i;
-                base = ap (λ (u : View E B). u.base) v ∙ ap (λ (u : View E B). u.base) view;
-                rights = λ z. absurd (omega arith);
-              };
-              seen = ap (λ (u : View E B). u.known.seen) v;
-              mine = ap (λ (u : View E B). u.known.mine) v;
-              looks = ap (λ (u : View E B). u.looks) v;
-              idle = ap (λ (u : View E B). u.holds) v;
-            }
+      each : (k : ℕ) (p : Stand E B) → get_elem? (first ∷ ps) k ≡ some p → IsNew r k p
+      each zero p e =
+          let same : first ≡ p = some-injective first p e in
+          let v : p.view ≡ record (starting r.base) { given = r.count } = ap (λ (z : Stand E B). z.view) (sym same) ∙ at_first in record {
+            pass = record {
+              table = ap (λ (z : Stand E B). z.table) (sym same) ∙ (ap (λ (z : Stand E B). z.table) is ∙ table);
+              number = ap (λ (u : View E B). u.known.number) v;
+              base = ap (λ (u : View E B). u.base) v;
+              rights = λ _. (ap (λ (u : View E B). u.given) v, ap (λ (u : View E B). u.ended) v);
+            };
+            seen = ap (λ (u : View E B). u.known.seen) v;
+            mine = ap (λ (u : View E B). u.known.mine) v;
+            looks = ap (λ (u : View E B). u.looks) v;
+            idle = ap (λ (u : View E B). u.holds) v;
+          }
+      each (suc i) p e =
+          let fresh = all i p e in
+          let v = fresh.1 in record {
+            pass = record {
+              table = fresh.0 ∙ table;
+              number = ap (λ (u : View E B). u.known.number) v ∙ add-one i;
+              base = ap (λ (u : View E B). u.base) v ∙ ap (λ (u : View E B). u.base) view;
+              rights = λ z. absurd (omega arith);
+            };
+            seen = ap (λ (u : View E B). u.known.seen) v;
+            mine = ap (λ (u : View E B). u.known.mine) v;
+            looks = ap (λ (u : View E B). u.looks) v;
+            idle = ap (λ (u : View E B). u.holds) v;
+          }

@@ -1,5 +1,5 @@
 -- The end of a lock: pass 0 takes in the others, and then all fit the value.
-use Rattle.std.proofs.Common.{◌≡◌, ◌⊎◌, ℕ, zero, suc, ◌+◌, ◌<◌, ◌≤◌, false, List, [], ◌∷◌, ◌++◌, length, slice_index_or, Option, Some, refl, ap, sym, ◌∙◌, subst, inl, inr, ⊎_elim, arith}
+use Rattle.std.proofs.Common.{◌≡◌, ◌⊎◌, ℕ, zero, suc, ◌<◌, ◌≤◌, false, List, [], ◌∷◌, ◌++◌, length, slice_index_or, Option, Some, refl, ap, sym, ◌∙◌, subst, inl, inr, ⊎_elim, arith}
 use Rattle.std.specs.List.{remove}
 use mathlib.Core.Option.{some, some-injective}
 use lib.ListN.{get_elem?}
@@ -10,7 +10,7 @@ use Rattle.entry_lists.proofs.Makers.{makers_below}
 use Rattle.turn_cell.specs.declared.view.Known.{Known}
 use Rattle.turn_cell.specs.declared.view.View.{View}
 use Rattle.turn_cell.specs.Views.{Fits, keeping}
-use Rattle.turn_cell.specs.Passes.{Ring, Stand, IsPass, IsIdle, AreAll, FitsValue, AllFit}
+use Rattle.turn_cell.specs.Passes.{Ring, Stand, IsIdle, AreAll, FitsValue, AllFit}
 use Rattle.turn_cell.specs.Helpers.{AreFree, AreEnded}
 use Rattle.atomic_table.specs.Table.{Final, Seen}
 use Rattle.turn_cell.specs.Rule.{Ruled}
@@ -30,9 +30,9 @@ module _ {E B : Type 0} where
   pub one_taken : (all left : List (Stand E B)) (last : Stand E B) (ended : List (Known E)) → AreTaken all (left ++ last ∷ []) ended → AreTaken all left (ended ++ last.view.known ∷ [])
   one_taken all left last ended taken i p e = ⊎_elim
       (λ (t : get_elem? (left ++ last ∷ []) i ≡ some p). ⊎_elim
-          (λ (u : get_elem? left i ≡ some p). inl u)
-          (λ (u : last ≡ p). inr (length ended, at_last ended last.view.known (length ended) refl ∙ ap (λ (z : Stand E B). some z.view.known) u))
-          (at_snoc left last p i t))
+      (λ (u : get_elem? left i ≡ some p). inl u)
+      (λ (u : last ≡ p). inr (length ended, at_last ended last.view.known (length ended) refl ∙ ap (λ (z : Stand E B). some z.view.known) u))
+      (at_snoc left last p i t))
       (λ (t : (j : ℕ) × (get_elem? ended j ≡ some p.view.known)). inr (t.0, at_longer ended (last.view.known ∷ []) t.0 p.view.known t.1))
       (taken i p e)
 
@@ -93,28 +93,28 @@ module _ {X E B : Type 0} (log : X → List E) (maker : E → ℕ) (base : X →
   pub all_fit : (fixed : B) (r : Ring B) (first : Stand E B) (others : List (Stand E B)) → AreAll r (IsIdle r) (first ∷ others) → (v : View E B) (xs : List (Option X)) → v ≡ record first.view { ended = v.ended } → AreEnded v.ended others
       → (e : Ends log maker base fixed v xs) → AllFit log maker base (first ∷ others) e.value
   all_fit fixed r first others all v xs is kept e = record { each = each; makers = makers_below maker (length (first ∷ others)) (log e.value) no_others; no_others = no_others }
-      where
-        idle : IsIdle r 0 first
-        idle = all.each 0 first refl
+    where
+      idle : IsIdle r 0 first
+      idle = all.each 0 first refl
 
-        given : v.given ≡ r.count
-        given = ap (λ (z : View E B). z.given) is ∙ (idle.pass.rights refl).0
+      given : v.given ≡ r.count
+      given = ap (λ (z : View E B). z.given) is ∙ (idle.pass.rights refl).0
 
-        right : Some (base e.value) ≡ Some r.base
-        right = e.based ∙ (ap (λ (z : View E B). z.base) is ∙ idle.pass.base)
+      right : Some (base e.value) ≡ Some r.base
+      right = e.based ∙ (ap (λ (z : View E B). z.base) is ∙ idle.pass.base)
 
-        no_others : (k : ℕ) → length (first ∷ others) ≤ k → made_by maker k (log e.value) ≡ []
-        no_others k big = let counted = all.count in e.strangers k (omega (arith, given, counted, big))
+      no_others : (k : ℕ) → length (first ∷ others) ≤ k → made_by maker k (log e.value) ≡ []
+      no_others k big = let counted = all.count in e.strangers k (omega (arith, given, counted, big))
 
-        each : (k : ℕ) (p : Stand E B) → get_elem? (first ∷ others) k ≡ some p → FitsValue log maker base k p e.value
-        each zero p at =
-            let same : first ≡ p = some-injective first p at in
-            subst (λ (z : Stand E B). FitsValue log maker base 0 z e.value) same
-                (of_fits e.value v.given 0 first (subst (λ (z : View E B). Fits maker (log e.value) v.given z.known) is e.own) idle.pass.number (idle.pass.base ∙ sym right))
-        each (suc i) p at =
-            let mine = all.each (suc i) p at in
-            let k = kept i p at in
-            of_fits e.value v.given (suc i) p (e.past k.0 p.view.known k.1) mine.pass.number (mine.pass.base ∙ sym right)
+      each : (k : ℕ) (p : Stand E B) → get_elem? (first ∷ others) k ≡ some p → FitsValue log maker base k p e.value
+      each zero p at =
+          let same : first ≡ p = some-injective first p at in
+          subst (λ (z : Stand E B). FitsValue log maker base 0 z e.value) same
+          (of_fits e.value v.given 0 first (subst (λ (z : View E B). Fits maker (log e.value) v.given z.known) is e.own) idle.pass.number (idle.pass.base ∙ sym right))
+      each (suc i) p at =
+          let mine = all.each (suc i) p at in
+          let k = kept i p at in
+          of_fits e.value v.given (suc i) p (e.past k.0 p.view.known k.1) mine.pass.number (mine.pass.base ∙ sym right)
 
   -- what `close` finds in the slot, and that all passes fit it
   pub closed_fit : (fixed : B) (r : Ring B) (first : Stand E B) (others : List (Stand E B)) → AreAll r (IsIdle r) (first ∷ others)

@@ -1,18 +1,17 @@
 -- The rule at the beginning and at the end, and where pass 0 gives out a number or takes a pass in.
-use Rattle.std.proofs.Common.{◌≡◌, ◌≢◌, ◌⊎◌, ℕ, zero, suc, ◌+◌, ◌*◌, ◌%◌, ◌<◌, ◌≤◌, Bool, true, false, List, [], ◌∷◌, ◌++◌, length, set, Option, Some, None, refl, ap, sym, ◌∙◌, subst, inl, inr, ⊎_elim, arith}
+use Rattle.std.proofs.Common.{◌≡◌, ◌≢◌, ℕ, zero, suc, ◌+◌, ◌<◌, ◌≤◌, true, false, List, [], ◌∷◌, ◌++◌, length, set, Option, Some, refl, ap, sym, ◌∙◌, subst, inl, inr, ⊎_elim, arith}
 use mathlib.Core.Option.{some, none, some-injective, some-ne-none}
 use mathlib.Core.Option as maybe
 use mathlib.Core.Logic.{dite}
 use native.Mathlib.Decide.{ℕ_discrete}
 use lib.ListN.{get_elem?}
 use Rattle.atomic_table.specs.Table.{State, Splits, Joins, opening, Final, Seen}
-use Rattle.atomic_table.proofs.Lists.{at_set, set_else, at_longer, at_last, at_snoc}
+use Rattle.atomic_table.proofs.Lists.{at_set, set_else, at_longer, at_snoc}
 use Rattle.entry_lists.specs.Entries.{made_by}
-use Rattle.entry_lists.proofs.Prefixes.{prefix_self}
 use Rattle.turn_cell.specs.declared.view.Known.{Known}
 use Rattle.turn_cell.specs.declared.view.View.{View}
-use Rattle.turn_cell.specs.Views.{Fits, newcomer, starting, gone_view, giving, given_out, keeping}
-use Rattle.turn_cell.specs.Rule.{AtHome, Away, IsChief, Kept, Ruled}
+use Rattle.turn_cell.specs.Views.{Fits, starting, gone_view, giving, given_out, keeping}
+use Rattle.turn_cell.specs.Rule.{AtHome, Kept, Ruled}
 use Rattle.turn_cell.proofs.Places.{set_at, at_end, Stayed, stayed, Places, place_stays, place_longer}
 
 module _ {X E B : Type 0} (log : X → List E) (maker : E → ℕ) (base : X → B) (fixed : B) where
@@ -65,16 +64,16 @@ module _ {X E B : Type 0} (log : X → List E) (maker : E → ℕ) (base : X →
             apart = λ i j u u' e e' lives lives' same.
                 let old_below : (a : ℕ) (z : View E B) → get_elem? (set vs id w) a ≡ some z → z.spent ≡ false → z.known.number < k.given = λ a z t l. let o = before a z t in subst (λ (m : Known E). m.number < k.given) (sym o.known) (k.fits a o.old o.there (sym o.spent ∙ l)).below in
                 ⊎_elim
-                    (λ (t : get_elem? (set vs id w) i ≡ some u). ⊎_elim
-                        (λ (t' : get_elem? (set vs id w) j ≡ some u'). let o = before i u t in let o' = before j u' t' in
-                            k.apart i j o.old o'.old o.there o'.there (sym o.spent ∙ lives) (sym o'.spent ∙ lives') (ap (λ (m : Known E). m.number) (sym o.known) ∙ (same ∙ ap (λ (m : Known E). m.number) o'.known)))
-                        (λ (t' : (j ≡ length (set vs id w)) × (new ≡ u')). let lt = old_below i u t lives in let eq = is_new j u' t' in absurd (omega (arith, lt, eq, same)))
-                        (at_end (set vs id w) new u' j e'))
-                    (λ (t : (i ≡ length (set vs id w)) × (new ≡ u)). ⊎_elim
-                        (λ (t' : get_elem? (set vs id w) j ≡ some u'). let lt = old_below j u' t' lives' in let eq = is_new i u t in absurd (omega (arith, lt, eq, same)))
-                        (λ (t' : (j ≡ length (set vs id w)) × (new ≡ u')). t.0 ∙ sym t'.0)
-                        (at_end (set vs id w) new u' j e'))
-                    (at_end (set vs id w) new u i e);
+                (λ (t : get_elem? (set vs id w) i ≡ some u). ⊎_elim
+                (λ (t' : get_elem? (set vs id w) j ≡ some u'). let o = before i u t in let o' = before j u' t' in
+                k.apart i j o.old o'.old o.there o'.there (sym o.spent ∙ lives) (sym o'.spent ∙ lives') (ap (λ (m : Known E). m.number) (sym o.known) ∙ (same ∙ ap (λ (m : Known E). m.number) o'.known)))
+                (λ (t' : (j ≡ length (set vs id w)) × (new ≡ u')). let lt = old_below i u t lives in let eq = is_new j u' t' in absurd (omega (arith, lt, eq, same)))
+                (at_end (set vs id w) new u' j e'))
+                (λ (t : (i ≡ length (set vs id w)) × (new ≡ u)). ⊎_elim
+                (λ (t' : get_elem? (set vs id w) j ≡ some u'). let lt = old_below j u' t' lives' in let eq = is_new i u t in absurd (omega (arith, lt, eq, same)))
+                (λ (t' : (j ≡ length (set vs id w)) × (new ≡ u')). t.0 ∙ sym t'.0)
+                (at_end (set vs id w) new u' j e'))
+                (at_end (set vs id w) new u i e);
             past = λ i p e. wider k.whole k.given p (k.past i p e);
             gone = λ j u e lives i p e'. ⊎_elim
                 (λ (t : get_elem? (set vs id w) j ≡ some u). let o = before j u t in λ is. k.gone j o.old o.there (sym o.spent ∙ lives) i p e' (ap (λ (m : Known E). m.number) (sym o.known) ∙ is))
@@ -178,10 +177,10 @@ module _ {X E B : Type 0} (log : X → List E) (maker : E → ℕ) (base : X →
       let number : ℕ = a.holder.known.number in
       let below : number < k.given = (k.fits a.seat a.holder a.sits a.lives).below in
       absurd (dite (ℕ_discrete number 0)
-          (λ z. let same = k.apart a.seat id a.holder v a.sits at a.lives live (z ∙ sym zero_is) in
-              let is : a.holder ≡ v = some-injective a.holder v (sym a.sits ∙ (ap (λ i. get_elem? vs i) same ∙ at)) in
-              let q : true ≡ false = sym a.holds ∙ (ap (λ (z : View E B). z.holds) is ∙ idle) in absurd cc)
-          (λ nz. let p = all number (omega arith) below in k.gone a.seat a.holder a.sits a.lives p.0 p.1 p.2 (sym p.3)))
+      (λ z. let same = k.apart a.seat id a.holder v a.sits at a.lives live (z ∙ sym zero_is) in
+      let is : a.holder ≡ v = some-injective a.holder v (sym a.sits ∙ (ap (λ i. get_elem? vs i) same ∙ at)) in
+      let q : true ≡ false = sym a.holds ∙ (ap (λ (z : View E B). z.holds) is ∙ idle) in absurd cc)
+      (λ nz. let p = all number (omega arith) below in k.gone a.seat a.holder a.sits a.lives p.0 p.1 p.2 (sym p.3)))
 
   pub ends : (id : ℕ) (v : View E B) (ws : List ℕ) (xs : List (Option X)) → v.spent ≡ false → v.known.number ≡ 0 → v.holds ≡ false
       → ((number : ℕ) → 0 < number → number < v.given → (i : ℕ) × (p : Known E) × (get_elem? v.ended i ≡ some p) × (p.number ≡ number))
@@ -194,7 +193,7 @@ module _ {X E B : Type 0} (log : X → List E) (maker : E → ℕ) (base : X →
       let given = given_is r.word r.home s.views k id v at live zero_is in
       let ended = ended_is r.word r.home s.views k id v at live zero_is in
       let all' : (number : ℕ) → 0 < number → number < k.given → (i : ℕ) × (p : Known E) × (get_elem? k.ended i ≡ some p) × (p.number ≡ number) =
-          λ number up below. let p = all number up (omega (arith, given, below)) in (p.0, p.1, subst (λ l. get_elem? l p.0 ≡ some p.1) ended p.2, p.3) in
+      λ number up below. let p = all number up (omega (arith, given, below)) in (p.0, p.1, subst (λ l. get_elem? l p.0 ≡ some p.1) ended p.2, p.3) in
       let a = all_home r.word r.home s.views k id v at live zero_is idle all' k.place in
       let fit : (p : Known E) → Fits maker k.whole k.given p → Fits maker (log a.value) v.given p = λ p g. subst (λ l. Fits maker l v.given p) (sym a.logged) (subst (λ m. Fits maker k.whole m p) (sym given) g) in record {
         value = a.value;

@@ -1,21 +1,20 @@
 -- Each kind of step keeps the rule.
-use Rattle.std.proofs.Common.{◌≡◌, ◌≢◌, ◌⊎◌, ℕ, zero, suc, ◌+◌, ◌*◌, ◌%◌, ◌<◌, ◌≤◌, Bool, true, false, eqb, List, [], ◌∷◌, ◌++◌, length, get_or, set, Option, Some, None, refl, ap, sym, ◌∙◌, subst, inl, inr, ⊎_elim, arith}
+use Rattle.std.proofs.Common.{◌≡◌, ◌≢◌, ℕ, ◌+◌, ◌*◌, ◌%◌, ◌≤◌, Bool, true, false, eqb, List, [], ◌∷◌, length, get_or, set, Option, Some, refl, ap, sym, ◌∙◌, subst, inl, inr, ⊎_elim, arith}
 use mathlib.Core.Option.{some, none, some-injective, some-ne-none}
 use mathlib.Core.Option as maybe
 use mathlib.Core.List.{IsPrefix}
 use lib.ListN.{get_elem?}
 use prog.Atomic.{either}
-use Rattle.atomic_table.specs.Table.{State, Me, Act, keeps, takes, gives, step, Valid, homes_after, carried_after, Allows, Splits, Joins, opening, Final, Seen}
-use Rattle.atomic_table.proofs.Lists.{at_set, set_else, at_longer, at_last, at_snoc, exchanged}
-use Rattle.entry_lists.specs.Entries.{made_by, AllBy, GoesOn}
+use Rattle.atomic_table.specs.Table.{State, Me, Act, keeps, takes, gives, step, Valid, homes_after, carried_after, Allows}
+use Rattle.atomic_table.proofs.Lists.{at_set, exchanged}
+use Rattle.entry_lists.specs.Entries.{made_by, GoesOn}
 use Rattle.entry_lists.proofs.Prefixes.{prefix_self, prefix_trans, prefix_length}
 use Rattle.entry_lists.proofs.Makers.{goes_on_other, goes_on_prefix}
-use Rattle.turn_cell.specs.declared.view.Known.{Known}
 use Rattle.turn_cell.specs.declared.view.View.{View}
-use Rattle.turn_cell.specs.Views.{Fits, newcomer, starting, gone_view, giving, given_out, keeping, looked_view, lost_view, holding_view, giving_view}
-use Rattle.turn_cell.specs.Rule.{AtHome, Away, IsChief, Kept, Ruled}
+use Rattle.turn_cell.specs.Views.{Fits, looked_view, lost_view, holding_view, giving_view}
+use Rattle.turn_cell.specs.Rule.{AtHome, Away, Kept, Ruled}
 use Rattle.turn_cell.specs.Steps.{looked, Took, grabbed, gave}
-use Rattle.turn_cell.proofs.Places.{set_at, at_end, Alike, Places, place_stays, renew}
+use Rattle.turn_cell.proofs.Places.{set_at, Alike, Places, place_stays, renew}
 
 module _ {X E B : Type 0} (log : X → List E) (maker : E → ℕ) (base : X → B) (fixed : B) where
   abbrev V : Type 0
@@ -40,7 +39,7 @@ module _ {X E B : Type 0} (log : X → List E) (maker : E → ℕ) (base : X →
       → Allows Rule slots id me 0 f then
   allows slots id me f then each s r deep at small =
       subst (λ hs. Goes id me.0 me.1 f then s.words hs s.views) (sym r.homes)
-          (subst (λ ws. Goes id me.0 me.1 f then ws (r.home ∷ []) s.views) (sym r.words) (each r.word r.home s.views r.kept at))
+      (subst (λ ws. Goes id me.0 me.1 f then ws (r.home ∷ []) s.views) (sym r.words) (each r.word r.home s.views r.kept at))
 
   -- the word is no less than twice what any view has seen
   seen_within : (n : ℕ) (h : maybe.Option (Option X)) (vs : List (View E B)) (k : K n h vs) (id : ℕ) (v : View E B) → get_elem? vs id ≡ some v → v.spent ≡ false

@@ -1,5 +1,5 @@
 -- For crates above: what a pass keeps over several calls.
-use Rattle.std.proofs.Common.{◌≡◌, ◌≢◌, ◌<◌, ℕ, zero, suc, false, List, [], ◌∷◌, ◌++◌, length, set, slice_index_or, refl, Some, ap, sym, ◌∙◌, subst, ⊎_elim, arith, length-set, length-append}
+use Rattle.std.proofs.Common.{◌≡◌, ◌≢◌, ◌<◌, ℕ, zero, suc, false, List, [], ◌∷◌, ◌++◌, length, set, slice_index_or, refl, ap, sym, ◌∙◌, subst, ⊎_elim, arith, length-set, length-append}
 use Rattle.std.specs.List.{remove}
 use mathlib.Core.Option.{some, some-injective, some-ne-none}
 use lib.ListN.{get_elem?}

@@ -1,5 +1,5 @@
 -- One seat's view changes: what stays of the rule, whatever step changed it.
-use Rattle.std.proofs.Common.{◌≡◌, ◌≢◌, ◌⊎◌, ℕ, zero, suc, ◌+◌, ◌*◌, ◌<◌, ◌≤◌, Bool, true, false, List, [], ◌∷◌, ◌++◌, length, set, Option, Some, refl, ap, sym, ◌∙◌, subst, inl, inr, ⊎_elim, arith}
+use Rattle.std.proofs.Common.{◌≡◌, ◌≢◌, ◌⊎◌, ℕ, zero, suc, ◌≤◌, true, false, List, [], ◌∷◌, ◌++◌, length, set, Option, refl, ap, sym, ◌∙◌, subst, inl, inr, ⊎_elim, arith}
 use mathlib.Core.Option.{some, some-injective, some-ne-none}
 use mathlib.Core.Option as maybe
 use mathlib.Core.Logic.{dite}
@@ -131,16 +131,16 @@ module _ {X E B : Type 0} (log : X → List E) (maker : E → ℕ) (base : X →
     pub chief_after : Alike v w → (c : View E B) × (get_elem? (set vs id w) 0 ≡ some c) × IsChief k.given k.ended c
     chief_after same = dite (ℕ_discrete id 0)
         (λ z. let at0 : get_elem? vs 0 ≡ some v = subst (λ i. get_elem? vs i ≡ some v) z at in
-            let is : v ≡ k.chief = some-injective v k.chief (sym at0 ∙ k.first) in (
-              w,
-              subst (λ i. get_elem? (set vs i w) 0 ≡ some w) (sym z) (set_at vs 0 w v at0),
-              record {
-                lives = same.after;
-                zero = same.number ∙ (ap (λ (z : View E B). z.known.number) is ∙ k.chief_is.zero);
-                counts = same.given ∙ (ap (λ (z : View E B). z.given) is ∙ k.chief_is.counts);
-                keeps = same.ended ∙ (ap (λ (z : View E B). z.ended) is ∙ k.chief_is.keeps);
-              },
-            ))
+        let is : v ≡ k.chief = some-injective v k.chief (sym at0 ∙ k.first) in (
+          w,
+          subst (λ i. get_elem? (set vs i w) 0 ≡ some w) (sym z) (set_at vs 0 w v at0),
+          record {
+            lives = same.after;
+            zero = same.number ∙ (ap (λ (z : View E B). z.known.number) is ∙ k.chief_is.zero);
+            counts = same.given ∙ (ap (λ (z : View E B). z.given) is ∙ k.chief_is.counts);
+            keeps = same.ended ∙ (ap (λ (z : View E B). z.ended) is ∙ k.chief_is.keeps);
+          },
+        ))
         (λ nz. (k.chief, set_else vs id 0 w (λ e. nz (sym e)) ∙ k.first, k.chief_is))
 
     -- the seat has a new view, and the log may have grown by entries of its number

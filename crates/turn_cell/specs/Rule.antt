@@ -1,6 +1,6 @@
 -- What holds between any two steps, of the word, of the slot and of the views of all seats.
 -- The word is twice the log's length, and one more while the lock is held. While it is even the value is at home, in the slot; while it is odd the value is with one seat.
-use Rattle.std.specs.Prelude.{◌≡◌, ◌≢◌, ◌⊎◌, ℕ, ◌+◌, ◌*◌, ◌<◌, ◌≤◌, true, false, List, [], ◌∷◌, length, Option, Some}
+use Rattle.std.specs.Prelude.{◌≡◌, ◌≢◌, ◌⊎◌, ℕ, ◌+◌, ◌*◌, ◌≤◌, true, false, List, [], ◌∷◌, length, Option, Some}
 use mathlib.Core.Option.{some}
 use mathlib.Core.Option as maybe
 use lib.ListN.{get_elem?}
@@ -48,16 +48,13 @@ module _ {X E B : Type 0} (log : X → List E) (maker : E → ℕ) (base : X →
     pub chief : View E B
     pub first : get_elem? views 0 ≡ some chief
     pub chief_is : IsChief given ended chief
-
     -- each view has the base and fits the log, and no two have one number
     pub based : (seat : ℕ) (v : View E B) → get_elem? views seat ≡ some v → v.spent ≡ false → v.base ≡ Some fixed
     pub fits : (seat : ℕ) (v : View E B) → get_elem? views seat ≡ some v → v.spent ≡ false → Fits maker whole given v.known
     pub apart : (i j : ℕ) (u v : View E B) → get_elem? views i ≡ some u → get_elem? views j ≡ some v → u.spent ≡ false → v.spent ≡ false → u.known.number ≡ v.known.number → i ≡ j
-
     -- what the ended numbers knew fits too, and no view has their numbers
     pub past : (i : ℕ) (p : Known E) → get_elem? ended i ≡ some p → Fits maker whole given p
     pub gone : (seat : ℕ) (v : View E B) → get_elem? views seat ≡ some v → v.spent ≡ false → (i : ℕ) (p : Known E) → get_elem? ended i ≡ some p → v.known.number ≢ p.number
-
     -- a number that isn't given out has no entry
     pub strangers : (number : ℕ) → given ≤ number → made_by maker number whole ≡ []
     pub place : AtHome whole word home views ⊎ Away whole word views

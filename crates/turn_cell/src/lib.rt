@@ -8,8 +8,6 @@ pub mod held;
 pub mod logged;
 pub mod pass;
 mod rule;
-
-
 #[cfg(test)]
 mod tests;
 pub mod turn;

@@ -6,8 +6,8 @@ mod sums;
 mod threads;
 
 use crate::{Busy, Pass, Turn};
-use std::process::Abort;
 use std::alloc::Global;
+use std::process::Abort;
 use std::test::Fail;
 use sums::Sums;
 use threads::crew;
@@ -25,7 +25,12 @@ fn opened(rt: &impl Abort, alloc: Global, n: u32) -> (Turn<Sums>, Vec<Pass<Sums>
 }
 
 // The pass k adds a number.
-fn add_as(turn: &Turn<Sums>, passes: &mut Vec<Pass<Sums>>, k: usize, number: u64) -> Result<bool, Busy>
+fn add_as(
+    turn: &Turn<Sums>,
+    passes: &mut Vec<Pass<Sums>>,
+    k: usize,
+    number: u64,
+) -> Result<bool, Busy>
     requires { AreAll turn.now (IsIdle turn.now) passes.old.items × (k < vec_len passes.old) }
     ensures all { AreAll turn.now (IsIdle turn.now) passes.new.items }
     ensures count { vec_len passes.new ≡ vec_len passes.old }
@@ -79,18 +84,27 @@ fn a_held_lock_is_busy_and_its_word_counts_the_entries(rt: HostRuntime) -> Resul
 
     let held = turn.take(&rt, &mut first);
     assert!(rt; first.holds() && !second.holds());
-    assert_eq!(rt; refusal(&turn, &mut second), Some(Busy { loaded: 1, word: 1 }));
+    assert_eq!(rt;
+        refusal(&turn, &mut second),
+        Some(Busy { loaded: 1, word: 1 })
+    );
     turn.give(&mut first, held);
 
     // Nothing was added, so the word is as before.
     let mut held = turn.take(&rt, &mut first);
-    assert_eq!(rt; refusal(&turn, &mut second), Some(Busy { loaded: 1, word: 1 }));
+    assert_eq!(rt;
+        refusal(&turn, &mut second),
+        Some(Busy { loaded: 1, word: 1 })
+    );
     assert!(rt; held.value().add(0, 7));
     turn.give(&mut first, held);
 
     // One entry was added: the word was 2, and is 3 while the second pass holds.
     let held = turn.take(&rt, &mut second);
-    assert_eq!(rt; refusal(&turn, &mut first), Some(Busy { loaded: 3, word: 3 }));
+    assert_eq!(rt;
+        refusal(&turn, &mut first),
+        Some(Busy { loaded: 3, word: 3 })
+    );
     turn.give(&mut second, held);
     assert!(rt; !first.holds() && !second.holds());
     Ok(())

@@ -25,10 +25,13 @@ impl Model for Sums {
 
 impl Logged for Sums {
     type Entry = (u32, u64);
+
     type Base = ();
 
     ghost log = { λ s. s };
+
     ghost maker = { λ e. e.0 };
+
     ghost base = { λ _. tt };
 
     fn log_len(&self) -> u64 {

@@ -78,11 +78,7 @@ impl<T: Logged> Turn<T> {
 
     /// A lock over this value, whose log is empty, and its `n` passes in the order of their numbers, which
     /// begin with 0. There are 1 to 64. Where memory is wanting, the value comes back.
-    pub fn with(
-        alloc: Global,
-        value: T,
-        n: u32,
-    ) -> Result<(Turn<T>, Vec<Pass<T>>), (T, AllocError)>
+    pub fn with(alloc: Global, value: T, n: u32) -> Result<(Turn<T>, Vec<Pass<T>>), (T, AllocError)>
         requires count { (0 < n) × (n ≤ 64) }
         requires empty { T.log value ≡ [] }
         ensures turn { IfOk result (λ made. (made.0.count ≡ n) × (made.0.base ≡ T.base value)) }

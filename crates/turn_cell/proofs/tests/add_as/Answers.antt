@@ -1,4 +1,4 @@
-use Rattle.std.proofs.Common.{◌≡◌, ◌<◌, length, arith, ◌∙◌}
+use Rattle.std.proofs.Common.{◌<◌, length, arith, ◌∙◌}
 use Rattle.atomic_table.proofs.Lists.{at_index}
 use Rattle.turn_cell.proofs.Calls.{same_trans}
 use Rattle.turn_cell.proofs.Passes.{one_moved}

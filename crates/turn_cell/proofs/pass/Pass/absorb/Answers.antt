@@ -1,4 +1,4 @@
-use Rattle.std.proofs.Common.{◌≡◌, false, ap, sym, ◌∙◌}
+use Rattle.std.proofs.Common.{ap, sym, ◌∙◌}
 use Rattle.turn_cell.specs.Passes.{Stand, carried}
 use Rattle.turn_cell.proofs.Counting.{joins}
 use Rattle.turn_cell.proofs.pass.Pass.absorb.Goals as goal

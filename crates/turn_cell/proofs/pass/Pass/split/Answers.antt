@@ -1,4 +1,4 @@
-use Rattle.std.proofs.Common.{◌≡◌, false, ap, ◌∙◌}
+use Rattle.std.proofs.Common.{ap, ◌∙◌}
 use Rattle.turn_cell.specs.Passes.{Stand}
 use Rattle.turn_cell.proofs.Counting.{splits}
 use Rattle.turn_cell.proofs.pass.Pass.split.Goals as goal

@@ -1,5 +1,5 @@
-use Rattle.std.proofs.Common.{rules, ◌≡◌, ℕ, ◌+◌, ◌*◌, ◌<◌, length, List, [], ◌∷◌, ◌++◌, ap, sym, ◌∙◌, subst, arith, length-append}
-use Rattle.turn_cell.specs.Passes.{Stand, IsSame, AreBack}
+use Rattle.std.proofs.Common.{rules, ℕ, length, List, [], ◌∷◌, ◌++◌, ap, sym, subst, arith, length-append}
+use Rattle.turn_cell.specs.Passes.{Stand, AreBack}
 use Rattle.turn_cell.specs.Helpers.{AreFree}
 use Rattle.turn_cell.proofs.Closing.{fewer_free, last_free}
 use Rattle.turn_cell.proofs.Passes.{one_more_back}
@@ -18,4 +18,4 @@ returns-clause-back g t c =
     let second = c.join-all.ensures.second in
     let back = one_more_back c.pop.new.self.items c.join-all.result.0.items c.in-Some.pass c.join-all.result.1 first.0 second.0 second.1 in
     subst (λ (ps : List (Stand (ℕ × ℕ) (Unit {0}))). AreBack ps c.push_reserved.new.self.items) (sym c.in-Some.ensures.items)
-        (subst (λ (qs : List (Stand (ℕ × ℕ) (Unit {0}))). AreBack (c.pop.new.self.items ++ c.in-Some.pass ∷ []) qs) (sym c.push_reserved.ensures.items) back)
+    (subst (λ (qs : List (Stand (ℕ × ℕ) (Unit {0}))). AreBack (c.pop.new.self.items ++ c.in-Some.pass ∷ []) qs) (sym c.push_reserved.ensures.items) back)

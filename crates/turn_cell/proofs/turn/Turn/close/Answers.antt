@@ -1,8 +1,7 @@
-use Rattle.std.proofs.Common.{◌≡◌, ◌<◌, ℕ, false, List, ◌∷◌, length, vec_len, Option, Some, ap, sym, ◌∙◌, subst, arith}
+use Rattle.std.proofs.Common.{◌≡◌, ◌<◌, List, ◌∷◌, length, Some, ap, sym, ◌∙◌, subst, arith}
 use Rattle.std.specs.Slots.{slots_items}
 use mathlib.Core.Option.{some, some-injective}
-use Rattle.turn_cell.specs.declared.view.View.{View}
-use Rattle.turn_cell.specs.Passes.{Ring, Stand, IsIdle, AreAll, AllFit}
+use Rattle.turn_cell.specs.Passes.{Ring, Stand, AllFit}
 use Rattle.turn_cell.proofs.Closing.{split_first, parts_all, first_idle, others_free, closed_fit}
 use Rattle.turn_cell.proofs.turn.Turn.close.Goals as goal
 
@@ -65,24 +64,24 @@ unreachable-requires g c =
     let seat = c.into_seat.result in
     let closed = c.close_with-closed.result in
     let found = closed_fit
-        L.log
-        L.maker
-        L.base
-        (L.base c.self.inside.table.shared.key.value)
-        c.args.self
-        first
-        others
-        all
-        c.gather.new.first
-        c.gather.ensures.first
-        c.gather.ensures.ended
-        seat.id
-        seat.me.0
-        (ap (λ (z : Stand g.row.T-Entry.Denot g.row.T-Base.Denot). z.view) c.into_seat.ensures.0)
-        c.into_seat.ensures.1.lives
-        (slots_items closed.words)
-        (slots_items closed.slots)
-        c.close_with-closed.ensures.values.2 in
+    L.log
+    L.maker
+    L.base
+    (L.base c.self.inside.table.shared.key.value)
+    c.args.self
+    first
+    others
+    all
+    c.gather.new.first
+    c.gather.ensures.first
+    c.gather.ensures.ended
+    seat.id
+    seat.me.0
+    (ap (λ (z : Stand g.row.T-Entry.Denot g.row.T-Base.Denot). z.view) c.into_seat.ensures.0)
+    c.into_seat.ensures.1.lives
+    (slots_items closed.words)
+    (slots_items closed.slots)
+    c.close_with-closed.ensures.values.2 in
     c.in_default.not-Some found.0 (some-injective c.take-slot.result (Some found.0) (sym c.take-slot.ensures.value ∙ found.1))
 
 pub returns : goal.returns
@@ -97,24 +96,24 @@ returns g c =
     let seat = c.into_seat.result in
     let closed = c.close_with-closed.result in
     let found = closed_fit
-        L.log
-        L.maker
-        L.base
-        (L.base c.self.inside.table.shared.key.value)
-        c.args.self
-        first
-        others
-        all
-        c.gather.new.first
-        c.gather.ensures.first
-        c.gather.ensures.ended
-        seat.id
-        seat.me.0
-        (ap (λ (z : Stand g.row.T-Entry.Denot g.row.T-Base.Denot). z.view) c.into_seat.ensures.0)
-        c.into_seat.ensures.1.lives
-        (slots_items closed.words)
-        (slots_items closed.slots)
-        c.close_with-closed.ensures.values.2 in
+    L.log
+    L.maker
+    L.base
+    (L.base c.self.inside.table.shared.key.value)
+    c.args.self
+    first
+    others
+    all
+    c.gather.new.first
+    c.gather.ensures.first
+    c.gather.ensures.ended
+    seat.id
+    seat.me.0
+    (ap (λ (z : Stand g.row.T-Entry.Denot g.row.T-Base.Denot). z.view) c.into_seat.ensures.0)
+    c.into_seat.ensures.1.lives
+    (slots_items closed.words)
+    (slots_items closed.slots)
+    c.close_with-closed.ensures.values.2 in
     let slot : Some found.0 ≡ Some c.in-Some.value = some-injective (Some found.0) (Some c.in-Some.value) (sym found.1 ∙ (c.take-slot.ensures.value ∙ ap some c.in-Some.is)) in
     let same : found.0 ≡ c.in-Some.value = cc in record {
       fits = subst (λ (ps : List (Stand g.row.T-Entry.Denot g.row.T-Base.Denot)). AllFit L.log L.maker L.base ps c.in-Some.value) (sym parts)

@@ -1,4 +1,4 @@
-use Rattle.std.proofs.Common.{◌≡◌, ◌+◌, ◌*◌, ◌<◌, ℕ, List, [], ◌∷◌, length, Option, Some, true, ap, sym, refl, ◌∙◌, subst, arith}
+use Rattle.std.proofs.Common.{◌≡◌, ◌*◌, ℕ, List, ◌∷◌, Option, Some, ap, sym, ◌∙◌, subst, arith}
 use Rattle.atomic_table.specs.Table.{Me, rest}
 use Rattle.entry_lists.specs.Entries.{made_by, GoesOn}
 use Rattle.turn_cell.specs.declared.view.View.{View}
@@ -25,7 +25,7 @@ store-requires g c =
     let out = ap (λ (m : Me (Option g.row.T.Denot) (View g.row.T-Entry.Denot g.row.T-Base.Denot)). m.1) told.3 ∙ ap (λ (l : List (ℕ × Option g.row.T.Denot)). (0, Some x) ∷ rest l) slots in
     let now = kept ∙ view in
     let goes = subst (λ (v : View g.row.T-Entry.Denot g.row.T-Base.Denot). GoesOn L.maker v.known.number v.known.seen (L.log x)) (sym now)
-        (subst (λ (y : g.row.T.Denot). GoesOn L.maker c.args.pass.now.view.known.number c.args.pass.now.view.known.seen (L.log y)) (sym c.held.view_is) c.requires.log) in (
+    (subst (λ (y : g.row.T.Denot). GoesOn L.maker c.args.pass.now.view.known.number c.args.pass.now.view.known.seen (L.log y)) (sym c.held.view_is) c.requires.log) in (
       told.0 ∙ (of ∙ (c.requires.own ∙ sym table)),
       omega arith,
       leaves

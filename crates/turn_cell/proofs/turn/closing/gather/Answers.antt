@@ -1,4 +1,4 @@
-use Rattle.std.proofs.Common.{◌≡◌, List, ◌∷◌, ◌++◌, ap, sym, ◌∙◌, subst}
+use Rattle.std.proofs.Common.{List, ap, sym, ◌∙◌, subst}
 use Rattle.turn_cell.specs.Passes.{Stand}
 use Rattle.turn_cell.specs.Helpers.{AreFree}
 use Rattle.turn_cell.proofs.Closing.{AreTaken, one_taken, fewer_free, last_free, kept_more}

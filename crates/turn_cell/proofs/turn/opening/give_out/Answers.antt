@@ -1,6 +1,5 @@
-use Rattle.std.proofs.Common.{◌≡◌, ℕ, ◌+◌, List, length, ap, sym, ◌∙◌, subst, arith}
-use Rattle.turn_cell.specs.declared.view.View.{View}
-use Rattle.turn_cell.specs.Views.{giving, given_out, newcomer}
+use Rattle.std.proofs.Common.{◌≡◌, ◌+◌, List, length, ap, sym, ◌∙◌, subst, arith}
+use Rattle.turn_cell.specs.Views.{giving, given_out}
 use Rattle.turn_cell.specs.Passes.{Stand}
 use Rattle.turn_cell.specs.Helpers.{AreNewcomers}
 use Rattle.turn_cell.proofs.Calls.{newcomers_more}

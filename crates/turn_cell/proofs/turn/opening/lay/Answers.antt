@@ -1,4 +1,4 @@
-use Rattle.std.proofs.Common.{◌≡◌, List, [], ◌∷◌, ◌++◌, Option, Some, ap, sym, ◌∙◌, subst}
+use Rattle.std.proofs.Common.{List, [], ◌∷◌, ◌++◌, Option, Some, ap, sym, ◌∙◌, subst}
 use Rattle.atomic_table.specs.Table.{opening}
 use Rattle.turn_cell.specs.Views.{starting}
 use Rattle.turn_cell.specs.Rule.{Ruled}
@@ -11,4 +11,4 @@ new-requires g c =
     let fixed = L.base c.of-key.result.value in
     let items = c.push_reserved.ensures.items ∙ ap (λ (l : List (Option g.row.T.Denot)). l ++ Some c.args.value ∷ []) c.in-Ok.ensures.items in
     subst (λ (xs : List (Option g.row.T.Denot)). Ruled L.log L.maker L.base fixed (opening (0 ∷ []) xs (starting fixed))) (sym items)
-        (opens L.log L.maker L.base fixed c.args.value c.requires (ap L.base (sym c.of-key.ensures)))
+    (opens L.log L.maker L.base fixed c.args.value c.requires (ap L.base (sym c.of-key.ensures)))
