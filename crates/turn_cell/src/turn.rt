@@ -46,6 +46,7 @@ impl<T: Logged> Turn<T> {
         requires idle { pass.old.view.holds ≡ false }
         ensures taken { IfOk result (λ held. HasTaken T.log T.maker T.base pass.old pass.new held) }
         ensures busy { IfErr result (λ b. TurnedAway pass.old pass.new b.loaded b.word) }
+        ensures one_look { pass.new.view.looks ≡ pass.old.view.looks + 1 }
     {
         let shared = &self.table.shared;
         let loaded = shared.load::<Look>(&mut pass.seat, 0);
