@@ -9,7 +9,7 @@ use std::marker::Model;
 /// The items of an answer, in order.
 #[derive(Clone, Debug, Drop)]
 pub struct Outs {
-    elements: Vec<Out>,
+    outs: Vec<Out>,
 }
 
 impl Model for Outs {
@@ -18,7 +18,7 @@ impl Model for Outs {
 
     ghost Value = { List Out };
 
-    ghost view = { λ l. l.elements.items };
+    ghost view = { λ l. l.outs.items };
 }
 
 impl Outs {
@@ -27,7 +27,7 @@ impl Outs {
         ensures { result ≡ [] }
     {
         Outs {
-            elements: Vec::new(alloc),
+            outs: Vec::new(alloc),
         }
     }
 
@@ -36,7 +36,7 @@ impl Outs {
         ensures ok { OnOk result (self.new ≡ self.old ++ item ∷ []) }
         ensures err { OnErr result (self.new ≡ self.old) }
     {
-        self.elements.push(item)?;
+        self.outs.push(item)?;
         Ok(())
     }
 
@@ -44,20 +44,20 @@ impl Outs {
     pub fn as_slice(&self) -> &[Out]
         ensures { result.now ≡ self.now }
     {
-        self.elements.as_slice()
+        self.outs.as_slice()
     }
 }
 
 /// The numbers of a state, in order.
 #[derive(Clone, Debug, Drop)]
 pub struct Words {
-    elements: Vec<u64>,
+    words: Vec<u64>,
 }
 
 impl Model for Words {
     ghost Value = { List ℕ };
 
-    ghost view = { λ l. l.elements.items };
+    ghost view = { λ l. l.words.items };
 }
 
 impl Words {
@@ -66,7 +66,7 @@ impl Words {
         ensures { result ≡ [] }
     {
         Words {
-            elements: Vec::new(alloc),
+            words: Vec::new(alloc),
         }
     }
 
@@ -75,7 +75,7 @@ impl Words {
         ensures ok { OnOk result (self.new ≡ self.old ++ item ∷ []) }
         ensures err { OnErr result (self.new ≡ self.old) }
     {
-        self.elements.push(item)?;
+        self.words.push(item)?;
         Ok(())
     }
 
@@ -83,20 +83,20 @@ impl Words {
     pub fn as_slice(&self) -> &[u64]
         ensures { result.now ≡ self.now }
     {
-        self.elements.as_slice()
+        self.words.as_slice()
     }
 }
 
 /// The texts of a state, in order.
 #[derive(Clone, Debug, Drop)]
 pub struct Parts {
-    elements: Vec<Bytes>,
+    parts: Vec<Bytes>,
 }
 
 impl Model for Parts {
     ghost Value = { List (List ℕ) };
 
-    ghost view = { λ l. l.elements.items };
+    ghost view = { λ l. l.parts.items };
 }
 
 impl Parts {
@@ -105,7 +105,7 @@ impl Parts {
         ensures { result ≡ [] }
     {
         Parts {
-            elements: Vec::new(alloc),
+            parts: Vec::new(alloc),
         }
     }
 
@@ -114,7 +114,7 @@ impl Parts {
         ensures ok { OnOk result (self.new ≡ self.old ++ item ∷ []) }
         ensures err { OnErr result (self.new ≡ self.old) }
     {
-        self.elements.push(item)?;
+        self.parts.push(item)?;
         Ok(())
     }
 
@@ -122,6 +122,6 @@ impl Parts {
     pub fn as_slice(&self) -> &[Bytes]
         ensures { result.now ≡ self.now }
     {
-        self.elements.as_slice()
+        self.parts.as_slice()
     }
 }
