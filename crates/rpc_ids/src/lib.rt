@@ -1,0 +1,6 @@
+//! Stub.
+#![tactic(auto)]
+
+mod status;
+
+pub use status::Status;

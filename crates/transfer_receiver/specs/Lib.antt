@@ -1,0 +1,4 @@
+pub mod Phase
+pub mod Receiver
+pub mod PieceRules
+pub mod TickRules

@@ -1,0 +1,221 @@
+ghost use Rattle.std.specs.Prelude.{◌≡◌, ◌+◌, ◌*◌, ◌<◌, ◌≤◌, false, length};
+ghost use Rattle.transfer_receiver.specs.Phase.{is_ended};
+ghost use Rattle.transfer_receiver.specs.Receiver.{new_receiver, first_ask, ask_of, asking, span_of_ask};
+ghost use Rattle.transfer_receiver.specs.PieceRules.{piece_outcome, active_at, asking_again, taking, going_on, is_half_used, keeping, ending};
+ghost use Rattle.transfer_receiver.specs.TickRules.{tick_outcome, resending_ask, resending_end, acknowledged};
+
+use crate::answers::{Received, Ticked};
+use crate::phase::Phase;
+use rpc_ids::Status;
+use std::marker::Model;
+use transfer_chunk::{Ask, MAX_RESOURCE, TIMEOUT, Tuning};
+
+/// How often in a row a receiver sends its parameters or its end again, before it gives up.
+pub const MAX_RESENDS: u8 = 3;
+
+/// The receiving end of one transfer.
+#[derive(Clone, Copy, Debug)]
+pub struct ReceiverCore {
+    next: u64,
+    window_end: u64,
+    span: u32,
+    chunk: u32,
+    phase: Phase,
+    active: u64,
+    resends: u8,
+}
+
+impl Model for ReceiverCore {
+    ghost use Rattle.transfer_receiver.specs.Receiver.{Receiver, IsReceiver};
+
+    ghost Value = { Receiver };
+
+    ghost view = { λ r. record { next = r.next; window_end = r.window_end; span = r.span; chunk = r.chunk; phase = r.phase; active = r.active; resends = r.resends } };
+
+    ghost invariant = { λ r. IsReceiver (record { next = r.next; window_end = r.window_end; span = r.span; chunk = r.chunk; phase = r.phase; active = r.active; resends = r.resends }) };
+
+    ghost inverse = { λ r. record { next = r.next; window_end = r.window_end; span = r.span; chunk = r.chunk; phase = r.phase; active = r.active; resends = r.resends } };
+}
+
+impl ReceiverCore {
+    /// A receiver of all from `offset` on, in bytes, made at the moment `now`, in milliseconds.
+    pub fn new(offset: u64, tuning: Tuning, now: u64) -> ReceiverCore
+        requires { offset ≤ MAX_RESOURCE }
+        ensures { result ≡ new_receiver offset tuning.window tuning.chunk now }
+    {
+        ReceiverCore {
+            next: offset,
+            window_end: offset + u64::from(tuning.window) * u64::from(tuning.chunk),
+            span: tuning.window,
+            chunk: tuning.chunk,
+            phase: Phase::Receiving,
+            active: now,
+            resends: 0,
+        }
+    }
+
+    /// The first parameters, which open the data phase.
+    pub fn first(&self) -> Ask
+        ensures { result ≡ first_ask self.now }
+    {
+        Ask {
+            again: true,
+            offset: self.next,
+            window_end: self.next + u64::from(self.span) * u64::from(self.chunk),
+            max_chunk: self.chunk,
+        }
+    }
+
+    /// Takes a piece that came at the moment `now`. Only what is `Kept`, or `Ends` with `Okay`, is to
+    /// be appended to what was kept before.
+    pub fn piece(&mut self, offset: u64, bytes: &[u8], last: bool, now: u64) -> Received
+        requires { is_ended self.old.phase ≡ false }
+        ensures after { self.new ≡ (piece_outcome (active_at now self.old) offset (length bytes.now) last).after }
+        ensures answer { result ≡ (piece_outcome (active_at now self.old) offset (length bytes.now) last).answer }
+    {
+        self.active = now;
+        if !self.phase.is_open() || offset < self.next {
+            return Received::Ignored;
+        }
+        if bytes.is_empty() && !last {
+            return Received::Ignored;
+        }
+        if self.next < offset {
+            return self.ask_for_lost();
+        }
+        self.take(offset + bytes.len() as u64, last)
+    }
+
+    /// Tells the receiver the time. A call before a timeout changes nothing.
+    pub fn tick(&mut self, now: u64) -> Ticked
+        requires { is_ended self.old.phase ≡ false }
+        ensures after { self.new ≡ (tick_outcome self.old now).after }
+        ensures answer { result ≡ (tick_outcome self.old now).answer }
+    {
+        if now.saturating_sub(self.active) < TIMEOUT {
+            return Ticked::Quiet;
+        }
+        self.active = now;
+        match self.phase {
+            Phase::Receiving | Phase::Recovering => self.resend_ask(),
+            Phase::Completing(status) => self.resend_end(status),
+            Phase::Ended => Ticked::Quiet,
+        }
+    }
+
+    /// Tells the receiver that the sender has acknowledged its end.
+    pub fn ack(&mut self)
+        ensures { self.new ≡ acknowledged self.old }
+    {
+        if let Phase::Completing(_) = self.phase {
+            self.phase = Phase::Ended;
+        }
+    }
+
+    /// Whether the transfer is over, so that nothing more is to be handed in.
+    pub fn ended(&self) -> bool
+        ensures { result ≡ is_ended self.now.phase }
+    {
+        self.phase.is_ended()
+    }
+
+    fn span_of_ask(&self, _again: bool) -> u32
+        ensures value { result ≡ span_of_ask _again self.now }
+        ensures low { 1 ≤ result }
+        ensures high { result ≤ 64 }
+    {
+        self.span
+    }
+
+    fn ask(&mut self, again: bool) -> Ask
+        ensures after { self.new ≡ asking again self.old }
+        ensures value { result ≡ ask_of again (asking again self.old) }
+    {
+        self.span = self.span_of_ask(again);
+        self.window_end = self.next + u64::from(self.span) * u64::from(self.chunk);
+        Ask {
+            again,
+            offset: self.next,
+            window_end: self.window_end,
+            max_chunk: self.chunk,
+        }
+    }
+
+    fn ask_for_lost(&mut self) -> Received
+        ensures after { self.new ≡ (asking_again self.old).after }
+        ensures answer { result ≡ (asking_again self.old).answer }
+    {
+        if self.phase.is_recovering() {
+            return Received::Ignored;
+        }
+        let ask = self.ask(true);
+        self.phase = Phase::Recovering;
+        Received::Again(ask)
+    }
+
+    fn take(&mut self, end: u64, last: bool) -> Received
+        requires { self.old.next ≤ end }
+        ensures after { self.new ≡ (taking self.old end last).after }
+        ensures answer { result ≡ (taking self.old end last).answer }
+    {
+        if self.window_end < end {
+            return self.end(Status::Internal);
+        }
+        if MAX_RESOURCE < end {
+            return self.end(Status::OutOfRange);
+        }
+        self.next = end;
+        self.phase = Phase::Receiving;
+        self.resends = 0;
+        if last {
+            return self.end(Status::Okay);
+        }
+        self.go_on()
+    }
+
+    fn go_on(&mut self) -> Received
+        ensures after { self.new ≡ (going_on self.old).after }
+        ensures answer { result ≡ (going_on self.old).answer }
+    {
+        let rest = self.window_end - self.next;
+        if 2 * rest <= u64::from(self.span) * u64::from(self.chunk) {
+            let ask = self.ask(false);
+            return Received::Kept(Some(ask));
+        }
+        Received::Kept(None)
+    }
+
+    fn end(&mut self, status: Status) -> Received
+        ensures after { self.new ≡ (ending self.old status).after }
+        ensures answer { result ≡ (ending self.old status).answer }
+    {
+        self.phase = Phase::Completing(status);
+        self.resends = 0;
+        Received::Ends(status)
+    }
+
+    fn resend_ask(&mut self) -> Ticked
+        ensures after { self.new ≡ (resending_ask self.old).after }
+        ensures answer { result ≡ (resending_ask self.old).answer }
+    {
+        if self.resends < MAX_RESENDS {
+            let ask = self.ask(true);
+            self.resends += 1;
+            return Ticked::Resend(ask);
+        }
+        self.phase = Phase::Ended;
+        Ticked::Over(Status::DeadlineExceeded)
+    }
+
+    fn resend_end(&mut self, status: Status) -> Ticked
+        ensures after { self.new ≡ (resending_end self.old status).after }
+        ensures answer { result ≡ (resending_end self.old status).answer }
+    {
+        if self.resends < MAX_RESENDS {
+            self.resends += 1;
+            return Ticked::ResendEnd(status);
+        }
+        self.phase = Phase::Ended;
+        Ticked::Over(status)
+    }
+}

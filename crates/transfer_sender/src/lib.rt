@@ -1,0 +1,12 @@
+//! The sending end of a transfer: which pieces of its resource answer an ask, and when it gives up.
+//! It holds the resource and no clock: asks and moments are handed in, and each answer says what to send.
+//! Enter at [`SenderCore`].
+#![tactic(auto)]
+
+mod cut;
+mod pieces;
+mod sender;
+
+pub use cut::MAX_PIECES;
+pub use pieces::Pieces;
+pub use sender::{MAX_TIMEOUTS, SenderCore};
