@@ -1,6 +1,0 @@
-//! Stub.
-#![tactic(auto)]
-
-mod status;
-
-pub use status::Status;
