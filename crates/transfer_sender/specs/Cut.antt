@@ -1,5 +1,5 @@
 -- How a sender cuts a window of its resource into pieces: what is asked, and how it is computed.
-use Rattle.std.specs.Prelude.{◌≡◌, ℕ, ◌+◌, ◌-◌, ◌<◌, ◌≤◌, ◌==◌, ◌⊎◌, nat_lt, min, List, [], ◌∷◌, length, take, drop, zero, suc, All, if◌then◌else◌}
+use Rattle.std.specs.Prelude.{◌≡◌, ℕ, ◌+◌, ◌-◌, ◌<◌, ◌≤◌, ◌==◌, ◌⊎◌, ◌↔◌, nat_lt, min, List, [], ◌∷◌, length, take, drop, zero, suc, All, if◌then◌else◌}
 use Rattle.transfer_chunk.specs.declared.Piece.{Piece}
 use Rattle.transfer_chunk.specs.PieceLists.{IsPartOf, AreConsecutive, end_of}
 use Rattle.transfer_sender.specs.declared.cut.TheConstants.{MAX_PIECES}
@@ -32,3 +32,9 @@ pieces_up_to resource chunk stop offset (suc most) =
 abbrev pub pieces_of_window : List ℕ → ℕ → ℕ → ℕ → List Piece
 pieces_of_window resource chunk window_end position =
     pieces_up_to resource chunk (min window_end (length resource)) position MAX_PIECES
+
+-- what is computed is what is asked, and nothing else is
+abbrev pub CutIsExact : Type 0
+CutIsExact =
+    (resource : List ℕ) (chunk window_end position : ℕ) (pieces : List Piece) → 1 ≤ chunk →
+    (pieces ≡ pieces_of_window resource chunk window_end position) ↔ IsCut resource chunk window_end position pieces

@@ -4,9 +4,11 @@
 #![tactic(auto)]
 
 mod cut;
+mod laws;
 mod pieces;
 mod sender;
 
 pub use cut::MAX_PIECES;
+pub use laws::cut_is_exact;
 pub use pieces::Pieces;
 pub use sender::{MAX_TIMEOUTS, SenderCore};

@@ -55,6 +55,16 @@ impl SenderCore {
     /// ask goes back to an offset past the resource's end, the sender ends with `OutOfRange`.
     pub fn params(&mut self, alloc: Global, ask: Ask, now: u64) -> Result<Pieces, AllocError>
         requires { self.old.ended ≡ None }
+        // A retransmission is answered from the offset of the ask, and any other ask from the position.
+        ensures again { IfOk result (λ ps. IsTrue ask.again → ask.offset < length self.old.bytes
+            → IsCut self.old.bytes (chunk_size ask.max_chunk) ask.window_end ask.offset ps) }
+        ensures on { IfOk result (λ ps. ask.again ≡ false
+            → IsCut self.old.bytes (chunk_size ask.max_chunk) ask.window_end self.old.position ps) }
+        ensures again_at_end { IfOk result (λ ps. IsTrue ask.again → ask.offset ≡ length self.old.bytes
+            → ps ≡ empty_last_piece self.old.bytes ∷ []) }
+        ensures again_past_end { OnOk result (IsTrue ask.again → length self.old.bytes < ask.offset
+            → self.new.ended ≡ Some Status.OutOfRange) }
+
         ensures pieces { IfOk result (λ ps. ps ≡ (answer_to (touched self.old now) ask).pieces) }
         ensures after { OnOk result (self.new ≡ (answer_to (touched self.old now) ask).after) }
         ensures err { OnErr result (self.new ≡ self.old) }
