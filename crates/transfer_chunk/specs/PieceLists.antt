@@ -1,5 +1,5 @@
 -- Pieces of a resource, and lists of them.
-use Rattle.std.specs.Prelude.{◌≡◌, ℕ, ◌+◌, ◌==◌, List, [], ◌∷◌, ◌++◌, length, take, drop}
+use Rattle.std.specs.Prelude.{◌≡◌, ℕ, ◌+◌, ◌==◌, ◌⊎◌, true, false, List, [], ◌∷◌, ◌++◌, length, take, drop, All}
 use Rattle.transfer_chunk.specs.declared.piece.Piece.{Piece}
 
 -- an honest piece of a resource: it has the resource's bytes at its offset, and is the last one exactly where it ends
@@ -22,3 +22,27 @@ end_of offset (p ∷ ps) = end_of (offset + length p.bytes) ps
 abbrev pub bytes_of : List Piece → List ℕ
 bytes_of [] = []
 bytes_of (p ∷ ps) = p.bytes ++ bytes_of ps
+
+-- these pieces were picked from those, in their order
+abbrev pub IsPickedFrom : List Piece → List Piece → Type 0
+IsPickedFrom [] ps = Unit {0}
+IsPickedFrom (q ∷ qs) [] = ⊥
+IsPickedFrom (q ∷ qs) (p ∷ ps) = ((q ≡ p) × IsPickedFrom qs ps) ⊎ IsPickedFrom (q ∷ qs) ps
+
+-- the last of these pieces says that it is the last, and no other does
+abbrev pub OnlyTheLastEnds : List Piece → Type 0
+OnlyTheLastEnds [] = ⊥
+OnlyTheLastEnds (p ∷ []) = p.last ≡ true
+OnlyTheLastEnds (p ∷ q ∷ ps) = (p.last ≡ false) × OnlyTheLastEnds (q ∷ ps)
+
+-- none of these pieces says that it is the last
+abbrev pub NoneEnds : List Piece → Type 0
+NoneEnds ps = All (λ p. p.last ≡ false) ps
+
+-- some of the pieces that came join, from an offset on, to just these bytes
+pub record Joins (came : List Piece) (offset : ℕ) (bytes : List ℕ) : Type 0 where
+  pub picked : List Piece
+  pub in_order : IsPickedFrom picked came
+  pub consecutive : AreConsecutive offset picked
+  pub last : OnlyTheLastEnds picked
+  pub data_is : bytes ≡ bytes_of picked

@@ -2,3 +2,5 @@ pub mod Phase
 pub mod Receiver
 pub mod PieceRules
 pub mod TickRules
+pub mod Answers
+pub mod Run

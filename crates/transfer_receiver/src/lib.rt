@@ -4,9 +4,11 @@
 #![tactic(auto)]
 
 mod answers;
+mod laws;
 mod phase;
 mod receiver;
 
 pub use answers::{Received, Ticked};
+pub use laws::{keeps_the_resource, kept_pieces_join};
 pub use phase::Phase;
 pub use receiver::{MAX_RESENDS, ReceiverCore};

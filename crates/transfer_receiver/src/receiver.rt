@@ -1,4 +1,5 @@
-ghost use Rattle.std.specs.Prelude.{◌≡◌, ◌+◌, ◌*◌, ◌<◌, ◌≤◌, false, length};
+ghost use Rattle.std.specs.Prelude.{◌≡◌, ◌+◌, ◌*◌, ◌<◌, ◌≤◌, ◌↔◌, IsTrue, true, false, length};
+ghost use Rattle.transfer_receiver.specs.Answers.{is_kept, ends_well, AnyAsk, AnyResend, AsksFromNext};
 ghost use Rattle.transfer_receiver.specs.Phase.{is_ended};
 ghost use Rattle.transfer_receiver.specs.Receiver.{new_receiver, first_ask, ask_of, asking, span_of_ask};
 ghost use Rattle.transfer_receiver.specs.PieceRules.{piece_outcome, active_at, asking_again, taking, going_on, is_half_used, keeping, ending};
@@ -56,7 +57,8 @@ impl ReceiverCore {
 
     /// The first parameters, which open the data phase.
     pub fn first(&self) -> Ask
-        ensures { result ≡ first_ask self.now }
+        ensures ask { AsksFromNext self.now true result }
+        ensures value { result ≡ first_ask self.now }
     {
         Ask {
             again: true,
@@ -70,6 +72,15 @@ impl ReceiverCore {
     /// be appended to what was kept before.
     pub fn piece(&mut self, offset: u64, bytes: &[u8], last: bool, now: u64) -> Received
         requires { is_ended self.old.phase ≡ false }
+
+        // Pieces are kept in order, and the last one that is kept ends the transfer well.
+        ensures in_order { IsTrue (is_kept result) → offset ≡ self.old.next }
+        ensures kept { IsTrue (is_kept result) → self.new.next ≡ offset + length bytes.now }
+        ensures dropped { is_kept result ≡ false → self.new.next ≡ self.old.next }
+        ensures last { IsTrue (ends_well result) ↔ IsTrue (is_kept result) × IsTrue last }
+        ensures resends { IsTrue (is_kept result) → self.new.resends ≡ 0 }
+        ensures ask { AnyAsk (AsksFromNext self.new) result }
+
         ensures after { self.new ≡ (piece_outcome (active_at now self.old) offset (length bytes.now) last).after }
         ensures answer { result ≡ (piece_outcome (active_at now self.old) offset (length bytes.now) last).answer }
     {
@@ -89,6 +100,10 @@ impl ReceiverCore {
     /// Tells the receiver the time. A call before a timeout changes nothing.
     pub fn tick(&mut self, now: u64) -> Ticked
         requires { is_ended self.old.phase ≡ false }
+        ensures early { now < self.old.active + TIMEOUT → self.new ≡ self.old }
+        ensures next { self.new.next ≡ self.old.next }
+        ensures ask { AnyResend (AsksFromNext self.new) result }
+
         ensures after { self.new ≡ (tick_outcome self.old now).after }
         ensures answer { result ≡ (tick_outcome self.old now).answer }
     {
