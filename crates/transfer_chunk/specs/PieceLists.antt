@@ -13,6 +13,11 @@ abbrev pub AreConsecutive : ℕ → List Piece → Type 0
 AreConsecutive offset [] = Unit {0}
 AreConsecutive offset (p ∷ ps) = (p.offset ≡ offset) × AreConsecutive (offset + length p.bytes) ps
 
+-- there are pieces, and the first begins at this offset
+abbrev pub BeginsAt : ℕ → List Piece → Type 0
+BeginsAt offset [] = ⊥
+BeginsAt offset (p ∷ ps) = p.offset ≡ offset
+
 -- where these pieces end, if they are consecutive from an offset on
 abbrev pub end_of : ℕ → List Piece → ℕ
 end_of offset [] = offset

@@ -1,4 +1,5 @@
 ghost use Rattle.std.specs.Prelude.{◌≤◌};
+ghost use Rattle.transfer_chunk.specs.declared.limits.TheConstants.{MAX_CHUNK, MAX_WINDOW};
 
 /// How a receiver asks.
 #[derive(Clone, Copy, Debug, PartialEq, Eq)]
@@ -7,6 +8,6 @@ pub struct Tuning {
     pub window: u32,
     /// The bytes of a chunk, 1 to 1,024.
     pub chunk: u32,
-    ghost window_in_range: { (1 ≤ window) × (window ≤ 64) },
-    ghost chunk_in_range: { (1 ≤ chunk) × (chunk ≤ 1024) },
+    ghost window_in_range: { (1 ≤ window) × (window ≤ MAX_WINDOW) },
+    ghost chunk_in_range: { (1 ≤ chunk) × (chunk ≤ MAX_CHUNK) },
 }

@@ -7,10 +7,10 @@ use Rattle.transfer_receiver.specs.declared.receiver.TheConstants.{MAX_RESENDS}
 use Rattle.transfer_receiver.specs.declared.phase.Phase.{Phase}
 use Rattle.transfer_receiver.specs.declared.phase.Phase.TheVariants.{Receiving, Recovering, Completing, Ended}
 use Rattle.rpc_ids.specs.declared.Status.TheVariants.{Okay, Internal, OutOfRange}
-use Rattle.transfer_receiver.specs.Phase.{is_open, is_recovering}
+use Rattle.transfer_receiver.specs.Phase.{is_open, is_recovering, phase_after_ack}
 use Rattle.transfer_receiver.specs.Receiver.{Receiver, asking}
 use Rattle.transfer_receiver.specs.PieceRules.{PieceOutcome, ignoring, ending, asking_again, keeping, going_on, is_half_used, taking, open_outcome, piece_outcome, active_at}
-use Rattle.transfer_receiver.specs.TickRules.{TickOutcome, staying, giving_up, resending_ask, resending_end, timeout_outcome, tick_outcome, acknowledged, phase_after_ack}
+use Rattle.transfer_receiver.specs.TickRules.{TickOutcome, staying, giving_up, resending_ask, resending_end, timeout_outcome, tick_outcome, acknowledged}
 use Rattle.transfer_receiver.specs.Answers.{is_kept, ends_well}
 
 pub data Step (r : Receiver) (offset size : ℕ) (last : Bool) (t : PieceOutcome) : Type 0 where

@@ -46,3 +46,16 @@ is_kept Ignored = false
 is_kept (Kept ask) = true
 is_kept (Again ask) = false
 is_kept (Ends status) = is_okay status
+
+-- something is to be sent again
+abbrev pub is_resend : Ticked → Bool
+is_resend Quiet = false
+is_resend (Resend ask) = true
+is_resend (ResendEnd status) = true
+is_resend (Over status) = false
+
+abbrev pub is_over : Ticked → Bool
+is_over Quiet = false
+is_over (Resend ask) = false
+is_over (ResendEnd status) = false
+is_over (Over status) = true

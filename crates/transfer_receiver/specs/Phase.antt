@@ -22,3 +22,10 @@ is_ended Receiving = false
 is_ended Recovering = false
 is_ended (Completing status) = false
 is_ended Ended = true
+
+-- an acknowledged end is the last of it; there is nothing to acknowledge before
+abbrev pub phase_after_ack : Phase → Phase
+phase_after_ack (Completing status) = Ended
+phase_after_ack Receiving = Receiving
+phase_after_ack Recovering = Recovering
+phase_after_ack Ended = Ended

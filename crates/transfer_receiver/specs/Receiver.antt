@@ -1,7 +1,8 @@
 -- What a receiver is, and what it asks of the sender.
 use Rattle.std.specs.Prelude.{◌≡◌, ℕ, ◌+◌, ◌*◌, ◌≤◌, Bool, true, false}
 use Rattle.transfer_chunk.specs.declared.Ask.{Ask}
-use Rattle.transfer_chunk.specs.declared.limits.TheConstants.{MAX_RESOURCE}
+use Rattle.transfer_chunk.specs.declared.limits.TheConstants.{MAX_CHUNK, MAX_RESOURCE, MAX_WINDOW}
+use Rattle.transfer_receiver.specs.declared.receiver.TheConstants.{MAX_RESENDS}
 use Rattle.transfer_receiver.specs.declared.phase.Phase.{Phase}
 use Rattle.transfer_receiver.specs.declared.phase.Phase.TheVariants.{Receiving, Recovering, Completing, Ended}
 
@@ -28,13 +29,13 @@ new_receiver offset span chunk now =
 -- what stands of every receiver
 pub record IsReceiver (r : Receiver) : Type 0 where
   pub chunk_low : 1 ≤ r.chunk
-  pub chunk_high : r.chunk ≤ 1024
+  pub chunk_high : r.chunk ≤ MAX_CHUNK
   pub span_low : 1 ≤ r.span
-  pub span_high : r.span ≤ 64
+  pub span_high : r.span ≤ MAX_WINDOW
   pub next_high : r.next ≤ MAX_RESOURCE
   pub window_low : r.next ≤ r.window_end
-  pub window_high : r.window_end ≤ MAX_RESOURCE + 65536
-  pub resends_high : r.resends ≤ 3
+  pub window_high : r.window_end ≤ MAX_RESOURCE + MAX_WINDOW * MAX_CHUNK
+  pub resends_high : r.resends ≤ MAX_RESENDS
 
 -- the chunks of the window that it asks for next: by a retransmission, or to go on
 abbrev pub span_of_ask : Bool → Receiver → ℕ

@@ -8,6 +8,7 @@ use Rattle.transfer_receiver.specs.declared.answers.Ticked.TheVariants.{Quiet, R
 use Rattle.transfer_receiver.specs.declared.phase.Phase.{Phase}
 use Rattle.transfer_receiver.specs.declared.phase.Phase.TheVariants.{Receiving, Recovering, Completing, Ended}
 use Rattle.transfer_receiver.specs.declared.receiver.TheConstants.{MAX_RESENDS}
+use Rattle.transfer_receiver.specs.Phase.{phase_after_ack}
 use Rattle.transfer_receiver.specs.Receiver.{Receiver, asking, ask_of}
 use Rattle.transfer_receiver.specs.PieceRules.{active_at}
 
@@ -44,13 +45,6 @@ timeout_outcome r Ended = staying r
 -- a timeout comes where nothing did for so long, and is itself activity
 abbrev pub tick_outcome : Receiver → ℕ → TickOutcome
 tick_outcome r now = if nat_le (r.active + TIMEOUT) now then timeout_outcome (active_at now r) r.phase else staying r
-
--- an acknowledged end is the last of it; there is nothing to acknowledge before
-abbrev pub phase_after_ack : Phase → Phase
-phase_after_ack (Completing status) = Ended
-phase_after_ack Receiving = Receiving
-phase_after_ack Recovering = Recovering
-phase_after_ack Ended = Ended
 
 abbrev pub acknowledged : Receiver → Receiver
 acknowledged r = record r { phase = phase_after_ack r.phase }

@@ -1,20 +1,23 @@
 ghost use Rattle.std.specs.Prelude.{◌≡◌, ◌+◌, ◌*◌, ◌<◌, ◌≤◌, ◌↔◌, IsTrue, true, false, length};
-ghost use Rattle.transfer_receiver.specs.Answers.{is_kept, ends_well, AnyAsk, AnyResend, AsksFromNext};
-ghost use Rattle.transfer_receiver.specs.Phase.{is_ended};
+ghost use Rattle.transfer_receiver.specs.Answers.{is_kept, ends_well, is_resend, is_over, AnyAsk, AnyResend, AsksFromNext};
+ghost use Rattle.transfer_receiver.specs.Phase.{is_ended, phase_after_ack};
+ghost use Rattle.transfer_receiver.specs.PieceRules.{piece_outcome, active_at, asking_again, taking, going_on};
 ghost use Rattle.transfer_receiver.specs.Receiver.{new_receiver, first_ask, ask_of, asking, span_of_ask};
-ghost use Rattle.transfer_receiver.specs.PieceRules.{piece_outcome, active_at, asking_again, taking, going_on, is_half_used, keeping, ending};
-ghost use Rattle.transfer_receiver.specs.TickRules.{tick_outcome, resending_ask, resending_end, acknowledged};
+ghost use Rattle.transfer_receiver.specs.TickRules.{tick_outcome, resending_ask, resending_end};
 
 use crate::answers::{Received, Ticked};
 use crate::phase::Phase;
 use rpc_ids::Status;
 use std::marker::Model;
-use transfer_chunk::{Ask, MAX_RESOURCE, TIMEOUT, Tuning};
+use transfer_chunk::{Ask, MAX_RESOURCE, MAX_WINDOW, TIMEOUT, Tuning};
 
 /// How often in a row a receiver sends its parameters or its end again, before it gives up.
 pub const MAX_RESENDS: u8 = 3;
 
 /// The receiving end of one transfer.
+///
+/// Contracts see it as a `Receiver`: the next byte that it lacks, the window that it has asked for,
+/// and its phase.
 #[derive(Clone, Copy, Debug)]
 pub struct ReceiverCore {
     next: u64,
@@ -78,11 +81,12 @@ impl ReceiverCore {
         ensures kept { IsTrue (is_kept result) → self.new.next ≡ offset + length bytes.now }
         ensures dropped { is_kept result ≡ false → self.new.next ≡ self.old.next }
         ensures last { IsTrue (ends_well result) ↔ IsTrue (is_kept result) × IsTrue last }
-        ensures resends { IsTrue (is_kept result) → self.new.resends ≡ 0 }
         ensures ask { AnyAsk (AsksFromNext self.new) result }
+        ensures resends { IsTrue (is_kept result) → self.new.resends ≡ 0 }
 
-        ensures after { self.new ≡ (piece_outcome (active_at now self.old) offset (length bytes.now) last).after }
+        // All of it, by the rules of a piece.
         ensures answer { result ≡ (piece_outcome (active_at now self.old) offset (length bytes.now) last).answer }
+        ensures after { self.new ≡ (piece_outcome (active_at now self.old) offset (length bytes.now) last).after }
     {
         self.active = now;
         if !self.phase.is_open() || offset < self.next {
@@ -92,20 +96,26 @@ impl ReceiverCore {
             return Received::Ignored;
         }
         if self.next < offset {
-            return self.ask_for_lost();
+            return self.ask_again();
         }
         self.take(offset + bytes.len() as u64, last)
     }
 
-    /// Tells the receiver the time. A call before a timeout changes nothing.
+    /// Tells the receiver the time. Nothing changes before a timeout, so a call too many is safe.
     pub fn tick(&mut self, now: u64) -> Ticked
         requires { is_ended self.old.phase ≡ false }
+
+        // A timeout resends, and the one behind the last resend ends it.
         ensures early { now < self.old.active + TIMEOUT → self.new ≡ self.old }
         ensures next { self.new.next ≡ self.old.next }
+        ensures resent { IsTrue (is_resend result) → self.new.resends ≡ self.old.resends + 1 }
         ensures ask { AnyResend (AsksFromNext self.new) result }
+        ensures over { IsTrue (is_over result) ↔ (self.old.active + TIMEOUT ≤ now) × (self.old.resends ≡ MAX_RESENDS) }
+        ensures ended { IsTrue (is_over result) ↔ IsTrue (is_ended self.new.phase) }
 
-        ensures after { self.new ≡ (tick_outcome self.old now).after }
+        // All of it, by the rules of a tick.
         ensures answer { result ≡ (tick_outcome self.old now).answer }
+        ensures after { self.new ≡ (tick_outcome self.old now).after }
     {
         if now.saturating_sub(self.active) < TIMEOUT {
             return Ticked::Quiet;
@@ -118,9 +128,9 @@ impl ReceiverCore {
         }
     }
 
-    /// Tells the receiver that the sender has acknowledged its end.
+    /// Tells the receiver that the sender has acknowledged its end. Before an end it changes nothing.
     pub fn ack(&mut self)
-        ensures { self.new ≡ acknowledged self.old }
+        ensures { self.new ≡ record self.old { phase = phase_after_ack self.old.phase } }
     {
         if let Phase::Completing(_) = self.phase {
             self.phase = Phase::Ended;
@@ -134,10 +144,11 @@ impl ReceiverCore {
         self.phase.is_ended()
     }
 
+    // The chunks of the window of the next ask.
     fn span_of_ask(&self, _again: bool) -> u32
         ensures value { result ≡ span_of_ask _again self.now }
         ensures low { 1 ≤ result }
-        ensures high { result ≤ 64 }
+        ensures high { result ≤ MAX_WINDOW }
     {
         self.span
     }
@@ -156,7 +167,8 @@ impl ReceiverCore {
         }
     }
 
-    fn ask_for_lost(&mut self) -> Received
+    // A piece past the next byte came.
+    fn ask_again(&mut self) -> Received
         ensures after { self.new ≡ (asking_again self.old).after }
         ensures answer { result ≡ (asking_again self.old).answer }
     {
@@ -168,6 +180,7 @@ impl ReceiverCore {
         Received::Again(ask)
     }
 
+    // A piece at the next byte came.
     fn take(&mut self, end: u64, last: bool) -> Received
         requires { self.old.next ≤ end }
         ensures after { self.new ≡ (taking self.old end last).after }
@@ -180,33 +193,39 @@ impl ReceiverCore {
             return self.end(Status::OutOfRange);
         }
         self.next = end;
-        self.phase = Phase::Receiving;
-        self.resends = 0;
+        self.enter(Phase::Receiving);
         if last {
             return self.end(Status::Okay);
         }
         self.go_on()
     }
 
+    // Asks for more once half the window is used.
     fn go_on(&mut self) -> Received
         ensures after { self.new ≡ (going_on self.old).after }
         ensures answer { result ≡ (going_on self.old).answer }
     {
         let rest = self.window_end - self.next;
         if 2 * rest <= u64::from(self.span) * u64::from(self.chunk) {
-            let ask = self.ask(false);
-            return Received::Kept(Some(ask));
+            return Received::Kept(Some(self.ask(false)));
         }
         Received::Kept(None)
     }
 
     fn end(&mut self, status: Status) -> Received
-        ensures after { self.new ≡ (ending self.old status).after }
-        ensures answer { result ≡ (ending self.old status).answer }
+        ensures after { self.new ≡ record self.old { phase = Phase.Completing status; resends = 0 } }
+        ensures answer { result ≡ Received.Ends status }
     {
-        self.phase = Phase::Completing(status);
-        self.resends = 0;
+        self.enter(Phase::Completing(status));
         Received::Ends(status)
+    }
+
+    // Goes to a phase with all its resends.
+    fn enter(&mut self, phase: Phase)
+        ensures { self.new ≡ record self.old { phase = phase; resends = 0 } }
+    {
+        self.phase = phase;
+        self.resends = 0;
     }
 
     fn resend_ask(&mut self) -> Ticked
@@ -214,12 +233,10 @@ impl ReceiverCore {
         ensures answer { result ≡ (resending_ask self.old).answer }
     {
         if self.resends < MAX_RESENDS {
-            let ask = self.ask(true);
             self.resends += 1;
-            return Ticked::Resend(ask);
+            return Ticked::Resend(self.ask(true));
         }
-        self.phase = Phase::Ended;
-        Ticked::Over(Status::DeadlineExceeded)
+        self.give_up(Status::DeadlineExceeded)
     }
 
     fn resend_end(&mut self, status: Status) -> Ticked
@@ -230,6 +247,13 @@ impl ReceiverCore {
             self.resends += 1;
             return Ticked::ResendEnd(status);
         }
+        self.give_up(status)
+    }
+
+    fn give_up(&mut self, status: Status) -> Ticked
+        ensures after { self.new ≡ record self.old { phase = Phase.Ended } }
+        ensures answer { result ≡ Ticked.Over status }
+    {
         self.phase = Phase::Ended;
         Ticked::Over(status)
     }

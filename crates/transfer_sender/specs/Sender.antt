@@ -25,9 +25,8 @@ new_sender bytes offset now = record { bytes = bytes; position = offset; active 
 pub record IsSender (s : Sender) : Type 0 where
   pub size : length s.bytes ≤ MAX_RESOURCE
   pub within : s.position ≤ length s.bytes
-  pub few_timeouts : s.timeouts ≤ MAX_TIMEOUTS
-  -- while it goes on, one more timeout than this would end it
-  pub fewer_timeouts : s.ended ≡ None → s.timeouts + 1 ≤ MAX_TIMEOUTS
+  -- while it goes on, so few timeouts came that one more is counted
+  pub few_timeouts : s.ended ≡ None → s.timeouts + 1 ≤ MAX_TIMEOUTS
 
 -- a chunk of its session came
 abbrev pub touched : Sender → ℕ → Sender

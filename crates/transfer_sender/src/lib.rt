@@ -9,6 +9,6 @@ mod pieces;
 mod sender;
 
 pub use cut::MAX_PIECES;
-pub use laws::cut_is_exact;
+pub use laws::{cut_is_exact, sends_parts};
 pub use pieces::Pieces;
 pub use sender::{MAX_TIMEOUTS, SenderCore};

@@ -1,8 +1,8 @@
-ghost use Rattle.std.specs.Prelude.{◌≡◌, ◌+◌, ◌<◌, ◌≤◌, false, IsTrue, length, None, Some, [], ◌∷◌, IfOk, OnOk, OnErr};
-ghost use Rattle.transfer_chunk.specs.PieceLists.{end_of};
-ghost use Rattle.transfer_sender.specs.Sender.{new_sender, touched, ticked, completed};
-ghost use Rattle.transfer_sender.specs.Cut.{IsCut};
+ghost use Rattle.std.specs.Prelude.{◌≡◌, ◌+◌, ◌<◌, ◌≤◌, ◌⊎◌, ◌↔◌, IsTrue, IsSome, false, length, None, Some, [], ◌∷◌, IfOk, IfSome, OnOk, OnErr};
+ghost use Rattle.transfer_chunk.specs.PieceLists.{BeginsAt, end_of};
 ghost use Rattle.transfer_sender.specs.Answer.{answer_to, pieces_for, pieces_again, start_of, is_past_end, chunk_size, empty_last_piece};
+ghost use Rattle.transfer_sender.specs.Cut.{IsCut};
+ghost use Rattle.transfer_sender.specs.Sender.{new_sender, touched, ticked, completed};
 
 use crate::cut::{Cut, cut_window, piece_at};
 use crate::pieces::Pieces;
@@ -16,6 +16,8 @@ use transfer_chunk::{Ask, MAX_CHUNK, MAX_RESOURCE, TIMEOUT};
 pub const MAX_TIMEOUTS: u8 = 5;
 
 /// The sending end of one transfer.
+///
+/// Contracts see it as a `Sender`: the resource, the next byte that it sends, and how it ended.
 #[derive(Debug, Drop)]
 pub struct SenderCore {
     bytes: Bytes,
@@ -33,6 +35,20 @@ impl Model for SenderCore {
     ghost view = { λ s. record { bytes = s.bytes; position = s.position; active = s.active; timeouts = s.timeouts; ended = s.ended } };
 
     ghost invariant = { λ s. IsSender (record { bytes = s.bytes; position = s.position; active = s.active; timeouts = s.timeouts; ended = s.ended }) };
+}
+
+impl Clone for SenderCore {
+    ghost is_clone = { λ s copy. copy ≡ s };
+
+    fn clone(&self) -> Result<SenderCore, AllocError> {
+        Ok(SenderCore {
+            bytes: self.bytes.clone()?,
+            position: self.position,
+            active: self.active,
+            timeouts: self.timeouts,
+            ended: self.ended,
+        })
+    }
 }
 
 impl SenderCore {
@@ -55,16 +71,21 @@ impl SenderCore {
     /// ask goes back to an offset past the resource's end, the sender ends with `OutOfRange`.
     pub fn params(&mut self, alloc: Global, ask: Ask, now: u64) -> Result<Pieces, AllocError>
         requires { self.old.ended ≡ None }
+
         // A retransmission is answered from the offset of the ask, and any other ask from the position.
         ensures again { IfOk result (λ ps. IsTrue ask.again → ask.offset < length self.old.bytes
             → IsCut self.old.bytes (chunk_size ask.max_chunk) ask.window_end ask.offset ps) }
-        ensures on { IfOk result (λ ps. ask.again ≡ false
+        ensures go_on { IfOk result (λ ps. ask.again ≡ false
             → IsCut self.old.bytes (chunk_size ask.max_chunk) ask.window_end self.old.position ps) }
         ensures again_at_end { IfOk result (λ ps. IsTrue ask.again → ask.offset ≡ length self.old.bytes
             → ps ≡ empty_last_piece self.old.bytes ∷ []) }
         ensures again_past_end { OnOk result (IsTrue ask.again → length self.old.bytes < ask.offset
             → self.new.ended ≡ Some Status.OutOfRange) }
+        ensures again_first { IfOk result (λ ps. IsTrue ask.again
+            → (ask.offset ≡ length self.old.bytes) ⊎ ((ask.offset < length self.old.bytes) × (ask.offset < ask.window_end))
+            → BeginsAt ask.offset ps) }
 
+        // All of it, by the rules of an ask, which is activity too.
         ensures pieces { IfOk result (λ ps. ps ≡ (answer_to (touched self.old now) ask).pieces) }
         ensures after { OnOk result (self.new ≡ (answer_to (touched self.old now) ask).after) }
         ensures err { OnErr result (self.new ≡ self.old) }
@@ -89,12 +110,15 @@ impl SenderCore {
         self.timeouts = 0;
     }
 
-    /// Tells the sender the time: the answer is the end that this makes, if it does. A call before a
-    /// timeout changes nothing.
+    /// Tells the sender the time. The answer is the end that this makes, if it does. Nothing changes
+    /// before a timeout, so a call too many is safe.
     pub fn tick(&mut self, now: u64) -> Option<Status>
         requires { self.old.ended ≡ None }
-        ensures after { self.new ≡ ticked self.old now }
+        ensures early { now < self.old.active + TIMEOUT → self.new ≡ self.old }
+        ensures ends { IsSome result ↔ (self.old.active + TIMEOUT ≤ now) × (self.old.timeouts + 1 ≡ MAX_TIMEOUTS) }
+        ensures status { IfSome result (λ status. status ≡ Status.DeadlineExceeded) }
         ensures answer { result ≡ self.new.ended }
+        ensures after { self.new ≡ ticked self.old now }
     {
         if now.saturating_sub(self.active) < TIMEOUT {
             return None;
@@ -159,6 +183,7 @@ impl SenderCore {
     }
 }
 
+// The bytes of a chunk: as many as the ask says, if it does, and at most the most.
 fn chunk_size(asked: u32) -> u64
     ensures { result ≡ chunk_size asked }
 {
