@@ -9,5 +9,4 @@ ghost use Rattle.transfer_law.specs.Transfer.{CoresAgree};
 /// sender's resource from its own first offset on, and all of it once it has ended OK.
 pub fn cores_agree()
     ensures { CoresAgree }
-{
-}
+{}

@@ -1,16 +1,15 @@
 -- What comes of one piece, of a tick and of an acknowledgement, as far as the kept pieces depend on it.
-use Rattle.std.proofs.Common.{◌≡◌, ℕ, ◌+◌, ◌<◌, ◌≤◌, ◌==◌, ◌&&◌, not, if◌then◌else◌, refl, nat_lt, nat_le, Bool, true, false, arith, sym, ◌∙◌, ap}
+use Rattle.std.proofs.Common.{◌≡◌, ℕ, ◌+◌, ◌==◌, ◌&&◌, not, if◌then◌else◌, refl, nat_lt, nat_le, Bool, true, false, arith, ap}
 use Rattle.std.proofs.lemmas.Bool.Decides.{nat_tests}
-use Rattle.rpc_ids.specs.declared.Status.{Status}
 use Rattle.transfer_chunk.specs.declared.limits.TheConstants.{MAX_RESOURCE, TIMEOUT}
 use Rattle.transfer_receiver.specs.declared.receiver.TheConstants.{MAX_RESENDS}
 use Rattle.transfer_receiver.specs.declared.phase.Phase.{Phase}
 use Rattle.transfer_receiver.specs.declared.phase.Phase.TheVariants.{Receiving, Recovering, Completing, Ended}
-use Rattle.rpc_ids.specs.declared.Status.TheVariants.{Okay, Internal, OutOfRange}
+use Rattle.rpc_ids.specs.declared.Status.TheVariants.{Okay, OutOfRange}
 use Rattle.transfer_receiver.specs.Phase.{is_open, is_recovering, phase_after_ack}
-use Rattle.transfer_receiver.specs.Receiver.{Receiver, asking}
+use Rattle.transfer_receiver.specs.Receiver.{Receiver}
 use Rattle.transfer_receiver.specs.PieceRules.{PieceOutcome, ignoring, ending, asking_again, keeping, going_on, is_half_used, taking, open_outcome, piece_outcome, active_at}
-use Rattle.transfer_receiver.specs.TickRules.{TickOutcome, staying, giving_up, resending_ask, resending_end, timeout_outcome, tick_outcome, acknowledged}
+use Rattle.transfer_receiver.specs.TickRules.{timeout_outcome, tick_outcome, acknowledged}
 use Rattle.transfer_receiver.specs.Answers.{is_kept, ends_well}
 
 pub data Step (r : Receiver) (offset size : ℕ) (last : Bool) (t : PieceOutcome) : Type 0 where
@@ -66,9 +65,10 @@ piece_step r offset size last false e = rw e (passes_over refl refl refl)
 pub step_of : (r : Receiver) (offset size : ℕ) (last : Bool) (now : ℕ) → Step r offset size last (piece_outcome (active_at now r) offset size last)
 step_of r offset size last now =
     elim (piece_step (active_at now r) offset size last (is_open r.phase) refl) [
-        passes_over kept well next ↦ passes_over kept well next
+      | passes_over kept well next ↦ passes_over kept well next
       | goes_on kept well at next more ↦ goes_on kept well at next more
-      | ends_here kept well at next ends closed ↦ ends_here kept well at next ends closed ]
+      | ends_here kept well at next ends closed ↦ ends_here kept well at next ends closed
+    ]
 
 timeout_next : (r : Receiver) (phase : Phase) (b : Bool) → nat_lt r.resends MAX_RESENDS ≡ b → (timeout_outcome r phase).after.next ≡ r.next
 timeout_next r Receiving true e = rw e refl

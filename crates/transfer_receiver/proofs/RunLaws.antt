@@ -1,5 +1,5 @@
 -- What a receiver keeps of all that comes to it: it joins, and the end OK comes at the last of it.
-use Rattle.std.proofs.Common.{◌≡◌, ℕ, ◌+◌, ◌-◌, ◌≤◌, ◌==◌, ◌||◌, ◌⊎◌, inl, inr, refl, Bool, true, false, List, [], ◌∷◌, ◌++◌, length, take, drop, arith, sym, ◌∙◌, ap, subst, length-append, append-nil}
+use Rattle.std.proofs.Common.{◌≡◌, ℕ, ◌+◌, ◌||◌, inl, inr, refl, Bool, true, false, List, [], ◌∷◌, ◌++◌, length, take, drop, arith, sym, ◌∙◌, ap, subst, length-append, append-nil}
 use Rattle.std.specs.List.{All}
 use Rattle.std.specs.Bool.{MatchBool}
 use Rattle.std.proofs.lemmas.Bool.{eqb-true}
@@ -7,13 +7,13 @@ use Rattle.std.proofs.lemmas.List.Elements.{All-nil, All-cons, All-head, All-tai
 use Rattle.std.proofs.lemmas.List.{take_all, length-drop, drop-drop}
 use Rattle.std.proofs.Math.Seq.{take-add}
 use Rattle.transfer_chunk.specs.declared.Piece.{Piece}
-use Rattle.transfer_chunk.specs.PieceLists.{IsPartOf, AreConsecutive, bytes_of, IsPickedFrom, OnlyTheLastEnds, NoneEnds, Joins}
+use Rattle.transfer_chunk.specs.PieceLists.{IsPartOf, AreConsecutive, bytes_of, IsPickedFrom, OnlyTheLastEnds, NoneEnds}
 use Rattle.transfer_receiver.specs.Phase.{is_open}
 use Rattle.transfer_receiver.specs.Receiver.{Receiver, new_receiver}
-use Rattle.transfer_receiver.specs.PieceRules.{PieceOutcome, ignoring, active_at}
+use Rattle.transfer_receiver.specs.PieceRules.{PieceOutcome, active_at}
 use Rattle.transfer_receiver.specs.TickRules.{tick_outcome, acknowledged}
 use Rattle.transfer_receiver.specs.Answers.{is_kept, ends_well}
-use Rattle.transfer_receiver.specs.Run.{Event, piece_comes, time_passes, end_acknowledged, outcome_of, came, with_kept, kept_pieces, has_ended_well, KeepsInOrder, KeptPiecesJoin, EndedWellJoins, KeepsTheResource}
+use Rattle.transfer_receiver.specs.Run.{Event, piece_comes, time_passes, end_acknowledged, outcome_of, came, with_kept, kept_pieces, has_ended_well, KeptPiecesJoin, EndedWellJoins, KeepsTheResource}
 use Rattle.transfer_receiver.proofs.PieceSteps.{Step, passes_over, goes_on, ends_here, step_of, tick_next, tick_closed, ack_closed, closed_ignores}
 
 -- the kept pieces are picked from those that came
@@ -112,11 +112,12 @@ pub ended_well_joins : EndedWellJoins
 ended_well_joins offset span chunk now events ended =
     let r : Receiver = new_receiver offset span chunk now in
     record {
-        picked = kept_pieces r events;
-        in_order = picked events r;
-        consecutive = consecutive events r;
-        last = ended_last (kept_pieces r events) (has_ended_well r events) (last events r) ended;
-        data_is = refl }
+      picked = kept_pieces r events;
+      in_order = picked events r;
+      consecutive = consecutive events r;
+      last = ended_last (kept_pieces r events) (has_ended_well r events) (last events r) ended;
+      data_is = refl;
+    }
 
 -- pieces of one resource
 
@@ -141,7 +142,7 @@ beginning resource [] offset consecutive parts = refl
 beginning resource (p ∷ ps) offset consecutive parts =
     let part : IsPartOf resource p = All-head (IsPartOf resource) p ps parts in
     let rest : bytes_of ps ≡ take (length (bytes_of ps)) (drop (offset + length p.bytes) resource)
-        = beginning resource ps (offset + length p.bytes) consecutive.1 (All-tail (IsPartOf resource) p ps parts) in
+    = beginning resource ps (offset + length p.bytes) consecutive.1 (All-tail (IsPartOf resource) p ps parts) in
     let here : p.bytes ≡ take (length p.bytes) (drop offset resource) = part.bytes ∙ ap (λ o. take (length p.bytes) (drop o resource)) consecutive.0 in
     joined resource offset p.bytes (bytes_of ps) here rest
   where
@@ -173,7 +174,9 @@ whole resource offset bytes is_beginning size =
 pub keeps_the_resource : KeepsTheResource
 keeps_the_resource resource offset span chunk now events parts =
     let r : Receiver = new_receiver offset span chunk now in
-    let here = beginning resource (kept_pieces r events) offset (consecutive events r) (kept_parts resource events r parts) in
-    (here, λ ended. whole resource offset (bytes_of (kept_pieces r events)) here
-        (ends_with resource (kept_pieces r events) offset (consecutive events r) (kept_parts resource events r parts)
-            (ended_last (kept_pieces r events) (has_ended_well r events) (last events r) ended)))
+    let here = beginning resource (kept_pieces r events) offset (consecutive events r) (kept_parts resource events r parts) in (
+      here,
+      λ ended. whole resource offset (bytes_of (kept_pieces r events)) here
+          (ends_with resource (kept_pieces r events) offset (consecutive events r) (kept_parts resource events r parts)
+          (ended_last (kept_pieces r events) (has_ended_well r events) (last events r) ended)),
+    )

@@ -1,5 +1,5 @@
 -- What the answers of a receiver say.
-use Rattle.std.specs.Prelude.{◌≡◌, ℕ, ◌+◌, ◌*◌, ◌==◌, Bool, true, false, None, Some}
+use Rattle.std.specs.Prelude.{◌≡◌, ◌+◌, ◌*◌, ◌==◌, Bool, true, false, None, Some}
 use Rattle.rpc_ids.specs.declared.Status.{Status}
 use Rattle.rpc_ids.specs.Status.{status_number}
 use Rattle.transfer_chunk.specs.declared.Ask.{Ask}

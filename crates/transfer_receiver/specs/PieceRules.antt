@@ -1,5 +1,5 @@
 -- What a receiver does with a piece.
-use Rattle.std.specs.Prelude.{ℕ, ◌+◌, ◌-◌, ◌*◌, ◌==◌, ◌&&◌, nat_lt, nat_le, Bool, true, false, not, if◌then◌else◌, Option, None, Some}
+use Rattle.std.specs.Prelude.{ℕ, ◌+◌, ◌-◌, ◌*◌, ◌==◌, ◌&&◌, nat_lt, nat_le, Bool, true, false, not, if◌then◌else◌, None, Some}
 use Rattle.rpc_ids.specs.declared.Status.{Status}
 use Rattle.rpc_ids.specs.declared.Status.TheVariants.{Okay, Internal, OutOfRange}
 use Rattle.transfer_chunk.specs.declared.limits.TheConstants.{MAX_RESOURCE}

@@ -1,5 +1,5 @@
 -- What a receiver does as time goes on, and at an acknowledgement.
-use Rattle.std.specs.Prelude.{ℕ, ◌+◌, nat_lt, nat_le, Bool, true, if◌then◌else◌}
+use Rattle.std.specs.Prelude.{ℕ, ◌+◌, nat_lt, nat_le, true, if◌then◌else◌}
 use Rattle.rpc_ids.specs.declared.Status.{Status}
 use Rattle.rpc_ids.specs.declared.Status.TheVariants.{DeadlineExceeded}
 use Rattle.transfer_chunk.specs.declared.limits.TheConstants.{TIMEOUT}

@@ -5,12 +5,10 @@ ghost use Rattle.transfer_receiver.specs.Run.{EndedWellJoins, KeepsTheResource, 
 pub fn kept_pieces_join()
     ensures joins { KeptPiecesJoin }
     ensures ended_well { EndedWellJoins }
-{
-}
+{}
 
 /// Of the pieces of one resource, lost, repeated or late, a receiver has kept a beginning of that
 /// resource from its first offset on, and all of it once it has ended OK.
 pub fn keeps_the_resource()
     ensures { KeepsTheResource }
-{
-}
+{}

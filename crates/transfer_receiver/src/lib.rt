@@ -7,6 +7,8 @@ mod answers;
 mod laws;
 mod phase;
 mod receiver;
+#[cfg(test)]
+mod tests;
 
 pub use answers::{Received, Ticked};
 pub use laws::{keeps_the_resource, kept_pieces_join};

@@ -7,6 +7,8 @@ mod cut;
 mod laws;
 mod pieces;
 mod sender;
+#[cfg(test)]
+mod tests;
 
 pub use cut::MAX_PIECES;
 pub use laws::{cut_is_exact, sends_parts};

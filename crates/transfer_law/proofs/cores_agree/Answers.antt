@@ -1,5 +1,4 @@
-use Rattle.std.proofs.Common.{List}
-use Rattle.std.specs.List.{All, Contains}
+use Rattle.std.specs.List.{Contains}
 use Rattle.std.proofs.lemmas.List.Elements.{All-contains, All-weaker}
 use Rattle.transfer_chunk.specs.declared.Piece.{Piece}
 use Rattle.transfer_chunk.specs.PieceLists.{IsPartOf}
