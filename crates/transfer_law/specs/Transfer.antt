@@ -1,6 +1,6 @@
 -- Both ends of a transfer, over a link that may lose, repeat and reorder the pieces.
 use Rattle.std.specs.Prelude.{◌≡◌, ℕ, true, List, length, take, drop, All, Contains}
-use Rattle.transfer_chunk.specs.PieceLists.{bytes_of}
+use Rattle.transfer_base.specs.PieceLists.{bytes_of}
 use Rattle.transfer_sender.specs.Sender.{Sender}
 use Rattle.transfer_sender.specs.Run as sender_run
 use Rattle.transfer_receiver.specs.Receiver.{Receiver, new_receiver}

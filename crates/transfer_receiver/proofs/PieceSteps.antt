@@ -1,7 +1,7 @@
 -- What comes of one piece, of a tick and of an acknowledgement, as far as the kept pieces depend on it.
 use Rattle.std.proofs.Common.{◌≡◌, ℕ, ◌+◌, ◌==◌, ◌&&◌, not, if◌then◌else◌, refl, nat_lt, nat_le, Bool, true, false, arith, ap}
 use Rattle.std.proofs.lemmas.Bool.Decides.{nat_tests}
-use Rattle.transfer_chunk.specs.declared.limits.TheConstants.{MAX_RESOURCE, TIMEOUT}
+use Rattle.transfer_base.specs.declared.limits.TheConstants.{MAX_RESOURCE, TIMEOUT}
 use Rattle.transfer_receiver.specs.declared.receiver.TheConstants.{MAX_RESENDS}
 use Rattle.transfer_receiver.specs.declared.phase.Phase.{Phase}
 use Rattle.transfer_receiver.specs.declared.phase.Phase.TheVariants.{Receiving, Recovering, Completing, Ended}

@@ -6,8 +6,8 @@ use Rattle.std.proofs.lemmas.Bool.{eqb-true}
 use Rattle.std.proofs.lemmas.List.Elements.{All-nil, All-cons, All-head, All-tail}
 use Rattle.std.proofs.lemmas.List.{take_all, length-drop, drop-drop}
 use Rattle.std.proofs.Math.Seq.{take-add}
-use Rattle.transfer_chunk.specs.declared.Piece.{Piece}
-use Rattle.transfer_chunk.specs.PieceLists.{IsPartOf, AreConsecutive, bytes_of, IsPickedFrom, OnlyTheLastEnds, NoneEnds}
+use Rattle.transfer_base.specs.declared.Piece.{Piece}
+use Rattle.transfer_base.specs.PieceLists.{IsPartOf, AreConsecutive, bytes_of, IsPickedFrom, OnlyTheLastEnds, NoneEnds}
 use Rattle.transfer_receiver.specs.Phase.{is_open}
 use Rattle.transfer_receiver.specs.Receiver.{Receiver, new_receiver}
 use Rattle.transfer_receiver.specs.PieceRules.{PieceOutcome, active_at}

@@ -2,7 +2,7 @@
 use Rattle.std.specs.Prelude.{◌≡◌, ◌+◌, ◌*◌, ◌==◌, Bool, true, false, None, Some}
 use Rattle.rpc_ids.specs.declared.Status.{Status}
 use Rattle.rpc_ids.specs.Status.{status_number}
-use Rattle.transfer_chunk.specs.declared.Ask.{Ask}
+use Rattle.transfer_base.specs.declared.Ask.{Ask}
 use Rattle.transfer_receiver.specs.declared.answers.Received.{Received}
 use Rattle.transfer_receiver.specs.declared.answers.Received.TheVariants.{Ignored, Kept, Again, Ends}
 use Rattle.transfer_receiver.specs.declared.answers.Ticked.{Ticked}

@@ -2,7 +2,7 @@
 use Rattle.std.specs.Prelude.{ℕ, ◌+◌, ◌-◌, ◌*◌, ◌==◌, ◌&&◌, nat_lt, nat_le, Bool, true, false, not, if◌then◌else◌, None, Some}
 use Rattle.rpc_ids.specs.declared.Status.{Status}
 use Rattle.rpc_ids.specs.declared.Status.TheVariants.{Okay, Internal, OutOfRange}
-use Rattle.transfer_chunk.specs.declared.limits.TheConstants.{MAX_RESOURCE}
+use Rattle.transfer_base.specs.declared.limits.TheConstants.{MAX_RESOURCE}
 use Rattle.transfer_receiver.specs.declared.answers.Received.{Received}
 use Rattle.transfer_receiver.specs.declared.answers.Received.TheVariants.{Ignored, Kept, Again, Ends}
 use Rattle.transfer_receiver.specs.declared.phase.Phase.TheVariants.{Receiving, Recovering, Completing}

@@ -1,7 +1,7 @@
 -- What a receiver is, and what it asks of the sender.
 use Rattle.std.specs.Prelude.{ℕ, ◌+◌, ◌*◌, ◌≤◌, Bool, true}
-use Rattle.transfer_chunk.specs.declared.Ask.{Ask}
-use Rattle.transfer_chunk.specs.declared.limits.TheConstants.{MAX_CHUNK, MAX_RESOURCE, MAX_WINDOW}
+use Rattle.transfer_base.specs.declared.Ask.{Ask}
+use Rattle.transfer_base.specs.declared.limits.TheConstants.{MAX_CHUNK, MAX_RESOURCE, MAX_WINDOW}
 use Rattle.transfer_receiver.specs.declared.receiver.TheConstants.{MAX_RESENDS}
 use Rattle.transfer_receiver.specs.declared.phase.Phase.{Phase}
 use Rattle.transfer_receiver.specs.declared.phase.Phase.TheVariants.{Receiving}

@@ -1,7 +1,7 @@
 -- What a receiver keeps of all that comes to it.
 use Rattle.std.specs.Prelude.{◌≡◌, ℕ, ◌||◌, Bool, true, false, if◌then◌else◌, MatchBool, List, [], ◌∷◌, length, take, drop, All}
-use Rattle.transfer_chunk.specs.declared.Piece.{Piece}
-use Rattle.transfer_chunk.specs.PieceLists.{IsPartOf, AreConsecutive, bytes_of, IsPickedFrom, OnlyTheLastEnds, NoneEnds, Joins}
+use Rattle.transfer_base.specs.declared.Piece.{Piece}
+use Rattle.transfer_base.specs.PieceLists.{IsPartOf, AreConsecutive, bytes_of, IsPickedFrom, OnlyTheLastEnds, NoneEnds, Joins}
 use Rattle.transfer_receiver.specs.Receiver.{Receiver, new_receiver}
 use Rattle.transfer_receiver.specs.PieceRules.{PieceOutcome, piece_outcome, active_at}
 use Rattle.transfer_receiver.specs.TickRules.{tick_outcome, acknowledged}

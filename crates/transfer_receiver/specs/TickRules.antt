@@ -2,7 +2,7 @@
 use Rattle.std.specs.Prelude.{ℕ, ◌+◌, nat_lt, nat_le, true, if◌then◌else◌}
 use Rattle.rpc_ids.specs.declared.Status.{Status}
 use Rattle.rpc_ids.specs.declared.Status.TheVariants.{DeadlineExceeded}
-use Rattle.transfer_chunk.specs.declared.limits.TheConstants.{TIMEOUT}
+use Rattle.transfer_base.specs.declared.limits.TheConstants.{TIMEOUT}
 use Rattle.transfer_receiver.specs.declared.answers.Ticked.{Ticked}
 use Rattle.transfer_receiver.specs.declared.answers.Ticked.TheVariants.{Quiet, Resend, ResendEnd, Over}
 use Rattle.transfer_receiver.specs.declared.phase.Phase.{Phase}

@@ -1,5 +1,5 @@
 use rpc_ids::Status;
-use transfer_chunk::Ask;
+use transfer_base::Ask;
 
 /// What a receiver does with a piece.
 #[derive(Clone, Copy, Debug, PartialEq, Eq)]

@@ -9,7 +9,7 @@ use crate::answers::{Received, Ticked};
 use crate::phase::Phase;
 use rpc_ids::Status;
 use std::marker::Model;
-use transfer_chunk::{Ask, MAX_RESOURCE, MAX_WINDOW, TIMEOUT, Tuning};
+use transfer_base::{Ask, MAX_RESOURCE, MAX_WINDOW, TIMEOUT, Tuning};
 
 /// How often in a row a receiver sends its parameters or its end again, before it gives up.
 pub const MAX_RESENDS: u8 = 3;

@@ -1,7 +1,7 @@
 // What comes to a receiver and what it answers, step by step.
 use crate::{Received, ReceiverCore, Ticked};
 use rpc_ids::Status;
-use transfer_chunk::{Ask, Tuning};
+use transfer_base::{Ask, Tuning};
 
 static DATA: [u8; 2048] = [7; 2048];
 

@@ -3,8 +3,8 @@ use Rattle.std.proofs.Common.{◌≡◌, ℕ, ◌+◌, ◌-◌, ◌<◌, ◌≤�
 use Rattle.std.specs.List.{All}
 use Rattle.std.proofs.lemmas.List.Elements.{All-nil, All-cons, All-head, All-tail}
 use Rattle.std.proofs.lemmas.Bool.Decides.{nat_tests}
-use Rattle.transfer_chunk.specs.declared.Piece.{Piece}
-use Rattle.transfer_chunk.specs.PieceLists.{IsPartOf, AreConsecutive, end_of}
+use Rattle.transfer_base.specs.declared.Piece.{Piece}
+use Rattle.transfer_base.specs.PieceLists.{IsPartOf, AreConsecutive, end_of}
 use Rattle.transfer_sender.specs.declared.cut.TheConstants.{MAX_PIECES}
 use Rattle.transfer_sender.specs.Cut.{IsCut, piece_at, pieces_up_to, pieces_of_window, CutIsExact}
 use Rattle.transfer_sender.proofs.CutLemmas.{pieces_up_to-zero, pieces_up_to-done, pieces_up_to-suc, length-piece_at}

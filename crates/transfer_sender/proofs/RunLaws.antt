@@ -2,10 +2,10 @@
 use Rattle.std.proofs.Common.{◌≡◌, ℕ, ◌+◌, ◌≤◌, ◌==◌, List, [], ◌∷◌, ◌++◌, length, refl, nat_le, Bool, true, false, subst}
 use Rattle.std.specs.List.{All}
 use Rattle.std.proofs.lemmas.List.Elements.{All-nil, All-cons, All-append}
-use Rattle.transfer_chunk.specs.declared.Ask.{Ask}
-use Rattle.transfer_chunk.specs.declared.Piece.{Piece}
-use Rattle.transfer_chunk.specs.declared.limits.TheConstants.{TIMEOUT}
-use Rattle.transfer_chunk.specs.PieceLists.{IsPartOf}
+use Rattle.transfer_base.specs.declared.Ask.{Ask}
+use Rattle.transfer_base.specs.declared.Piece.{Piece}
+use Rattle.transfer_base.specs.declared.limits.TheConstants.{TIMEOUT}
+use Rattle.transfer_base.specs.PieceLists.{IsPartOf}
 use Rattle.transfer_sender.specs.Sender.{Sender, touched, ticked, completed}
 use Rattle.transfer_sender.specs.Cut.{pieces_of_window}
 use Rattle.transfer_sender.specs.Answer.{answer_to, pieces_for, chunk_size, is_past_end, empty_last_piece}

@@ -1,10 +1,10 @@
 -- What a sender does with parameters.
 use Rattle.std.specs.Prelude.{ℕ, ◌==◌, ◌&&◌, nat_lt, min, List, [], ◌∷◌, length, Bool, true, false, if◌then◌else◌, Some}
 use Rattle.rpc_ids.specs.declared.Status.TheVariants.{OutOfRange}
-use Rattle.transfer_chunk.specs.declared.Ask.{Ask}
-use Rattle.transfer_chunk.specs.declared.Piece.{Piece}
-use Rattle.transfer_chunk.specs.declared.limits.TheConstants.{MAX_CHUNK}
-use Rattle.transfer_chunk.specs.PieceLists.{end_of}
+use Rattle.transfer_base.specs.declared.Ask.{Ask}
+use Rattle.transfer_base.specs.declared.Piece.{Piece}
+use Rattle.transfer_base.specs.declared.limits.TheConstants.{MAX_CHUNK}
+use Rattle.transfer_base.specs.PieceLists.{end_of}
 use Rattle.transfer_sender.specs.Sender.{Sender}
 use Rattle.transfer_sender.specs.Cut.{piece_at, pieces_of_window}
 

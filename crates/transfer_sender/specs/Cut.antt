@@ -1,7 +1,7 @@
 -- How a sender cuts a window of its resource into pieces: what is asked, and how it is computed.
 use Rattle.std.specs.Prelude.{◌≡◌, ℕ, ◌+◌, ◌-◌, ◌<◌, ◌≤◌, ◌==◌, ◌⊎◌, ◌↔◌, nat_lt, min, List, [], ◌∷◌, length, take, drop, zero, suc, All, if◌then◌else◌}
-use Rattle.transfer_chunk.specs.declared.Piece.{Piece}
-use Rattle.transfer_chunk.specs.PieceLists.{IsPartOf, AreConsecutive, end_of}
+use Rattle.transfer_base.specs.declared.Piece.{Piece}
+use Rattle.transfer_base.specs.PieceLists.{IsPartOf, AreConsecutive, end_of}
 use Rattle.transfer_sender.specs.declared.cut.TheConstants.{MAX_PIECES}
 
 -- The pieces that a sender sends of a resource for one window, from a position on.

@@ -1,9 +1,9 @@
 -- What a sender sends for all that comes to it.
 use Rattle.std.specs.Prelude.{ℕ, List, [], ◌∷◌, ◌++◌, All}
 use Rattle.rpc_ids.specs.declared.Status.{Status}
-use Rattle.transfer_chunk.specs.declared.Ask.{Ask}
-use Rattle.transfer_chunk.specs.declared.Piece.{Piece}
-use Rattle.transfer_chunk.specs.PieceLists.{IsPartOf}
+use Rattle.transfer_base.specs.declared.Ask.{Ask}
+use Rattle.transfer_base.specs.declared.Piece.{Piece}
+use Rattle.transfer_base.specs.PieceLists.{IsPartOf}
 use Rattle.transfer_sender.specs.Sender.{Sender, touched, ticked, completed}
 use Rattle.transfer_sender.specs.Answer.{answer_to}
 

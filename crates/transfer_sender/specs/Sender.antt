@@ -2,7 +2,7 @@
 use Rattle.std.specs.Prelude.{◌≡◌, ℕ, ◌+◌, ◌==◌, ◌≤◌, List, length, nat_le, Bool, true, false, if◌then◌else◌, Option, None, Some}
 use Rattle.rpc_ids.specs.declared.Status.{Status}
 use Rattle.rpc_ids.specs.declared.Status.TheVariants.{DeadlineExceeded}
-use Rattle.transfer_chunk.specs.declared.limits.TheConstants.{MAX_RESOURCE, TIMEOUT}
+use Rattle.transfer_base.specs.declared.limits.TheConstants.{MAX_RESOURCE, TIMEOUT}
 use Rattle.transfer_sender.specs.declared.sender.TheConstants.{MAX_TIMEOUTS}
 
 -- Offsets and sizes are in bytes, moments in milliseconds.

@@ -1,11 +1,11 @@
 ghost use Rattle.std.specs.Prelude.{◌≡◌, ◌+◌, ◌≤◌, length, min, IfOk};
-ghost use Rattle.transfer_chunk.specs.PieceLists.{end_of};
+ghost use Rattle.transfer_base.specs.PieceLists.{end_of};
 ghost use Rattle.transfer_sender.specs.Cut.{piece_at, pieces_of_window};
 
 use crate::pieces::Pieces;
 use bytes::Bytes;
 use std::alloc::{AllocError, Global};
-use transfer_chunk::Piece;
+use transfer_base::Piece;
 
 /// The most pieces that answer one ask.
 pub const MAX_PIECES: usize = 64;

@@ -2,7 +2,7 @@ ghost use Rattle.std.specs.Prelude.{◌≡◌, [], ◌∷◌, ◌++◌, OnOk, On
 
 use std::alloc::{AllocError, Global};
 use std::marker::Model;
-use transfer_chunk::Piece;
+use transfer_base::Piece;
 
 /// The pieces that answer one ask, in the order in which they are to be sent.
 #[derive(Debug, Drop)]
@@ -12,7 +12,7 @@ pub struct Pieces {
 
 impl Model for Pieces {
     ghost use Rattle.std.specs.Prelude.{List};
-    ghost use Rattle.transfer_chunk.specs.declared.Piece.{Piece};
+    ghost use Rattle.transfer_base.specs.declared.Piece.{Piece};
 
     ghost Value = { List Piece };
 

@@ -1,5 +1,5 @@
 ghost use Rattle.std.specs.Prelude.{◌≡◌, ◌+◌, ◌<◌, ◌≤◌, ◌⊎◌, ◌↔◌, IsTrue, IsSome, false, length, None, Some, [], ◌∷◌, IfOk, IfSome, OnOk, OnErr};
-ghost use Rattle.transfer_chunk.specs.PieceLists.{BeginsAt, end_of};
+ghost use Rattle.transfer_base.specs.PieceLists.{BeginsAt, end_of};
 ghost use Rattle.transfer_sender.specs.Answer.{answer_to, pieces_for, pieces_again, start_of, is_past_end, chunk_size, empty_last_piece};
 ghost use Rattle.transfer_sender.specs.Cut.{IsCut};
 ghost use Rattle.transfer_sender.specs.Sender.{new_sender, touched, ticked, completed};
@@ -10,7 +10,7 @@ use bytes::Bytes;
 use rpc_ids::Status;
 use std::alloc::{AllocError, Global};
 use std::marker::Model;
-use transfer_chunk::{Ask, MAX_CHUNK, MAX_RESOURCE, TIMEOUT};
+use transfer_base::{Ask, MAX_CHUNK, MAX_RESOURCE, TIMEOUT};
 
 /// The timeouts in a row that end a transfer.
 pub const MAX_TIMEOUTS: u8 = 5;

@@ -5,7 +5,7 @@ use rpc_ids::Status;
 use std::alloc::{AllocError, Global};
 use std::process::Abort;
 use std::test::Fail;
-use transfer_chunk::Ask;
+use transfer_base::Ask;
 
 // Where a piece begins, how many bytes it has, and whether it is the last.
 type Part = (u64, usize, bool);

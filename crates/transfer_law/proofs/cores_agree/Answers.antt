@@ -1,7 +1,7 @@
 use Rattle.std.specs.List.{Contains}
 use Rattle.std.proofs.lemmas.List.Elements.{All-contains, All-weaker}
-use Rattle.transfer_chunk.specs.declared.Piece.{Piece}
-use Rattle.transfer_chunk.specs.PieceLists.{IsPartOf}
+use Rattle.transfer_base.specs.declared.Piece.{Piece}
+use Rattle.transfer_base.specs.PieceLists.{IsPartOf}
 use Rattle.transfer_sender.specs.Run.{sent}
 use Rattle.transfer_sender.proofs.RunLaws.{sends_parts}
 use Rattle.transfer_receiver.specs.Run.{came}

@@ -1,5 +1,5 @@
 use Rattle.std.proofs.Common.{◌≡◌, ◌+◌, ◌-◌, ◌≤◌, ◌<◌, ◌++◌, length, min, suc, arith, sym, ◌∙◌, ap}
-use Rattle.transfer_chunk.specs.PieceLists.{end_of}
+use Rattle.transfer_base.specs.PieceLists.{end_of}
 use Rattle.transfer_sender.specs.Cut.{pieces_up_to, pieces_of_window}
 use Rattle.transfer_sender.proofs.CutLemmas.{cut-done, cut-more, end-more, pieces_up_to-done, pieces_up_to-zero}
 use Rattle.transfer_sender.proofs.cut.cut_window.Goals as goal

@@ -1,5 +1,5 @@
 use Rattle.std.proofs.Common.{◌≡◌, ◌-◌, ◌≤◌, ◌++◌, length}
-use Rattle.transfer_chunk.specs.PieceLists.{end_of}
+use Rattle.transfer_base.specs.PieceLists.{end_of}
 use Rattle.transfer_sender.specs.Cut.{pieces_up_to}
 use Rattle.transfer_sender.proofs.cut.cut_window.Given as goal
 

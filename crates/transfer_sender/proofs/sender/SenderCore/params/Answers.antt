@@ -1,6 +1,6 @@
 use Rattle.std.proofs.Common.{◌≡◌, List, sym, subst}
-use Rattle.transfer_chunk.specs.declared.Piece.{Piece}
-use Rattle.transfer_chunk.specs.PieceLists.{BeginsAt}
+use Rattle.transfer_base.specs.declared.Piece.{Piece}
+use Rattle.transfer_base.specs.PieceLists.{BeginsAt}
 use Rattle.transfer_sender.specs.Answer.{chunk_size}
 use Rattle.transfer_sender.specs.Cut.{IsCut}
 use Rattle.transfer_sender.proofs.AnswerLemmas.{pieces_for-again, pieces_for-on, pieces_for-first}

@@ -1,5 +1,5 @@
 ghost use Rattle.std.specs.Prelude.{◌≤◌};
-ghost use Rattle.transfer_chunk.specs.declared.limits.TheConstants.{MAX_CHUNK, MAX_WINDOW};
+ghost use Rattle.transfer_base.specs.declared.limits.TheConstants.{MAX_CHUNK, MAX_WINDOW};
 
 /// How a receiver asks.
 #[derive(Clone, Copy, Debug, PartialEq, Eq)]

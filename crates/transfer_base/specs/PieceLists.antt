@@ -1,6 +1,6 @@
 -- Pieces of a resource, and lists of them.
 use Rattle.std.specs.Prelude.{◌≡◌, ℕ, ◌+◌, ◌==◌, ◌⊎◌, true, false, List, [], ◌∷◌, ◌++◌, length, take, drop, All}
-use Rattle.transfer_chunk.specs.declared.piece.Piece.{Piece}
+use Rattle.transfer_base.specs.declared.piece.Piece.{Piece}
 
 -- an honest piece of a resource: it has the resource's bytes at its offset, and is the last one exactly where it ends
 -- with the resource
