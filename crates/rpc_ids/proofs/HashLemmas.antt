@@ -1,5 +1,5 @@
 -- One step of the hash of a name, modulo 2^32.
-use Rattle.std.proofs.Common.{◌≡◌, ℕ, ◌+◌, ◌*◌, ◌%◌, ◌^◌, refl, ap, sym, ◌∙◌, arith, add-one}
+use Rattle.std.proofs.Common.{◌≡◌, ℕ, ◌+◌, ◌*◌, ◌%◌, ◌^◌, ap, sym, ◌∙◌, arith, add-one}
 use Rattle.std.proofs.Math.Nat.{mod-add-mod, add-mod-mod, pow-suc}
 use Rattle.std.proofs.lemmas.Nat.{mul-mod_first, mul-mod_second}
 

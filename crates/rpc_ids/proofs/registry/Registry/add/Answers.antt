@@ -1,4 +1,4 @@
-use Rattle.std.proofs.Common.{◌≡◌, ◌∙◌, ap, IsNone}
+use Rattle.std.proofs.Common.{◌∙◌, ap, IsNone}
 use Rattle.rpc_ids.specs.declared.method.MethodRef.{MethodRef}
 use Rattle.rpc_ids.specs.Registry.{method_of}
 use Rattle.rpc_ids.proofs.RegistryLemmas.{added_is_found}
