@@ -1,12 +1,12 @@
 -- What a sender answers, by the kinds of ask.
-use Rattle.std.proofs.Common.{◌≡◌, ℕ, ◌<◌, ◌≤◌, ◌==◌, min, List, [], ◌∷◌, length, refl, nat_lt, Bool, true, false, arith, sym, ◌⊎◌, inl, inr}
+use Rattle.std.proofs.Common.{◌≡◌, ℕ, ◌<◌, ◌≤◌, ◌==◌, List, [], ◌∷◌, length, true, false, arith, sym, ◌⊎◌, inl, inr}
 use Rattle.std.proofs.lemmas.Bool.Decides.{nat_tests}
 use Rattle.std.proofs.lemmas.Bool.{eq-eqb}
 use Rattle.transfer_base.specs.PieceLists.{BeginsAt}
 use Rattle.transfer_base.specs.declared.Ask.{Ask}
 use Rattle.transfer_base.specs.declared.Piece.{Piece}
 use Rattle.transfer_sender.specs.Cut.{IsCut}
-use Rattle.transfer_sender.specs.Answer.{chunk_size, pieces_for, empty_last_piece, is_past_end}
+use Rattle.transfer_sender.specs.Answer.{chunk_size, pieces_for}
 use Rattle.transfer_sender.specs.Sender.{Sender}
 use Rattle.transfer_sender.proofs.CutLaws.{cut_of_window}
 

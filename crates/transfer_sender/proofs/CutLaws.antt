@@ -1,5 +1,5 @@
 -- The pieces that are computed for a window are those that are asked, and nothing else is.
-use Rattle.std.proofs.Common.{◌≡◌, ℕ, ◌+◌, ◌-◌, ◌<◌, ◌≤◌, ◌==◌, ◌⊎◌, ◌↔◌, inl, inr, List, [], ◌∷◌, length, take, drop, zero, suc, min, refl, nat_lt, Bool, true, false, arith, ◌∙◌, sym, ap, subst}
+use Rattle.std.proofs.Common.{◌≡◌, ℕ, ◌+◌, ◌-◌, ◌<◌, ◌≤◌, ◌==◌, ◌⊎◌, inl, inr, List, [], ◌∷◌, length, take, drop, zero, suc, min, refl, nat_lt, Bool, true, false, arith, ◌∙◌, sym, ap, subst}
 use Rattle.std.specs.List.{All}
 use Rattle.std.proofs.lemmas.List.Elements.{All-nil, All-cons, All-head, All-tail}
 use Rattle.std.proofs.lemmas.Bool.Decides.{nat_tests}
@@ -31,11 +31,23 @@ IsNotEmpty p = 0 < length p.bytes
 
 cut_nothing : (bytes : List ℕ) (chunk window_end at most : ℕ) → min window_end (length bytes) ≤ at → IsCutOf bytes chunk window_end at most []
 cut_nothing bytes chunk window_end at most h = record {
-    consecutive = tt; parts = All-nil (IsPartOf bytes); sizes = All-nil (IsSized bytes chunk window_end); not_empty = All-nil IsNotEmpty; count = omega arith; whole = inr h }
+  consecutive = tt;
+  parts = All-nil (IsPartOf bytes);
+  sizes = All-nil (IsSized bytes chunk window_end);
+  not_empty = All-nil IsNotEmpty;
+  count = omega arith;
+  whole = inr h;
+}
 
 cut_no_more : (bytes : List ℕ) (chunk window_end at : ℕ) → IsCutOf bytes chunk window_end at zero []
 cut_no_more bytes chunk window_end at = record {
-    consecutive = tt; parts = All-nil (IsPartOf bytes); sizes = All-nil (IsSized bytes chunk window_end); not_empty = All-nil IsNotEmpty; count = omega arith; whole = inl refl }
+  consecutive = tt;
+  parts = All-nil (IsPartOf bytes);
+  sizes = All-nil (IsSized bytes chunk window_end);
+  not_empty = All-nil IsNotEmpty;
+  count = omega arith;
+  whole = inl refl;
+}
 
 -- a piece in front
 cut_one_more : (bytes : List ℕ) (chunk window_end at most : ℕ) (ps : List Piece) →
@@ -54,12 +66,13 @@ cut_one_more bytes chunk window_end at most ps chunk_low below rest =
     let E : ℕ → Type 0 = λ n. min window_end (length bytes) ≤ end_of (at + n) ps in
     let W : Type 0 = (length (p ∷ ps) ≡ suc most) ⊎ (min window_end (length bytes) ≤ end_of at (p ∷ ps)) in
     record {
-        consecutive = (refl, subst P (sym long) rest.consecutive);
-        parts = All-cons (IsPartOf bytes) p ps part rest.parts;
-        sizes = All-cons (IsSized bytes chunk window_end) p ps sized rest.sizes;
-        not_empty = All-cons IsNotEmpty p ps not_empty rest.not_empty;
-        count = omega arith;
-        whole = elim rest.whole as (λ _. W) [ inl full ↦ inl (omega arith) | inr done ↦ inr (subst E (sym long) done) ] }
+      consecutive = (refl, subst P (sym long) rest.consecutive);
+      parts = All-cons (IsPartOf bytes) p ps part rest.parts;
+      sizes = All-cons (IsSized bytes chunk window_end) p ps sized rest.sizes;
+      not_empty = All-cons IsNotEmpty p ps not_empty rest.not_empty;
+      count = omega arith;
+      whole = elim rest.whole as (λ _. W) [ inl full ↦ inl (omega arith) | inr done ↦ inr (subst E (sym long) done) ];
+    }
 
 computed : (bytes : List ℕ) (chunk window_end at most : ℕ) → 1 ≤ chunk →
     IsCutOf bytes chunk window_end at most (pieces_up_to bytes chunk (min window_end (length bytes)) at most)
@@ -77,7 +90,7 @@ computed bytes chunk window_end at (suc most) chunk_low =
         let next = at + size_at bytes chunk window_end at in
         let P : List Piece → Type 0 = IsCutOf bytes chunk window_end at (suc most) in
         subst P (sym (pieces_up_to-suc bytes chunk (min window_end (length bytes)) at most below))
-            (cut_one_more bytes chunk window_end at most (pieces_up_to bytes chunk (min window_end (length bytes)) next most) chunk_low below (rest next))
+        (cut_one_more bytes chunk window_end at most (pieces_up_to bytes chunk (min window_end (length bytes)) next most) chunk_low below (rest next))
     by_test rest false e =
         let done : min window_end (length bytes) ≤ at = grind (arith, nat_tests) in
         let P : List Piece → Type 0 = IsCutOf bytes chunk window_end at (suc most) in
@@ -97,8 +110,8 @@ part_is bytes p at size part is_offset is_size =
     let P : ℕ → ℕ → List ℕ = λ o n. take n (drop o bytes) in
     let Q : ℕ → ℕ → Bool = λ o n. o + n == length bytes in
     same_piece p at (take size (drop at bytes)) (at + size == length bytes) is_offset
-        (part.bytes ∙ (ap (λ n. P p.offset n) is_size ∙ ap (λ o. P o size) is_offset))
-        (part.last ∙ (ap (λ n. Q p.offset n) is_size ∙ ap (λ o. Q o size) is_offset))
+    (part.bytes ∙ (ap (λ n. P p.offset n) is_size ∙ ap (λ o. P o size) is_offset))
+    (part.last ∙ (ap (λ n. Q p.offset n) is_size ∙ ap (λ o. Q o size) is_offset))
 
 unique : (bytes : List ℕ) (chunk window_end at most : ℕ) (ps : List Piece) →
     IsCutOf bytes chunk window_end at most ps → ps ≡ pieces_up_to bytes chunk (min window_end (length bytes)) at most
@@ -117,12 +130,13 @@ unique bytes chunk window_end at (suc most) (p ∷ ps) cut =
     let E : ℕ → Type 0 = λ n. min window_end (length bytes) ≤ end_of (at + n) ps in
     let W : Type 0 = (length ps ≡ most) ⊎ (min window_end (length bytes) ≤ end_of (at + size_at bytes chunk window_end at) ps) in
     let rest : IsCutOf bytes chunk window_end (at + size_at bytes chunk window_end at) most ps = record {
-        consecutive = subst P long cut.consecutive.1;
-        parts = All-tail (IsPartOf bytes) p ps cut.parts;
-        sizes = All-tail (IsSized bytes chunk window_end) p ps cut.sizes;
-        not_empty = All-tail IsNotEmpty p ps cut.not_empty;
-        count = omega arith;
-        whole = elim cut.whole as (λ _. W) [ inl full ↦ inl (omega arith) | inr done ↦ inr (subst E long done) ] } in
+      consecutive = subst P long cut.consecutive.1;
+      parts = All-tail (IsPartOf bytes) p ps cut.parts;
+      sizes = All-tail (IsSized bytes chunk window_end) p ps cut.sizes;
+      not_empty = All-tail IsNotEmpty p ps cut.not_empty;
+      count = omega arith;
+      whole = elim cut.whole as (λ _. W) [ inl full ↦ inl (omega arith) | inr done ↦ inr (subst E long done) ];
+    } in
     ap (λ q. q ∷ ps) (part_is bytes p at (size_at bytes chunk window_end at) (All-head (IsPartOf bytes) p ps cut.parts) is_offset long)
     ∙ (ap (λ qs. piece_at bytes at (size_at bytes chunk window_end at) ∷ qs) (unique bytes chunk window_end (at + size_at bytes chunk window_end at) most ps rest)
     ∙ sym (pieces_up_to-suc bytes chunk (min window_end (length bytes)) at most below))
@@ -134,7 +148,8 @@ cut_of_window resource chunk window_end position chunk_low =
     record { consecutive = cut.consecutive; parts = cut.parts; sizes = cut.sizes; not_empty = cut.not_empty; count = cut.count; whole = cut.whole }
 
 pub cut_is_exact : CutIsExact
-cut_is_exact resource chunk window_end position pieces chunk_low =
-    ((λ e. (let P : List Piece → Type 0 = IsCut resource chunk window_end position in subst P (sym e) (cut_of_window resource chunk window_end position chunk_low))),
-     (λ cut. unique resource chunk window_end position MAX_PIECES pieces
-        (record { consecutive = cut.consecutive; parts = cut.parts; sizes = cut.sizes; not_empty = cut.not_empty; count = cut.count; whole = cut.whole })))
+cut_is_exact resource chunk window_end position pieces chunk_low = (
+  (λ e. (let P : List Piece → Type 0 = IsCut resource chunk window_end position in subst P (sym e) (cut_of_window resource chunk window_end position chunk_low))),
+  (λ cut. unique resource chunk window_end position MAX_PIECES pieces
+      (record { consecutive = cut.consecutive; parts = cut.parts; sizes = cut.sizes; not_empty = cut.not_empty; count = cut.count; whole = cut.whole })),
+)

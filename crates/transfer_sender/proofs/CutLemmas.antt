@@ -1,5 +1,5 @@
 -- The pieces up to a stop, one at a time.
-use Rattle.std.proofs.Common.{◌≡◌, ℕ, ◌+◌, ◌-◌, ◌<◌, ◌≤◌, List, [], ◌∷◌, ◌++◌, length, take, drop, zero, suc, min, refl, nat_lt, Bool, true, false, arith, append_assoc, append-nil, ◌∙◌, sym, ap}
+use Rattle.std.proofs.Common.{◌≡◌, ℕ, ◌+◌, ◌-◌, ◌<◌, ◌≤◌, List, [], ◌∷◌, ◌++◌, length, take, drop, zero, suc, min, refl, nat_lt, true, false, arith, append_assoc, append-nil, ◌∙◌, sym, ap}
 use Rattle.transfer_base.specs.declared.Piece.{Piece}
 use Rattle.transfer_base.specs.PieceLists.{end_of}
 use Rattle.transfer_sender.specs.Cut.{piece_at, pieces_up_to, pieces_of_window}

@@ -1,12 +1,11 @@
 -- All that a sender sends are parts of its resource.
-use Rattle.std.proofs.Common.{◌≡◌, ℕ, ◌+◌, ◌≤◌, ◌==◌, List, [], ◌∷◌, ◌++◌, length, refl, nat_le, Bool, true, false, subst}
+use Rattle.std.proofs.Common.{◌≡◌, ℕ, ◌+◌, ◌==◌, List, [], ◌∷◌, length, refl, nat_le, Bool, true, false, subst}
 use Rattle.std.specs.List.{All}
 use Rattle.std.proofs.lemmas.List.Elements.{All-nil, All-cons, All-append}
 use Rattle.transfer_base.specs.declared.Ask.{Ask}
-use Rattle.transfer_base.specs.declared.Piece.{Piece}
 use Rattle.transfer_base.specs.declared.limits.TheConstants.{TIMEOUT}
 use Rattle.transfer_base.specs.PieceLists.{IsPartOf}
-use Rattle.transfer_sender.specs.Sender.{Sender, touched, ticked, completed}
+use Rattle.transfer_sender.specs.Sender.{Sender, touched, ticked}
 use Rattle.transfer_sender.specs.Cut.{pieces_of_window}
 use Rattle.transfer_sender.specs.Answer.{answer_to, pieces_for, chunk_size, is_past_end, empty_last_piece}
 use Rattle.transfer_sender.specs.Run.{Event, ask_comes, other_chunk_comes, time_passes, end_is_told, after_event, sent_at, sent, SendsParts}
@@ -57,7 +56,7 @@ parts_from [] s = All-nil (IsPartOf s.bytes)
 parts_from (event ∷ events) s =
     let P : List ℕ → Type 0 = λ resource. All (IsPartOf resource) (sent (after_event s event) events) in
     All-append (IsPartOf s.bytes) (sent_at s event) (sent (after_event s event) events) (sent_at-parts s event)
-        (subst P (after_event-bytes s event) (parts_from events (after_event s event)))
+    (subst P (after_event-bytes s event) (parts_from events (after_event s event)))
 
 pub sends_parts : SendsParts
 sends_parts s events = parts_from events s

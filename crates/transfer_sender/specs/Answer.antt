@@ -1,5 +1,5 @@
 -- What a sender does with parameters.
-use Rattle.std.specs.Prelude.{ℕ, ◌==◌, ◌&&◌, nat_lt, min, List, [], ◌∷◌, length, Bool, true, false, if◌then◌else◌, Some}
+use Rattle.std.specs.Prelude.{ℕ, ◌==◌, ◌&&◌, nat_lt, min, List, [], ◌∷◌, length, Bool, if◌then◌else◌, Some}
 use Rattle.rpc_ids.specs.declared.Status.TheVariants.{OutOfRange}
 use Rattle.transfer_base.specs.declared.Ask.{Ask}
 use Rattle.transfer_base.specs.declared.Piece.{Piece}

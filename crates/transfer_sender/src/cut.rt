@@ -32,7 +32,13 @@ pub fn piece_at(resource: &Bytes, offset: u64, size: u64) -> Result<Piece, Alloc
 }
 
 /// The pieces of one window, from `position` on.
-pub fn cut_window(alloc: Global, resource: &Bytes, chunk: u64, window_end: u64, position: u64) -> Result<Cut, AllocError>
+pub fn cut_window(
+    alloc: Global,
+    resource: &Bytes,
+    chunk: u64,
+    window_end: u64,
+    position: u64,
+) -> Result<Cut, AllocError>
     requires { position ≤ length resource.now }
     ensures pieces { IfOk result (λ c. c.pieces ≡ pieces_of_window resource.now chunk window_end position) }
     ensures end { IfOk result (λ c. c.end ≡ end_of position (pieces_of_window resource.now chunk window_end position)) }

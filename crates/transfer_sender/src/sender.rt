@@ -162,7 +162,8 @@ impl SenderCore {
         if ask.again {
             return self.cut_again(alloc, ask);
         }
-        cut_window(alloc, &self.bytes, chunk_size(ask.max_chunk), ask.window_end, self.position)
+        let chunk = chunk_size(ask.max_chunk);
+        cut_window(alloc, &self.bytes, chunk, ask.window_end, self.position)
     }
 
     fn cut_again(&self, alloc: Global, ask: Ask) -> Result<Cut, AllocError>
@@ -179,7 +180,8 @@ impl SenderCore {
                 end: ask.offset,
             });
         }
-        cut_window(alloc, &self.bytes, chunk_size(ask.max_chunk), ask.window_end, ask.offset)
+        let chunk = chunk_size(ask.max_chunk);
+        cut_window(alloc, &self.bytes, chunk, ask.window_end, ask.offset)
     }
 }
 

@@ -61,7 +61,9 @@ fn assert_parts(rt: &impl Abort, data: &[u8], pieces: &Pieces, parts: &[Part], n
     for (piece, (offset, size, last)) in pieces.as_slice().iter().zip(parts) {
         assert_eq!(rt; piece.offset, *offset, "{name}");
         assert_eq!(rt; piece.last, *last, "{name}, at {offset}");
-        let part = data.get(*offset as usize..).and_then(|rest| rest.get(..*size));
+        let part = data
+            .get(*offset as usize..)
+            .and_then(|rest| rest.get(..*size));
         assert_eq!(rt; Some(piece.bytes.as_slice()), part, "{name}, at {offset}");
     }
 }
@@ -72,15 +74,47 @@ fn parts_of_a_window(rt: HostRuntime) -> Result<(), Fail> {
     let whole: [Part; 3] = [(0, 1024, false), (1024, 1024, false), (2048, 952, true)];
     for (name, ask, parts) in [
         ("no chunk size", again(0, 3_000, 0), whole.as_slice()),
-        ("the largest chunk", again(0, 3_000, 1_024), whole.as_slice()),
+        (
+            "the largest chunk",
+            again(0, 3_000, 1_024),
+            whole.as_slice(),
+        ),
         ("a larger chunk", again(0, 3_000, 1_025), whole.as_slice()),
-        ("a window past the end", again(0, 9_000, 1_024), whole.as_slice()),
-        ("two chunks", again(0, 512, 256), [(0, 256, false), (256, 256, false)].as_slice()),
-        ("part of a chunk", again(0, 300, 256), [(0, 256, false), (256, 44, false)].as_slice()),
-        ("up to one byte before the end", again(2_000, 2_999, 1_024), [(2_000, 999, false)].as_slice()),
-        ("up to the end", again(2_000, 3_000, 1_000), [(2_000, 1_000, true)].as_slice()),
-        ("the last byte", again(2_999, 9_000, 256), [(2_999, 1, true)].as_slice()),
-        ("at the end", again(3_000, 9_000, 256), [(3_000, 0, true)].as_slice()),
+        (
+            "a window past the end",
+            again(0, 9_000, 1_024),
+            whole.as_slice(),
+        ),
+        (
+            "two chunks",
+            again(0, 512, 256),
+            [(0, 256, false), (256, 256, false)].as_slice(),
+        ),
+        (
+            "part of a chunk",
+            again(0, 300, 256),
+            [(0, 256, false), (256, 44, false)].as_slice(),
+        ),
+        (
+            "up to one byte before the end",
+            again(2_000, 2_999, 1_024),
+            [(2_000, 999, false)].as_slice(),
+        ),
+        (
+            "up to the end",
+            again(2_000, 3_000, 1_000),
+            [(2_000, 1_000, true)].as_slice(),
+        ),
+        (
+            "the last byte",
+            again(2_999, 9_000, 256),
+            [(2_999, 1, true)].as_slice(),
+        ),
+        (
+            "at the end",
+            again(3_000, 9_000, 256),
+            [(3_000, 0, true)].as_slice(),
+        ),
         ("no window", again(500, 500, 256), [].as_slice()),
         ("a window behind", again(500, 400, 256), [].as_slice()),
     ] {
@@ -97,12 +131,28 @@ fn going_on_and_going_back(rt: HostRuntime) -> Result<(), Fail> {
     let resource = resource(rt.alloc(), 1_000)?;
     let mut sender = sender_of(&rt, &resource)?;
     for (name, ask, parts) in [
-        ("from the beginning", again(0, 512, 256), [(0, 256, false), (256, 256, false)].as_slice()),
+        (
+            "from the beginning",
+            again(0, 512, 256),
+            [(0, 256, false), (256, 256, false)].as_slice(),
+        ),
         ("nothing new", go_on(512, 256), [].as_slice()),
-        ("the rest", go_on(1_536, 256), [(512, 256, false), (768, 232, true)].as_slice()),
+        (
+            "the rest",
+            go_on(1_536, 256),
+            [(512, 256, false), (768, 232, true)].as_slice(),
+        ),
         ("nothing behind the end", go_on(2_048, 256), [].as_slice()),
-        ("back", again(768, 1_792, 256), [(768, 232, true)].as_slice()),
-        ("back to the end", again(1_000, 2_024, 256), [(1_000, 0, true)].as_slice()),
+        (
+            "back",
+            again(768, 1_792, 256),
+            [(768, 232, true)].as_slice(),
+        ),
+        (
+            "back to the end",
+            again(1_000, 2_024, 256),
+            [(1_000, 0, true)].as_slice(),
+        ),
     ] {
         let pieces = answer(rt.alloc(), &mut sender, ask)?.expect(&rt, name);
         assert_parts(&rt, resource.as_slice(), &pieces, parts, name);
@@ -110,8 +160,17 @@ fn going_on_and_going_back(rt: HostRuntime) -> Result<(), Fail> {
     let many = answer(rt.alloc(), &mut sender, again(0, 1_000, 1))?.expect(&rt, "many");
     assert_eq!(rt; many.as_slice().len(), 64);
     let more = answer(rt.alloc(), &mut sender, go_on(65, 1))?.expect(&rt, "more");
-    assert_parts(&rt, resource.as_slice(), &more, [(64, 1, false)].as_slice(), "behind 64 pieces");
-    let none = answer(rt.alloc(), &mut sender, again(1_001, 2_025, 256))?.expect(&rt, "past the end");
+    assert_parts(
+        &rt,
+        resource.as_slice(),
+        &more,
+        [(64, 1, false)].as_slice(),
+        "behind 64 pieces",
+    );
+    let none = answer(rt.alloc(), &mut sender, again(1_001, 2_025, 256))?.expect(
+        &rt,
+        "past the end",
+    );
     assert_eq!(rt; none.as_slice().len(), 0);
     assert_eq!(rt; sender.end(), Some(Status::OutOfRange));
     Ok(())

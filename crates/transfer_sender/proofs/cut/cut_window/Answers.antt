@@ -1,6 +1,6 @@
-use Rattle.std.proofs.Common.{◌≡◌, ◌+◌, ◌-◌, ◌≤◌, ◌<◌, ◌++◌, length, min, suc, arith, sym, ◌∙◌, ap}
+use Rattle.std.proofs.Common.{◌≡◌, ◌+◌, ◌-◌, ◌≤◌, length, suc, arith, sym, ◌∙◌, ap}
 use Rattle.transfer_base.specs.PieceLists.{end_of}
-use Rattle.transfer_sender.specs.Cut.{pieces_up_to, pieces_of_window}
+use Rattle.transfer_sender.specs.Cut.{pieces_of_window}
 use Rattle.transfer_sender.proofs.CutLemmas.{cut-done, cut-more, end-more, pieces_up_to-done, pieces_up_to-zero}
 use Rattle.transfer_sender.proofs.cut.cut_window.Goals as goal
 
@@ -25,13 +25,14 @@ loop-turn-preserved c =
     let is_piece = c.in_ok-piece_at.ensures in
     let within : c.loop-turn.at + c.min-size.result ≤ length c.args.resource.now = omega arith in
     record {
-        rest = cut-more c.args.resource.now c.args.chunk c.min-stop.result c.loop-turn.at c.min-size.result (64 - (c.loop-turn._turn + 1))
-            c.loop-turn.pieces c.push.new.self _ c.in_ok-piece_at.field-0
-            (omega arith) (omega arith) is_piece is_pushed
-            (rw (one_less) at c.loop-turn.invariant.rest);
-        end = end-more c.args.resource.now c.args.position c.loop-turn.at c.min-size.result c.loop-turn.pieces c.push.new.self c.in_ok-piece_at.field-0
-            is_piece is_pushed within c.loop-turn.invariant.end;
-        within = within }
+      rest = cut-more c.args.resource.now c.args.chunk c.min-stop.result c.loop-turn.at c.min-size.result (64 - (c.loop-turn._turn + 1))
+          c.loop-turn.pieces c.push.new.self _ c.in_ok-piece_at.field-0
+          (omega arith) (omega arith) is_piece is_pushed
+          (rw (one_less) at c.loop-turn.invariant.rest);
+      end = end-more c.args.resource.now c.args.position c.loop-turn.at c.min-size.result c.loop-turn.pieces c.push.new.self c.in_ok-piece_at.field-0
+          is_piece is_pushed within c.loop-turn.invariant.end;
+      within = within;
+    }
 
 -- as many pieces as one answer may have
 all_used : (c : goal.After-loop-turn) → c.loop-turn.pieces ≡ pieces_of_window c.args.resource.now c.args.chunk c.args.window_end c.args.position

@@ -7,4 +7,5 @@ abbrev pub invariant-loop-turn : goal.invariant-loop-turn
 invariant-loop-turn l = record {
   rest : l.pieces ++ pieces_up_to l.resource l.chunk l.stop l.at (64 - l._turn) ≡ pieces_up_to l.resource l.chunk l.stop l.fn.position 64;
   end : end_of l.fn.position l.pieces ≡ l.at;
-  within : l.at ≤ length l.resource }
+  within : l.at ≤ length l.resource;
+}

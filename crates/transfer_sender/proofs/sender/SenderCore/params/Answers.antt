@@ -1,4 +1,4 @@
-use Rattle.std.proofs.Common.{◌≡◌, List, sym, subst}
+use Rattle.std.proofs.Common.{List, sym, subst}
 use Rattle.transfer_base.specs.declared.Piece.{Piece}
 use Rattle.transfer_base.specs.PieceLists.{BeginsAt}
 use Rattle.transfer_sender.specs.Answer.{chunk_size}
