@@ -1,4 +1,5 @@
-/// What a receiver asks of the sender: the parameters of a transfer.
+/// What a receiver asks of the sender: the parameters of a transfer, as pw_transfer's PARAMETERS_RETRANSMIT
+/// and PARAMETERS_CONTINUE chunks carry them.
 #[derive(Clone, Copy, Debug, PartialEq, Eq)]
 pub struct Ask {
     /// Whether the sender goes back to `offset`, as RETRANSMIT says and CONTINUE does not.

@@ -14,7 +14,8 @@ use transfer_base::{Ask, MAX_RESOURCE, MAX_WINDOW, TIMEOUT, Tuning};
 /// How often in a row a receiver sends its parameters or its end again, before it gives up.
 pub const MAX_RESENDS: u8 = 3;
 
-/// The receiving end of one transfer.
+/// The receiving end of one transfer, after the data phase and the completion of pw_transfer's
+/// protocol version 2.
 ///
 /// Contracts see it as a `Receiver`: the next byte that it lacks, the window that it has asked for,
 /// and its phase.

@@ -15,7 +15,8 @@ use transfer_base::{Ask, MAX_CHUNK, MAX_RESOURCE, TIMEOUT};
 /// The timeouts in a row that end a transfer.
 pub const MAX_TIMEOUTS: u8 = 5;
 
-/// The sending end of one transfer.
+/// The sending end of one transfer, after the data phase and the completion of pw_transfer's protocol
+/// version 2.
 ///
 /// Contracts see it as a `Sender`: the resource, the next byte that it sends, and how it ended.
 #[derive(Debug, Drop)]
