@@ -1,10 +1,10 @@
 -- Fields that are written where they have a value.
-use Rattle.std.proofs.Common.{◌≡◌, ℕ, ◌+◌, ◌<◌, ◌≤◌, List, [], ◌∷◌, ◌++◌, length, drop, get_or, map, Option, Some, None, IfSome, refl, ap, sym, ◌∙◌, arith, Bool, true, false, cond, eqb, subst, append_assoc, append-nil}
+use Rattle.std.proofs.Common.{◌≡◌, ℕ, ◌+◌, ◌<◌, ◌≤◌, List, [], ◌∷◌, ◌++◌, length, drop, get_or, map, Option, Some, None, refl, ap, sym, ◌∙◌, Bool, true, false, cond, eqb, subst, append_assoc, append-nil}
 use Rattle.std.proofs.lemmas.List.{at_drop_more}
 use Rattle.proto_wire.specs.Field.{WireValue, WireField}
 use Rattle.proto_wire.specs.Entries.{Entry, entry_of, entries_of, with_entry, present, fields_text, entry_text, AllNumbered, IsFitting, AllFitting}
-use Rattle.proto_wire.specs.Message.{Placed, Message, with_field, wire_fields, fields_from, fields_of, no_fields}
-use Rattle.proto_wire.specs.Spelling.{field_text, FitsWire, IsWritable}
+use Rattle.proto_wire.specs.Message.{Placed, wire_fields, fields_from, fields_of}
+use Rattle.proto_wire.specs.Spelling.{field_text, IsWritable}
 use Rattle.proto_wire.specs.Typed.{last_after, FieldType, may_have, fault_among, fault_of}
 use Rattle.proto_wire.specs.declared.writer.OptionalField.{OptionalField}
 use Rattle.proto_wire.proofs.SpellingLaws.{field_text_reads}

@@ -1,5 +1,5 @@
 -- What is read at the front of some bytes is spelled there, and what is spelled there is read.
-use Rattle.std.proofs.Common.{◌≡◌, ℕ, zero, suc, ◌+◌, ◌-◌, ◌*◌, ◌<◌, ◌≤◌, ◌^◌, ◌/◌, ◌%◌, min, List, [], ◌∷◌, ◌++◌, length, take, drop, Option, Some, None, option_map, option_and_then, refl, ap, sym, ◌∙◌, arith, Bool, true, false, cond, ltb, lt-ltb, le-ltb, subst, inl, inr, ◌⊎◌, length-append, append_assoc, eqb, leb, le-leb, eq-eqb, ◌&&◌}
+use Rattle.std.proofs.Common.{◌≡◌, ℕ, zero, suc, ◌+◌, ◌-◌, ◌*◌, ◌<◌, ◌≤◌, ◌^◌, ◌/◌, ◌%◌, List, [], ◌∷◌, ◌++◌, length, take, drop, Some, option_map, option_and_then, refl, ap, sym, ◌∙◌, arith, true, cond, ltb, lt-ltb, le-ltb, subst, inl, inr, ◌⊎◌, length-append, append_assoc, eqb, leb, le-leb, ◌&&◌}
 use Rattle.std.proofs.lemmas.Bool.{cases_lt, ltb-true, leb-true, eqb-true}
 use Rattle.std.proofs.lemmas.Option.{option_and_then_some, same_Some}
 use Rattle.std.proofs.lemmas.List.{length-take-le, take-append-drop}

@@ -1,12 +1,10 @@
 -- One step of a reading of fields.
-use Rattle.std.proofs.Common.{◌≡◌, ◌≢◌, ℕ, ◌+◌, ◌-◌, ◌<◌, ◌≤◌, List, [], ◌∷◌, ◌++◌, length, drop, Option, Some, None, refl, ap, sym, ◌∙◌, arith, Bool, true, false, subst, eqb, length-append, length-drop}
+use Rattle.std.proofs.Common.{◌≡◌, ℕ, ◌+◌, ◌-◌, ◌<◌, ◌≤◌, List, [], ◌∷◌, ◌++◌, length, drop, Some, None, refl, ap, sym, ◌∙◌, arith, Bool, true, false, eqb, length-append, length-drop}
 use Rattle.std.proofs.Math.Seq.{drop-append_seam}
 use Rattle.std.proofs.lemmas.Bool.{false≢true}
 use Rattle.std.proofs.lemmas.List.{drop-drop}
-use Rattle.proto_wire.specs.Field.{WireField, IsField}
 use Rattle.proto_wire.specs.Front.{FieldFront, field_front}
 use Rattle.proto_wire.specs.Message.{HasNoField}
-use Rattle.proto_wire.specs.Reading.{Reading}
 use Rattle.proto_wire.specs.Gives.{GivesField, GivesFault}
 use Rattle.proto_wire.proofs.FrontLaws.{HasField, field_front_spelled, field_front_reads, field_long}
 

@@ -1,8 +1,8 @@
 -- What a reading of fields will still give, before and after each step.
-use Rattle.std.proofs.Common.{◌≡◌, ◌≢◌, ℕ, zero, suc, ◌+◌, ◌-◌, ◌<◌, ◌≤◌, List, [], ◌∷◌, ◌++◌, length, drop, Option, Some, None, refl, ap, sym, ◌∙◌, arith, Bool, true, false, cond, subst, length-append, ◌⊎◌, inl, inr}
+use Rattle.std.proofs.Common.{◌≡◌, ◌≢◌, ℕ, zero, suc, ◌+◌, ◌-◌, ◌<◌, ◌≤◌, List, [], ◌∷◌, ◌++◌, length, Option, Some, None, refl, ap, sym, ◌∙◌, arith, Bool, true, false, cond, subst, length-append, ◌⊎◌, inl, inr}
 use Rattle.proto_wire.specs.Field.{WireField, IsField}
 use Rattle.proto_wire.specs.Front.{FieldFront, field_front}
-use Rattle.proto_wire.specs.Message.{Placed, Message, no_fields, faulty, with_field, then_more, fields_within, fields_from, fields_of, IsRead, ended, field, fault, HasNoField}
+use Rattle.proto_wire.specs.Message.{Message, no_fields, faulty, with_field, then_more, fields_within, fields_from, fields_of, IsRead, ended, field, fault, HasNoField}
 use Rattle.proto_wire.specs.Reading.{Reading, unread}
 use Rattle.proto_wire.specs.Gives.{GivesField, GivesFault}
 use Rattle.proto_wire.proofs.FrontLaws.{HasField, field_front_spelled, field_front_reads, field_long}

@@ -1,7 +1,7 @@
 -- The fields of a message in order, each with its offset, up to the first offset where none can be read.
-use Rattle.std.specs.Prelude.{◌≡◌, ◌≢◌, ℕ, ◌+◌, ◌-◌, ◌*◌, List, [], ◌∷◌, ◌++◌, length, map, Option, Some, None}
+use Rattle.std.specs.Prelude.{◌≡◌, ◌≢◌, ℕ, ◌+◌, ◌-◌, List, [], ◌∷◌, ◌++◌, length, map, Option, Some, None}
 use Rattle.std.proofs.Common.{zero, suc}
-use Rattle.proto_wire.specs.Field.{WireValue, WireField, IsField}
+use Rattle.proto_wire.specs.Field.{WireField, IsField}
 use Rattle.proto_wire.specs.Front.{FieldFront, field_front}
 
 -- a field, and the offset of its tag

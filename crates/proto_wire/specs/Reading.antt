@@ -1,5 +1,5 @@
 -- A reading of fields that is under way.
-use Rattle.std.specs.Prelude.{ℕ, Bool, true, false, if◌then◌else◌, List}
+use Rattle.std.specs.Prelude.{ℕ, Bool, if◌then◌else◌, List}
 use Rattle.proto_wire.specs.Message.{Message, no_fields, fields_from}
 
 -- what is left to read, the offset of its first byte, and whether no field could be read there

@@ -1,5 +1,5 @@
 -- What a message that declares its fields makes of them.
-use Rattle.std.specs.Prelude.{ℕ, ◌^◌, ◌==◌, nat_lt, if◌then◌else◌, Bool, true, false, is_some, List, [], ◌∷◌, Option, Some, None}
+use Rattle.std.specs.Prelude.{ℕ, ◌^◌, ◌==◌, nat_lt, if◌then◌else◌, Bool, true, is_some, List, [], ◌∷◌, Option, Some, None}
 use Rattle.proto_wire.specs.Field.{WireValue, Varint, Fixed64, Bytes, Fixed32, WireField}
 use Rattle.proto_wire.specs.Message.{Placed, Message}
 

@@ -1,5 +1,4 @@
 -- What the values and fields of the program stand for on the wire.
-use Rattle.std.specs.Prelude.{ℕ, ◌^◌, nat_lt, if◌then◌else◌, List, Option, Some, None}
 use Rattle.proto_wire.specs.declared.field.Value.{Value}
 use Rattle.proto_wire.specs.declared.field.Value.TheVariants as value
 use Rattle.proto_wire.specs.declared.field.Field.{Field}

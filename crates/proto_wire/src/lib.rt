@@ -7,6 +7,8 @@ mod field;
 mod fields;
 mod laws;
 mod reader;
+#[cfg(test)]
+mod tests;
 mod writer;
 
 pub use field::{Field, Value};

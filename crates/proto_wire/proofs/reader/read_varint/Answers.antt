@@ -1,5 +1,5 @@
-use Rattle.std.proofs.Common.{◌≡◌, ℕ, ◌+◌, ◌*◌, ◌%◌, ◌^◌, None, sym, ◌∙◌, ap, refl, option_map, get_or, arith, ◌<◌, ◌≤◌, zero-le, length, ◌-◌, List, Option, Some, take, drop, subst}
-use Rattle.proto_wire.specs.Varint.{Number, groups_front, varint_front}
+use Rattle.std.proofs.Common.{◌≡◌, ℕ, ◌+◌, ◌*◌, ◌%◌, ◌^◌, sym, ◌∙◌, ap, refl, get_or, arith, ◌<◌, ◌≤◌, zero-le, length, ◌-◌, List, Option, Some, drop, subst}
+use Rattle.proto_wire.specs.Varint.{Number, groups_front}
 use Rattle.proto_wire.proofs.VarintLemmas.{finish, finish_start, finish_full, reads_cut, reads_large, reads_last, reads_more, next_weight}
 use Rattle.std.proofs.lemmas.List.{take_rest}
 use Rattle.proto_wire.proofs.reader.read_varint.Goals as goal

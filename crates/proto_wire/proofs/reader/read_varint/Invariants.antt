@@ -1,5 +1,5 @@
-use Rattle.std.proofs.Common.{◌≡◌, ℕ, ◌+◌, ◌-◌, ◌*◌, ◌<◌, ◌≤◌, ◌^◌, ◌%◌, drop, length, option_map, option_and_then}
-use Rattle.proto_wire.specs.Varint.{Number, groups_front, varint_front, within_64}
+use Rattle.std.proofs.Common.{◌≡◌, ◌-◌, ◌≤◌, ◌^◌, ◌%◌, drop, length}
+use Rattle.proto_wire.specs.Varint.{groups_front, varint_front}
 use Rattle.proto_wire.proofs.VarintLemmas.{finish}
 use Rattle.proto_wire.proofs.reader.read_varint.Given as goal
 

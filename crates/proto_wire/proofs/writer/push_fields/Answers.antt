@@ -1,4 +1,4 @@
-use Rattle.std.proofs.Common.{◌≡◌, ◌++◌, ◌∷◌, [], ℕ, List, None, ap, sym, ◌∙◌, drop, ◌+◌, append_assoc, get_or}
+use Rattle.std.proofs.Common.{◌++◌, None, ap, ◌∙◌, drop, ◌+◌, append_assoc, get_or}
 use Rattle.proto_wire.specs.declared.writer.OptionalField.{OptionalField}
 use Rattle.proto_wire.specs.Entries.{entries_of, entry_of, entry_text, present, fields_text}
 use Rattle.proto_wire.proofs.EntryLaws.{text_more, numbered_more}

@@ -1,4 +1,4 @@
-use Rattle.std.proofs.Common.{◌≡◌, ◌++◌, ◌∷◌, [], ℕ, List, ◌+◌, ◌%◌, ◌/◌, ◌<◌, ◌^◌, ap, sym, ◌∙◌, append_assoc, arith}
+use Rattle.std.proofs.Common.{◌++◌, ◌∷◌, [], ◌+◌, ◌%◌, ◌/◌, ap, sym, ◌∙◌, append_assoc, arith}
 use Rattle.proto_wire.specs.Varint.{varint_text}
 use Rattle.proto_wire.proofs.SpellingLaws.{varint_text-last, varint_text-more}
 use Rattle.proto_wire.proofs.writer.push_varint.Goals as goal

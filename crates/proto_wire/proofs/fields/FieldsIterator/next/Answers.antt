@@ -1,7 +1,5 @@
-use Rattle.std.proofs.Common.{◌≡◌, ◌≢◌, false, true, ◌+◌, ◌-◌, ◌<◌, ◌≤◌, length, ℕ, List, [], Option, Some, None, ap, sym, ◌∙◌, drop, arith, refl, length-drop}
-use Rattle.proto_wire.specs.Reading.{Reading}
+use Rattle.std.proofs.Common.{◌≡◌, ◌-◌, length, Some, None, ap, sym, ◌∙◌, drop, arith, length-drop}
 use Rattle.proto_wire.specs.Front.{FieldFront, field_front}
-use Rattle.proto_wire.specs.Gives.{GivesField, GivesFault}
 use Rattle.proto_wire.specs.Views.{wire_field}
 use Rattle.proto_wire.proofs.StepLaws.{gives_field, gives_fault, field_front_shorter, some_left}
 use Rattle.proto_wire.proofs.fields.FieldsIterator.next.Goals as goal
