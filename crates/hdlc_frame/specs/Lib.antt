@@ -1,0 +1,3 @@
+pub mod CheckSequence
+pub mod Content
+pub mod Encoded

@@ -1,0 +1,14 @@
+//! Frames after pw_hdlc: unnumbered information frames between flags, with byte stuffing and a 32-bit check sequence
+//! (RFC 1662). `encode_ui` writes a frame; `content_of` reads the text of one.
+//! Nothing here waits, reads or writes a device, or keeps the time.
+#![tactic(auto)]
+
+mod crc;
+mod encode;
+mod octets;
+mod text;
+
+pub use crc::crc32;
+pub use encode::encode_ui;
+pub use octets::{ESCAPE, ESCAPE_BIT, FLAG, UI_CONTROL};
+pub use text::content_of;

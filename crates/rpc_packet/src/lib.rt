@@ -1,0 +1,17 @@
+//! Packets of pw_rpc, in the Protocol Buffers encoding.
+//! A `PacketRef` lends its payload from the bytes that it was read from; a `Packet` owns its payload.
+//! `Packet::write` appends the one spelling of a packet: rising field numbers, no zero or empty field, shortest varints.
+#![tactic(auto)]
+
+mod call_name;
+mod canonical;
+mod field;
+mod owned;
+mod packet_ref;
+mod packet_type;
+
+pub use call_name::CallName;
+pub use canonical::of_spelling;
+pub use owned::Packet;
+pub use packet_ref::PacketRef;
+pub use packet_type::PacketType;
