@@ -6,7 +6,8 @@ ghost use Rattle.link_io.specs.Reading.{ConsumesUpTo};
 ghost use Rattle.hdlc_frame.specs.Found.{Found};
 ghost use Rattle.pw_run.specs.declared.ending.Ending.TheVariants as ended;
 ghost use Rattle.pw_run.specs.declared.outcome.Outcome.{Outcome};
-ghost use Rattle.pw_run.specs.declared.outcome.Outcome.TheVariants.{Done, BadWords, SourceFault, SinkFault, InputLimit, NotBuilt};
+ghost use Rattle.pw_run.specs.declared.outcome.Outcome.TheVariants.{Done, BadWords, SourceFault, SinkFault};
+ghost use Rattle.pw_run.specs.declared.outcome.Outcome.TheVariants.{InputLimit, NotBuilt};
 ghost use Rattle.pw_run.specs.Outcome.{code_of, outcome_of, IsOutcomeOf, IsSilent};
 ghost use Rattle.pw_run.specs.Recorded.{Replays, BeginsReplay, ReadsUnbuilt};
 ghost use Rattle.pw_run.specs.Report.{report_of};
@@ -47,7 +48,8 @@ pub fn run_recorded<I: Source, O: Sink>(
     ensures begun { result ≡ code_of SinkFault →
         BeginsReplay (I.left input.old) (I.left input.new) (O.written output.old) (O.written output.new) }
     ensures unbuilt { result ≡ code_of NotBuilt → ReadsUnbuilt (I.left input.old) (I.left input.new) }
-    ensures silent { (outcome : Outcome) → result ≡ code_of outcome → IsSilent outcome → output.new ≡ output.old }
+    ensures silent { (outcome : Outcome) →
+        result ≡ code_of outcome → IsSilent outcome → output.new ≡ output.old }
 
     // A fault is told only where the device that it blames counted one.
     ensures source { result ≡ code_of SourceFault → Rose (I.faults input.old) (I.faults input.new) }

@@ -70,7 +70,8 @@ impl Tally {
         requires methods { HasMethods self.old.methods }
         requires room { IsWithin (2 ^ 64 - 2) self.old }
         ensures methods { HasMethods self.new.methods }
-        ensures tallies { OnOk result ((found : List Found) → Tallies self.old found → Tallies self.new (found ++ found_of got.now ∷ [])) }
+        ensures tallies { OnOk result ((found : List Found) →
+            Tallies self.old found → Tallies self.new (found ++ found_of got.now ∷ [])) }
         ensures within { OnOk result ((n : ℕ) → IsWithin n self.old → IsWithin (n + 1) self.new) }
     {
         match got {
@@ -86,7 +87,8 @@ impl Tally {
         requires methods { HasMethods self.old.methods }
         requires room { IsWithin (2 ^ 64 - 2) self.old }
         ensures methods { HasMethods self.new.methods }
-        ensures tallies { OnOk result ((found : List Found) → Tallies self.old found → Tallies self.new (found ++ frame (parts_of lent.now) ∷ [])) }
+        ensures tallies { OnOk result ((found : List Found) →
+            Tallies self.old found → Tallies self.new (found ++ frame (parts_of lent.now) ∷ [])) }
         ensures within { OnOk result ((n : ℕ) → IsWithin n self.old → IsWithin (n + 1) self.new) }
     {
         self.counts.valid += 1;
@@ -113,7 +115,8 @@ impl Tally {
         requires methods { HasMethods self.old.methods }
         requires room { self.old.calls < 2 ^ 64 - 1 }
         ensures methods { HasMethods self.new.methods }
-        ensures serves { OnOk result (Serves self.old self.new (heard_packet ptype (lent_message packet.now))) }
+        ensures serves { OnOk result
+            (Serves self.old self.new (heard_packet ptype (lent_message packet.now))) }
     {
         self.has_unbuilt |= names_unbuilt(&self.methods, ptype, packet);
         let served = serve(&self.methods, ptype, packet);
@@ -166,7 +169,8 @@ impl Tally {
     /// The report of the stream.
     #[tactic(auto, unfolding(crate::specs::Report::report_of))]
     pub(crate) fn report(&self, alloc: Global, ending: Ending) -> Result<String, AllocError>
-        ensures { IfOk result (λ text. (found : List Found) → Tallies self.now found → string_bytes text ≡ report_of ending found) }
+        ensures { IfOk result (λ text. (found : List Found) →
+            Tallies self.now found → string_bytes text ≡ report_of ending found) }
     {
         let mut text = String::new(alloc);
         add_frames_line(&mut text, self.counts)?;
