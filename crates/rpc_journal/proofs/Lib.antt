@@ -1,0 +1,2 @@
+pub mod DemoTable
+pub mod Examples
