@@ -8,6 +8,7 @@ pub mod Entries
 pub mod History
 pub mod Items
 pub mod Lawful
+pub mod Laws
 pub mod Marks
 pub mod Queues
 pub mod Quiet
