@@ -1,4 +1,5 @@
 pub mod Allowed
+pub mod ChangeLemmas
 pub mod DemoTable
 pub mod EndLemmas
 pub mod Examples

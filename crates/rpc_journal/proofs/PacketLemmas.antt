@@ -1,7 +1,7 @@
 -- The packets of a call that entries add: none once the call has an end.
 use Rattle.std.proofs.Common.{◌≡◌, ◌≢◌, ℕ, ◌<◌, Bool, true, false, not, ◌&&◌, ◌||◌, ◌==◌, List, [], ◌∷◌, ◌++◌, length, reverse, flat_map, Option, Some, None, is_some, if◌then◌else◌, refl, ap, sym, ◌∙◌, subst, inl, inr, ◌⊎◌, arith, append_assoc}
 use Rattle.std.proofs.lemmas.Bool.{true≢false, false≢true, eqb-true, ne_eqb, not-true, and_left, and_right}
-use Rattle.std.proofs.lemmas.List.{append-nil}
+use Rattle.std.proofs.lemmas.List.{append-nil, reverse-append}
 use Rattle.std.proofs.lemmas.List.Concat.{flat_map-cons}
 use Rattle.std.specs.List.{AllByRecursion}
 use Rattle.rpc_ids.specs.declared.method.MethodRef.{MethodRef}
@@ -35,10 +35,11 @@ use Rattle.rpc_journal.specs.Rows.{Row, channels_in, method_named, no_effect, sa
 use Rattle.rpc_journal.specs.ServerTable.{method_row, known_row, unknown_row}
 use Rattle.rpc_journal.specs.ClientTable.{call_row, live_row, no_call_row}
 use Rattle.rpc_journal.specs.Entries.{row_by, arrive_row, keeps, leaves, effect_of, invoke_effect, out_item, answer_item, messages_go, answered, end_effect, finish_effect, is_heard, cancel_effect, error_type, with_call}
-use Rattle.rpc_journal.specs.History.{told}
-use Rattle.rpc_journal.specs.Lawful.{AllowedAll, is_refused, is_refused_say}
+use Rattle.rpc_journal.specs.History.{told, history}
+use Rattle.rpc_journal.specs.Lawful.{AllowedAll, IsLawful, is_refused, is_refused_say}
 use Rattle.rpc_journal.specs.Laws.{is_packet_for, NoPacketFor, SaysNoMoreOf}
 use Rattle.rpc_journal.proofs.Allowed.{Allowed, allowed}
+use Rattle.rpc_journal.proofs.Push.{allowed-parts}
 use Rattle.rpc_journal.proofs.EndLemmas.{AllLive, live_is, heard_live, ended_known}
 use Rattle.rpc_channel.specs.Rising.{has_id}
 
@@ -261,3 +262,9 @@ no_more_packets set (e ∷ new) old c all ended =
       no_packet = packets-append c _ _ before.no_packet
         (effect-packets set (told set (new ++ old)) e.kind c still (ended_known set (new ++ old) c still) fits.accepted);
     }
+
+pub no_packet_after_end : (set : Setting) (h more : List Entry) (c : ℕ) → IsLawful set (h ++ more) → has_end (history set h) c ≡ true
+    → SaysNoMoreOf c (items_sent (history set h)) (items_sent (history set (h ++ more)))
+no_packet_after_end set h more c lawful ended =
+    subst (λ es. SaysNoMoreOf c (items_sent (history set h)) (items_sent (told set es))) (sym (reverse-append h more))
+      (no_more_packets set (reverse more) (reverse h) c (allowed-parts set h more lawful) ended)

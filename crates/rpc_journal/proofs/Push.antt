@@ -2,6 +2,7 @@
 use Rattle.std.proofs.Common.{◌≡◌, ℕ, List, [], ◌∷◌, ◌++◌, length, reverse, None, refl, ap, sym, ◌∙◌, subst}
 use Rattle.std.proofs.lemmas.List.{reverse-append, reverse-reverse}
 use Rattle.std.specs.List.{AllByRecursion}
+use mathlib.Core.List.{IsPrefix}
 use Rattle.rpc_handlers.specs.HandlerRule.{HandlerRule}
 use Rattle.rpc_journal.specs.declared.entry.Entry.{Entry}
 use Rattle.rpc_journal.specs.declared.setting.Setting.{Setting}
@@ -48,6 +49,12 @@ legal-front rule set h more legal = record {
   lawful = lawful-front set h more legal.lawful;
   answered = answered-older rule set (reverse more) (reverse h) (subst (AnsweredAll rule set) (reverse-append h more) legal.answered);
 }
+
+pub beginning_is_lawful : (set : Setting) (h all : List Entry) → IsPrefix h all → IsLawful set all → IsLawful set h
+beginning_is_lawful set h all begin lawful = lawful-front set h begin.0 (subst (IsLawful set) (sym begin.1) lawful)
+
+pub beginning_is_legal : (rule : HandlerRule) (set : Setting) (h all : List Entry) → IsPrefix h all → IsLegal rule set all → IsLegal rule set h
+beginning_is_legal rule set h all begin legal = legal-front rule set h begin.0 (subst (IsLegal rule set) (sym begin.1) legal)
 
 module _ {A : Type 0} (P : A → Type 0) where
   all-append : (xs ys : List A) → AllByRecursion P xs → AllByRecursion P ys → AllByRecursion P (xs ++ ys)

@@ -1,4 +1,5 @@
 pub mod Calls
+pub mod ChangeLaws
 pub mod Changes
 pub mod Choice
 pub mod ClientTable
