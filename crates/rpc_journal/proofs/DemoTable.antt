@@ -19,7 +19,7 @@ demo method kind = record { service = 7; method = method; kind = kind; ticks = f
 
 abbrev pub setting_of : Role → Setting
 setting_of role =
-    record { role = role; channels = 1 ∷ 2 ∷ []; registry = demo 1 Unary ∷ demo 2 ServerStream ∷ demo 3 ClientStream ∷ demo 4 Bidi ∷ []; seed = empty_memo }
+    record { role = role; channels = 1 ∷ 2 ∷ []; registry = demo 1 Unary ∷ demo 2 ServerStream ∷ demo 3 ClientStream ∷ demo 4 Bidi ∷ record (demo 5 Bidi) { ticks = true } ∷ []; seed = empty_memo }
 
 abbrev pub server : Setting
 server = setting_of Server
@@ -42,6 +42,10 @@ sum = name_of 3
 
 abbrev pub chat : CallName
 chat = name_of 4
+
+-- a method whose live calls are told of the time
+abbrev pub watch : CallName
+watch = name_of 5
 
 abbrev pub packet : PacketType → CallName → List ℕ → Packet
 packet ptype name payload = record { ptype = ptype; name = name; payload = payload; status = 0 }

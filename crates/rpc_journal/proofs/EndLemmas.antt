@@ -241,7 +241,7 @@ ends_once set (e ∷ h) c = at (ends_of (told set h) c) refl (ends_once set h c)
     at [] is short = gets_one (told set h) c _ (effect-ends set (told set h) e.kind)
     at (x ∷ xs) is short =
         let none : of_call c (effect_of set (told set h) e.kind).ends ≡ [] =
-            ended_gets_none (told set h) c _ (effect-ends set (told set h) e.kind) (ap (λ ys. not (is_empty ys)) is) in
+        ended_gets_none (told set h) c _ (effect-ends set (told set h) e.kind) (ap (λ ys. not (is_empty ys)) is) in
         subst (λ ys. length ((x ∷ xs) ++ ys) ≤ 1) (sym none) (subst (λ ys. length ys ≤ 1) (sym (append-nil (x ∷ xs))) short)
 
 rest_some : {A : Type 0} (xs ys : List A) → not (is_empty xs) ≡ false → not (is_empty (xs ++ ys)) ≡ true → is_empty ys ≡ false

@@ -1,5 +1,6 @@
 -- Closed histories, computed from the definitions.
 use Rattle.std.proofs.Common.{◌≡◌, ℕ, true, false, Bool, List, [], ◌∷◌, ◌++◌, length, slice_get, replicate, Option, Some, None, is_some, is_none, unwrap_or, refl}
+use Rattle.link_io.specs.declared.why.Why.TheVariants as why
 use Rattle.rpc_ids.specs.declared.status.Status.{Status}
 use Rattle.rpc_ids.specs.declared.status.Status.TheVariants as status
 use Rattle.rpc_packet.specs.declared.call_name.CallName.{CallName}
@@ -8,7 +9,7 @@ use Rattle.rpc_packet.specs.declared.packet_type.PacketType.TheVariants.{Request
 use Rattle.rpc_handlers.specs.declared.answer.Answer.{Answer}
 use Rattle.rpc_handlers.specs.declared.event.Event.TheVariants as event
 use Rattle.rpc_handlers.specs.declared.event.Memo.{Memo}
-use Rattle.rpc_handlers.specs.declared.answer.Out.TheVariants.{Say as SaysMessage}
+use Rattle.rpc_handlers.specs.declared.answer.Out.TheVariants.{Say as SaysMessage, Commit as SavesAt}
 use Rattle.rpc_handlers.specs.HandlerRule.{HandlerRule, empty_memo}
 use Rattle.rpc_journal.specs.declared.answers.Arrived.TheVariants.{Opened, Queued, Closed, Answered, Dropped}
 use Rattle.rpc_journal.specs.declared.answers.ArriveRefused.TheVariants as arrive
@@ -18,8 +19,8 @@ use Rattle.rpc_journal.specs.declared.answers.StartOfRefused.TheVariants as star
 use Rattle.rpc_journal.specs.declared.answers.ReplaceRefused.TheVariants as replace
 use Rattle.rpc_journal.specs.declared.answers.Cancelled.TheVariants.{Quiet, Running}
 use Rattle.rpc_journal.specs.declared.entry.Entry.{Entry}
-use Rattle.rpc_journal.specs.declared.entry.EntryKind.TheVariants.{Invoke, Done, Start, Finish, Replace, Cancel, Tick, Flush, EndIn}
-use Rattle.rpc_journal.specs.declared.fault.Broken.TheVariants.{Seat, Nothing}
+use Rattle.rpc_journal.specs.declared.entry.EntryKind.TheVariants.{Invoke, Done, Start, Finish, Replace, Cancel, Tick, Flush, EndIn, Halt}
+use Rattle.rpc_journal.specs.declared.fault.Broken.TheVariants.{Seat, AfterEnd, Refused, Nothing}
 use Rattle.rpc_journal.specs.declared.item.Item.{Item}
 use Rattle.rpc_journal.specs.declared.item.Act.TheVariants.{Send}
 use Rattle.rpc_journal.specs.Calls.{call_count, end_of, has_end, is_cancelled, runner_of}
@@ -28,13 +29,13 @@ use Rattle.rpc_journal.specs.Items.{flush_count, is_ready, items_sent}
 use Rattle.rpc_journal.specs.Quiet.{is_quiet, is_settled}
 use Rattle.rpc_journal.specs.States.{state_of}
 use Rattle.rpc_journal.specs.Rows.{no_effect, says_item, status_packet, sends}
-use Rattle.rpc_journal.specs.Entries.{arrive_row, leaves}
+use Rattle.rpc_journal.specs.Entries.{arrive_row, keeps, leaves}
 use Rattle.rpc_journal.specs.History.{history, entry_by}
 use Rattle.rpc_journal.specs.Lawful.{broken, IsLawful}
 use Rattle.rpc_journal.specs.Choice.{oldest_place}
 use Rattle.rpc_journal.specs.Refusals.{arrive_refusal, invoke_refusal, say_refusal, done_refusal, start_of_refusal, replace_refusal}
 use Rattle.rpc_journal.specs.Changes.{cancel_answer, is_spent}
-use Rattle.rpc_journal.proofs.DemoTable.{server, client, echo, count, sum, chat, packet, arrives}
+use Rattle.rpc_journal.proofs.DemoTable.{server, client, echo, count, sum, chat, watch, packet, arrives}
 
 -- a reply of a server, of no call
 abbrev reply : CallName → Status → Item
@@ -119,7 +120,7 @@ echo_is_answered = refl
 -- an unknown method, and channel 9
 
 abbrev unknown : CallName
-unknown = record chat { method = 5 }
+unknown = record chat { method = 6 }
 
 abbrev elsewhere : CallName
 elsewhere = record chat { channel = 9 }
@@ -274,6 +275,104 @@ message_for_no_call = refl
 response_for_no_call : arrive_row client [] (packet Response chat []) ≡ record { does = no_effect; answer = Dropped }
 unfolding arrive_row
 response_for_no_call = refl
+
+-- a client's Echo is answered: the payload waits, and then the end; its Count is: the end alone
+
+abbrev invoked_echo : List Entry
+invoked_echo = entry_by 2 (Invoke (packet Request echo []) empty_memo) ∷ []
+
+echo_is_closed : (arrive_row client (history client invoked_echo) (packet Response echo (7 ∷ []))).answer ≡ Closed 0
+unfolding arrive_row
+echo_is_closed = refl
+
+echo_hears_its_answer : waiting_of (history client (invoked_echo ++ arrives (packet Response echo (7 ∷ [])) ∷ [])) 0 ≡ record { at = 1; event = event.Message (7 ∷ []) } ∷ record { at = 1; event = event.Ended status.Okay } ∷ []
+unfolding arrive_row
+echo_hears_its_answer = refl
+
+count_hears_its_end : waiting_of (history client (invoked ++ arrives (packet Response count (7 ∷ [])) ∷ [])) 0 ≡ record { at = 1; event = event.Ended status.Okay } ∷ []
+unfolding arrive_row
+count_hears_its_end = refl
+
+failed_echo_hears_its_end : waiting_of (history client (invoked_echo ++ arrives (record (packet Response echo (7 ∷ [])) { status = 99 }) ∷ [])) 0 ≡ record { at = 1; event = event.Ended status.Unknown } ∷ []
+unfolding arrive_row
+failed_echo_hears_its_end = refl
+
+-- a message for a client's Echo ends it, and the server is told
+
+stream_ends_echo : arrive_row client (history client invoked_echo) (packet ServerStream echo []) ≡ record { does = record no_effect { ends = (0, status.InvalidArgument) ∷ []; puts = (0, event.Ended status.InvalidArgument) ∷ []; says = sends 0 (status_packet ClientError echo status.InvalidArgument) ∷ [] }; answer = Closed 0 }
+unfolding arrive_row
+stream_ends_echo = refl
+
+-- a client error ends Chat: its waiting events go
+
+client_error_clears : waiting_of (history server (with_messages 2 ++ arrives (packet ClientError chat []) ∷ [])) 0 ≡ record { at = 3; event = event.Ended status.Okay } ∷ []
+unfolding arrive_row
+client_error_clears = refl
+
+-- Chat is completed once
+
+abbrev completed_chat : List Entry
+completed_chat = requested ++ arrives (packet Completion chat []) ∷ []
+
+completed_twice : (arrive_row server (history server completed_chat) (packet Completion chat [])).answer ≡ Dropped
+unfolding arrive_row
+completed_twice = refl
+
+-- a tick waits once for a live call of a ticking method
+
+abbrev watched : List Entry
+watched = arrives (packet Request watch []) ∷ entry_by 1 (Tick 5) ∷ entry_by 1 (Tick 6) ∷ []
+
+one_tick_waits : waiting_of (history server watched) 0 ≡ record { at = 0; event = event.Request [] } ∷ record { at = 1; event = event.Tick 5 } ∷ []
+unfolding arrive_row
+one_tick_waits = refl
+
+-- the end of the input waits behind the other events, and ends no call
+
+input_ends : waiting_of (history server (requested ++ entry_by 0 EndIn ∷ [])) 0 ≡ record { at = 0; event = event.Request [] } ∷ record { at = 1; event = event.Ended status.Unavailable } ∷ []
+unfolding arrive_row
+input_ends = refl
+
+input_ends_no_call : has_end (history server (requested ++ entry_by 0 EndIn ∷ [])) 0 ≡ false
+unfolding arrive_row
+input_ends_no_call = refl
+
+arrival_after_end : broken server (history server (entry_by 0 EndIn ∷ [])) (arrives chat_request) ≡ Some AfterEnd
+unfolding broken
+arrival_after_end = refl
+
+-- after a Halt no call is ready, nothing is flushed, and there is no second one
+
+abbrev halted : List Entry
+halted = late_message ++ entry_by 4 (Halt why.Memory) ∷ []
+
+halted_isnt_ready : (is_ready (history server late_message) 0 ≡ true) × (is_ready (history server halted) 0 ≡ false)
+unfolding arrive_row
+halted_isnt_ready = (refl, refl)
+
+halted_flushes_nothing : broken server (history server halted) (entry_by 1 Flush) ≡ Some Nothing
+unfolding arrive_row broken
+halted_flushes_nothing = refl
+
+halted_once : broken server (history server halted) (entry_by 2 (Halt why.Sink)) ≡ Some Refused
+unfolding arrive_row broken
+halted_once = refl
+
+-- the end of the answer of a served Chat: the messages, then the response; of an Ended event nothing of them
+
+abbrev greeting : Answer
+greeting = record { items = SaysMessage (1 ∷ []) ∷ SavesAt 3 ∷ []; end = Some (record { status = status.Okay; payload = 2 ∷ [] }) }
+
+answered_in_order : items_sent (history server (running ++ entry_by 2 (Finish 0 greeting) ∷ [])) ≡ sends 0 (packet ServerStream chat (1 ∷ [])) ∷ keeps 0 (SavesAt 3) ∷ sends 0 (packet Response chat (2 ∷ [])) ∷ []
+unfolding arrive_row
+answered_in_order = refl
+
+abbrev ended_runs : List Entry
+ended_runs = requested_again ++ entry_by 2 (Start 0) ∷ entry_by 2 (Finish 0 greeting) ∷ []
+
+ended_says_nothing : items_sent (history server ended_runs) ≡ keeps 0 (SavesAt 3) ∷ []
+unfolding arrive_row
+ended_says_nothing = refl
 
 -- the empty history is lawful, and one Flush is not
 

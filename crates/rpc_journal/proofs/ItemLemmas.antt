@@ -59,15 +59,15 @@ pub flushed_begin : (set : Setting) (h more : List Entry) → IsPrefix (items_fl
 flushed_begin set h more =
     let sent = items_begin set h more in
     let fewer : flush_count (history set h) ≤ flush_count (history set (h ++ more)) =
-        subst (λ es. flush_count (history set h) ≤ flush_count (told set es)) (sym (reverse-append h more)) (flushes_from set (reverse more) (reverse h)) in
+    subst (λ es. flush_count (history set h) ≤ flush_count (told set es)) (sym (reverse-append h more)) (flushes_from set (reverse more) (reverse h)) in
     subst (λ items. IsPrefix (items_flushed (history set h)) (take (flush_count (history set (h ++ more))) items)) sent.1
-      (take_begins _ _ (items_sent (history set h)) sent.0 fewer)
+    (take_begins _ _ (items_sent (history set h)) sent.0 fewer)
 
 -- a call stays there
 pub call_stays : (set : Setting) (h more : List Entry) (c : ℕ) → IsCall set h c → IsCall set (h ++ more) c
 call_stays set h more c is =
     let fewer : call_count (history set h) ≤ call_count (history set (h ++ more)) =
-        subst (λ es. call_count (history set h) ≤ call_count (told set es)) (sym (reverse-append h more)) (calls_from set (reverse more) (reverse h)) in
+    subst (λ es. call_count (history set h) ≤ call_count (told set es)) (sym (reverse-append h more)) (calls_from set (reverse more) (reverse h)) in
     record { below = omega (arith, is.below, fewer) }
 
 -- each entry is of a seat that may make it

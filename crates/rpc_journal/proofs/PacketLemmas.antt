@@ -167,7 +167,7 @@ answer_items-packets : (role : Role) (c k : ℕ) (name : CallName) (says : Bool)
 answer_items-packets role c k name says [] other = tt
 answer_items-packets role c k name says (out ∷ outs) other =
     subst (NoPacketFor c) (sym (flat_map-cons (answer_item role k name says) out outs))
-      (packets-append c _ _ (answer_item-packets role c k name says out other) (answer_items-packets role c k name says outs other))
+    (packets-append c _ _ (answer_item-packets role c k name says out other) (answer_items-packets role c k name says outs other))
 
 end_effect-packets : (role : Role) (c k : ℕ) (name : CallName) (kind : Kind) (done : Bool) (end : Option End) → (k == c) ≡ false
     → NoPacketFor c (end_effect role k name kind done end).says
@@ -186,12 +186,12 @@ answered-packets : (role : Role) (c k : ℕ) (o : Opening) (heard done : Bool) (
     → NoPacketFor c (answered role k o heard done a).says
 answered-packets role c k o true done a other =
     packets-append c _ _
-      (answer_items-packets role c k o.name (messages_go role o.method.kind true done) a.items (λ _. other refl))
-      (end_effect-packets role c k o.name o.method.kind done a.end (other refl))
+    (answer_items-packets role c k o.name (messages_go role o.method.kind true done) a.items (λ _. other refl))
+    (end_effect-packets role c k o.name o.method.kind done a.end (other refl))
 answered-packets role c k o false done a other =
     packets-append c _ []
-      (answer_items-packets role c k o.name (messages_go role o.method.kind false done) a.items (λ says. absurd (false≢true says)))
-      tt
+    (answer_items-packets role c k o.name (messages_go role o.method.kind false done) a.items (λ says. absurd (false≢true says)))
+    tt
 
 finish-packets : (set : Setting) (ds : List Deed) (c k : ℕ) (a : Answer) (o : Option Opening) → has_end ds c ≡ true
     → NoPacketFor c (finish_effect set ds k a o).says
@@ -260,11 +260,11 @@ no_more_packets set (e ∷ new) old c all ended =
       added = before.added ++ says;
       later_is = ap (λ items. items ++ says) before.later_is ∙ append_assoc (items_sent (told set old)) before.added says;
       no_packet = packets-append c _ _ before.no_packet
-        (effect-packets set (told set (new ++ old)) e.kind c still (ended_known set (new ++ old) c still) fits.accepted);
+          (effect-packets set (told set (new ++ old)) e.kind c still (ended_known set (new ++ old) c still) fits.accepted);
     }
 
 pub no_packet_after_end : (set : Setting) (h more : List Entry) (c : ℕ) → IsLawful set (h ++ more) → has_end (history set h) c ≡ true
     → SaysNoMoreOf c (items_sent (history set h)) (items_sent (history set (h ++ more)))
 no_packet_after_end set h more c lawful ended =
     subst (λ es. SaysNoMoreOf c (items_sent (history set h)) (items_sent (told set es))) (sym (reverse-append h more))
-      (no_more_packets set (reverse more) (reverse h) c (allowed-parts set h more lawful) ended)
+    (no_more_packets set (reverse more) (reverse h) c (allowed-parts set h more lawful) ended)

@@ -65,11 +65,11 @@ quiet_from set (e ∷ new) old c all quiet = at (quiet_from set new old c all.0 
         let parts = and_parts (is_cancelled ds c) (is_none (runner_of ds c)) before.0 in
         let fits = allowed set ds e all.1 in
         let start : is_start_of c e.kind ≡ false =
-            no_start set ds e c fits (λ ready. true≢false (sym parts.0 ∙ ready_uncancelled ds c ready)) in
+        no_start set ds e c fits (λ ready. true≢false (sym parts.0 ∙ ready_uncancelled ds c ready)) in
         let finish : is_finish_of c e.kind ≡ false = no_finish set ds e c fits (idle_unrun e.seat (runner_of ds c) parts.1) in
         let cancelled : (is_cancel_of c e.kind || is_cancelled ds c) ≡ true = rw (parts.0) (or-true _) in
         let idle : is_none (if is_start_of c e.kind then Some e.seat else if is_finish_of c e.kind then None else runner_of ds c) ≡ true =
-            rw (start, finish) (parts.1) in
+        rw (start, finish) (parts.1) in
         (and_from _ _ cancelled idle, ((start, finish), before.1))
 
 pub quiet_for_good : (set : Setting) (h more : List Entry) (c : ℕ) → IsLawful set (h ++ more) → is_quiet (history set h) c ≡ true → StaysQuiet set c h more

@@ -49,8 +49,8 @@ pub record Accepts {A F E : Type 0} (told : F → E) (refusal : Option E) (memor
 abbrev pub ArriveDid : Setting → ℕ → Packet → Result Arrived arrive.ArriveRefused → List Entry → List Entry → Type 0
 ArriveDid set seat p result before after =
     Accepts (λ e. e) (arrive_refusal set before p) arrive.TheVariants.Memory
-      (λ answer. answer ≡ (arrive_row set (history set before) p).answer)
-      (entry_by seat (Arrive p)) result before after
+    (λ answer. answer ≡ (arrive_row set (history set before) p).answer)
+    (entry_by seat (Arrive p)) result before after
 
 abbrev pub request : CallName → List ℕ → Packet
 request name payload = record { ptype = Request; name = name; payload = payload; status = 0 }
@@ -59,18 +59,18 @@ request name payload = record { ptype = Request; name = name; payload = payload;
 abbrev pub InvokeDid : {H : Type 0} → Setting → ℕ → CallName → List ℕ → Memo → Result ℕ (H × invoke.InvokeRefused) → List Entry → List Entry → Type 0
 InvokeDid set seat name payload state result before after =
     Accepts (λ e. e.1) (invoke_refusal set before name) invoke.TheVariants.Memory
-      (λ c. c ≡ call_count (history set before))
-      (entry_by seat (Invoke (request name payload) state)) result before after
+    (λ c. c ≡ call_count (history set before))
+    (entry_by seat (Invoke (request name payload) state)) result before after
 
 abbrev pub SayDid : Setting → ℕ → ℕ → Out → Result (Unit {0}) say.SayRefused → List Entry → List Entry → Type 0
 SayDid set seat c out result before after =
     Accepts (λ e. e) (say_refusal set before c out) say.TheVariants.Memory (λ _. Unit {0})
-      (entry_by seat (Say c out)) result before after
+    (entry_by seat (Say c out)) result before after
 
 abbrev pub DoneDid : Setting → ℕ → ℕ → Result (Unit {0}) say.SayRefused → List Entry → List Entry → Type 0
 DoneDid set seat c result before after =
     Accepts (λ e. e) (done_refusal set before c) say.TheVariants.Memory (λ _. Unit {0})
-      (entry_by seat (Done c)) result before after
+    (entry_by seat (Done c)) result before after
 
 -- start: a run of the ready call whose oldest waiting event was put first; None exactly where none is ready, also in
 -- a full journal. `run_of` is what contracts see of a run.
@@ -107,8 +107,8 @@ pub record FinishDid {H : Type 0} (set : Setting) (run : Run) (a : Answer) (hand
 abbrev pub ReplaceDid : {H : Type 0} → Setting → ℕ → ℕ → Memo → Result (Option H) (H × replace.ReplaceRefused) → List Entry → List Entry → Type 0
 ReplaceDid set seat c state result before after =
     Accepts (λ e. e.1) (replace_refusal set before c) replace.TheVariants.Memory
-      (λ old. is_some old ≡ is_none (runner_of (history set before) c))
-      (entry_by seat (Replace c state)) result before after
+    (λ old. is_some old ≡ is_none (runner_of (history set before) c))
+    (entry_by seat (Replace c state)) result before after
 
 abbrev pub cancel_answer : Status → Option ℕ → Cancelled
 cancel_answer status None = Quiet status
@@ -123,7 +123,7 @@ pub record CancelDid (set : Setting) (seat c : ℕ) (result : Cancelled) (before
 abbrev pub TickDid : ℕ → ℕ → Result (Unit {0}) start.StartRefused → List Entry → List Entry → Type 0
 TickDid seat now result before after =
     Accepts (λ e. e) (tick_refusal before) start.TheVariants.Memory (λ _. Unit {0})
-      (entry_by seat (Tick now)) result before after
+    (entry_by seat (Tick now)) result before after
 
 -- end_in: it is never refused
 pub record EndInDid (seat : ℕ) (before after : List Entry) : Type 0 where

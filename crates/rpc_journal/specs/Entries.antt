@@ -83,7 +83,7 @@ server_end c name end =
     record no_effect {
       ends = (c, end.status) ∷ [];
       drops = c ∷ [];
-      says = sends c (record { ptype = Response; name = name; payload = end.payload; status = status_number end.status }) ∷ []
+      says = sends c (record { ptype = Response; name = name; payload = end.payload; status = status_number end.status }) ∷ [];
     }
 
 -- at a client an end with OK completes the stream of c, where it has one that isn't complete; another ends c with a
@@ -109,8 +109,8 @@ messages_go role kind heard done = heard && streams_out role kind && (is_server 
 abbrev pub answered : Role → ℕ → Opening → Bool → Bool → Answer → Effect
 answered role c o heard done a =
     both
-      (record no_effect { says = flat_map (answer_item role c o.name (messages_go role o.method.kind heard done)) a.items })
-      (if heard then end_effect role c o.name o.method.kind done a.end else no_effect)
+    (record no_effect { says = flat_map (answer_item role c o.name (messages_go role o.method.kind heard done)) a.items })
+    (if heard then end_effect role c o.name o.method.kind done a.end else no_effect)
 
 abbrev pub was_ended : Option Event → Bool
 was_ended None = false
@@ -135,8 +135,8 @@ cancel_effect set ds c (Some o) =
       drops = c ∷ [];
       ends = if has_end ds c then [] else (c, Cancelled) ∷ [];
       says =
-        (if has_end ds c then [] else sends c (status_packet (error_type set.role) o.name Cancelled) ∷ [])
-        ++ (if is_some (runner_of ds c) then [] else leaves c ∷ [])
+          (if has_end ds c then [] else sends c (status_packet (error_type set.role) o.name Cancelled) ∷ [])
+          ++ (if is_some (runner_of ds c) then [] else leaves c ∷ []);
     }
 
 -- the calls from number c on that pass the test, by rising number, each with an event

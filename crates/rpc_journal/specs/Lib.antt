@@ -11,6 +11,7 @@ pub mod Items
 pub mod Lawful
 pub mod Laws
 pub mod Marks
+pub mod Outside
 pub mod Queues
 pub mod Quiet
 pub mod Recorded

@@ -32,21 +32,21 @@ refused_where test refusal = if test then Some refusal else None
 abbrev pub arrive_refusal : Setting → List Entry → Packet → Option arrive.ArriveRefused
 arrive_refusal set h p =
     or_else (refused_where (is_full h) arrive.TheVariants.JournalFull)
-      (option_map arrive.TheVariants.QueueFull (full_queue set (history set h) p))
+    (option_map arrive.TheVariants.QueueFull (full_queue set (history set h) p))
 
 abbrev pub invoke_refusal : Setting → List Entry → CallName → Option invoke.InvokeRefused
 invoke_refusal set h name =
     or_else (refused_where (is_full h) invoke.TheVariants.JournalFull)
-      (or_else (refused_where (not (has_id (channels_in set (history set h)) name.channel)) invoke.TheVariants.NoChannel)
-        (or_else (refused_where (is_none (method_named set name)) invoke.TheVariants.NoMethod)
-          (option_map invoke.TheVariants.Live (live_call (history set h) name))))
+    (or_else (refused_where (not (has_id (channels_in set (history set h)) name.channel)) invoke.TheVariants.NoChannel)
+    (or_else (refused_where (is_none (method_named set name)) invoke.TheVariants.NoMethod)
+    (option_map invoke.TheVariants.Live (live_call (history set h) name))))
 
 -- of a message: the call has an end, it has no stream in this direction, or this client has completed it
 abbrev pub message_refusal : Setting → List Deed → ℕ → Option say.SayRefused
 message_refusal set ds c =
     or_else (option_map say.TheVariants.Closed (end_of ds c))
-      (or_else (refused_where (not (has_stream set.role (call_at ds c))) say.TheVariants.NoStream)
-        (refused_where (not (is_server set.role) && is_done ds c) say.TheVariants.Completed))
+    (or_else (refused_where (not (has_stream set.role (call_at ds c))) say.TheVariants.NoStream)
+    (refused_where (not (is_server set.role) && is_done ds c) say.TheVariants.Completed))
 
 -- of a store action: the call was cancelled
 abbrev pub out_refusal : Setting → List Deed → ℕ → Out → Option say.SayRefused
@@ -60,20 +60,20 @@ say_refusal set h c out =
 abbrev pub done_refusal : Setting → List Entry → ℕ → Option say.SayRefused
 done_refusal set h c =
     or_else (refused_where (is_full h) say.TheVariants.JournalFull)
-      (or_else (option_map say.TheVariants.Closed (end_of (history set h) c))
-        (or_else (refused_where (is_unary_call (call_at (history set h) c)) say.TheVariants.NoStream)
-          (refused_where (is_done (history set h) c) say.TheVariants.Completed)))
+    (or_else (option_map say.TheVariants.Closed (end_of (history set h) c))
+    (or_else (refused_where (is_unary_call (call_at (history set h) c)) say.TheVariants.NoStream)
+    (refused_where (is_done (history set h) c) say.TheVariants.Completed)))
 
 abbrev pub start_of_refusal : Setting → List Entry → ℕ → Option start_of.StartOfRefused
 start_of_refusal set h c =
     or_else (refused_where (is_full h) start_of.TheVariants.JournalFull)
-      (refused_where (not (is_ready (history set h) c)) start_of.TheVariants.NotReady)
+    (refused_where (not (is_ready (history set h) c)) start_of.TheVariants.NotReady)
 
 abbrev pub replace_refusal : Setting → List Entry → ℕ → Option replace.ReplaceRefused
 replace_refusal set h c =
     or_else (refused_where (is_full h) replace.TheVariants.JournalFull)
-      (or_else (refused_where (nat_le (call_count (history set h)) c) replace.TheVariants.Unknown)
-        (option_map replace.TheVariants.Closed (end_of (history set h) c)))
+    (or_else (refused_where (nat_le (call_count (history set h)) c) replace.TheVariants.Unknown)
+    (option_map replace.TheVariants.Closed (end_of (history set h) c)))
 
 abbrev pub tick_refusal : List Entry → Option start.StartRefused
 tick_refusal h = refused_where (is_full h) start.TheVariants.JournalFull
