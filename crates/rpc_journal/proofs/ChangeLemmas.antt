@@ -1,9 +1,8 @@
 -- What the calls of a table add, and what stays true of what a caller has seen.
-use Rattle.std.proofs.Common.{◌≡◌, ◌≢◌, ℕ, Bool, true, false, not, ◌&&◌, ◌||◌, ◌==◌, List, [], ◌∷◌, ◌++◌, length, reverse, slice_get, Option, Some, None, Ok, Err, Result, if◌then◌else◌, refl, ap, sym, ◌∙◌, subst, eq-eqb, ne_eqb}
-use Rattle.std.proofs.lemmas.Bool.{true≢false, false≢true, not-false}
-use Rattle.std.proofs.lemmas.List.{append-nil, reverse-append}
+use Rattle.std.proofs.Common.{◌≡◌, ◌≢◌, ℕ, Bool, true, false, not, ◌==◌, List, [], ◌∷◌, ◌++◌, length, reverse, slice_get, Option, Some, None, Ok, Err, Result, if◌then◌else◌, refl, ap, sym, ◌∙◌, subst, eq-eqb, ne_eqb}
+use Rattle.std.proofs.lemmas.Bool.{true≢false}
+use Rattle.std.proofs.lemmas.List.{reverse-append}
 use Rattle.std.specs.List.{AllByRecursion}
-use Rattle.entry_lists.specs.Entries.{GoesOn}
 use Rattle.entry_lists.proofs.Makers.{goes_on_none, goes_on_one}
 use Rattle.rpc_handlers.specs.HandlerRule.{HandlerRule}
 use Rattle.rpc_journal.specs.declared.entry.Entry.{Entry}
@@ -14,12 +13,10 @@ use Rattle.rpc_journal.specs.Calls.{is_cancelled, runner_of}
 use Rattle.rpc_journal.specs.ChangeLaws.{GoesOnBy, AddsBySeat}
 use Rattle.rpc_journal.specs.Changes.{Accepts, StartDid, StartOfDid, FlushDid}
 use Rattle.rpc_journal.specs.Conditions.{IsInputOpen}
-use Rattle.rpc_journal.specs.Effect.{Deed}
 use Rattle.rpc_journal.specs.History.{told, tell, history, entry_by, adding}
-use Rattle.rpc_journal.specs.Items.{halt_reason, input_ended, is_end_in}
+use Rattle.rpc_journal.specs.Items.{input_ended, is_end_in}
 use Rattle.rpc_journal.specs.Lawful.{AllowedAll, IsLawful, is_wrong_seat}
 use Rattle.rpc_journal.specs.Laws.{seat_of}
-use Rattle.rpc_journal.specs.Queues.{taken_event}
 use Rattle.rpc_journal.specs.Runs.{Run, Begins, IsRunning}
 use Rattle.rpc_journal.specs.States.{state_before_run}
 use Rattle.rpc_journal.proofs.Allowed.{allowed}

@@ -1,5 +1,5 @@
 -- A server and a client with four methods, and their packets: what the examples speak of.
-use Rattle.std.proofs.Common.{ℕ, true, false, List, [], ◌∷◌, ◌++◌, replicate, map, Option}
+use Rattle.std.proofs.Common.{ℕ, true, false, List, [], ◌∷◌}
 use Rattle.rpc_ids.specs.declared.method.Kind.{Kind}
 use Rattle.rpc_ids.specs.declared.method.Kind.TheVariants.{Unary, ServerStream, ClientStream, Bidi}
 use Rattle.rpc_ids.specs.declared.method.MethodRef.{MethodRef}

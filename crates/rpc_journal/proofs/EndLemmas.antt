@@ -1,5 +1,5 @@
 -- The ends that entries give: only to calls that are there and have no end, so that each call has at most one.
-use Rattle.std.proofs.Common.{◌≡◌, ◌≢◌, ℕ, suc, ◌+◌, ◌<◌, ◌≤◌, Bool, true, false, not, ◌&&◌, ◌||◌, ◌==◌, List, [], ◌∷◌, ◌++◌, length, slice_get, Option, Some, None, option_to_list, option_and_then, if◌then◌else◌, refl, ap, sym, ◌∙◌, subst, inl, inr, ◌⊎◌, arith, rules, length-append}
+use Rattle.std.proofs.Common.{◌≡◌, ℕ, ◌<◌, ◌≤◌, Bool, true, false, not, ◌&&◌, ◌||◌, ◌==◌, List, [], ◌∷◌, ◌++◌, length, Option, Some, None, option_to_list, option_and_then, if◌then◌else◌, refl, ap, sym, ◌∙◌, subst, arith, length-append}
 use Rattle.std.proofs.lemmas.Bool.{true≢false, false≢true, eqb-true, not-true, and_parts}
 use Rattle.std.proofs.lemmas.List.{append-nil}
 use Rattle.std.proofs.lemmas.Option.{slice_get_within}
@@ -22,15 +22,15 @@ use Rattle.rpc_journal.specs.declared.entry.EntryKind.TheVariants.{Arrive, Invok
 use Rattle.rpc_handlers.specs.declared.event.Memo.{Memo}
 use Rattle.rpc_journal.specs.declared.item.Item.{Item}
 use Rattle.rpc_journal.specs.declared.setting.Setting.{Setting}
-use Rattle.rpc_journal.specs.Effect.{Effect, Opening, Deed}
+use Rattle.rpc_journal.specs.Effect.{Opening, Deed}
 use Rattle.rpc_journal.specs.Calls.{of_call, same_name, calls, call_count, call_at, ends_of, has_end, opens_named, last_call, live_call, is_cancelled}
-use Rattle.rpc_journal.specs.Queues.{is_completed, taken_event}
+use Rattle.rpc_journal.specs.Queues.{is_completed}
 use Rattle.rpc_journal.specs.Items.{is_done}
 use Rattle.rpc_journal.specs.Marks.{is_empty, is_okay, is_unary, streams_up, streams_down}
 use Rattle.rpc_journal.specs.Rows.{Row, channels_in, method_named, no_effect, says_item, status_packet, sends}
-use Rattle.rpc_journal.specs.ServerTable.{server_row, method_row, known_row, unknown_row, client_error_row, request_row, client_stream_row, completion_row}
-use Rattle.rpc_journal.specs.ClientTable.{client_row, call_row, live_row, no_call_row, server_stream_row, response_row}
-use Rattle.rpc_journal.specs.Entries.{row_by, arrive_row, leaves, effect_of, invoke_effect, finish_effect, answered, end_effect, client_end, was_ended, is_heard, cancel_effect, with_call}
+use Rattle.rpc_journal.specs.ServerTable.{method_row, known_row, unknown_row}
+use Rattle.rpc_journal.specs.ClientTable.{call_row, live_row, no_call_row}
+use Rattle.rpc_journal.specs.Entries.{row_by, arrive_row, leaves, effect_of, invoke_effect, finish_effect, answered, end_effect, is_heard, cancel_effect, with_call}
 use Rattle.rpc_journal.specs.History.{told}
 use Rattle.rpc_channel.specs.Rising.{has_id}
 

@@ -1,5 +1,5 @@
 -- Closed histories, computed from the definitions.
-use Rattle.std.proofs.Common.{◌≡◌, ℕ, true, false, Bool, List, [], ◌∷◌, ◌++◌, length, slice_get, replicate, Option, Some, None, is_some, is_none, unwrap_or, refl}
+use Rattle.std.proofs.Common.{◌≡◌, ℕ, true, false, List, [], ◌∷◌, ◌++◌, slice_get, replicate, Some, None, is_none, unwrap_or, refl}
 use Rattle.link_io.specs.declared.why.Why.TheVariants as why
 use Rattle.rpc_ids.specs.declared.status.Status.{Status}
 use Rattle.rpc_ids.specs.declared.status.Status.TheVariants as status

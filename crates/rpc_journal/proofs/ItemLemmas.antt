@@ -1,11 +1,10 @@
 -- The items, the calls and the flushes of a history and of its beginnings.
-use Rattle.std.proofs.Common.{◌≡◌, ℕ, zero, suc, ◌+◌, ◌<◌, ◌≤◌, Bool, true, false, not, ◌==◌, List, [], ◌∷◌, ◌++◌, length, take, reverse, option_to_list, if◌then◌else◌, refl, ap, sym, ◌∙◌, subst, arith, append_assoc, length-append}
+use Rattle.std.proofs.Common.{◌≡◌, ℕ, zero, suc, ◌+◌, ◌≤◌, Bool, true, false, not, ◌==◌, List, [], ◌∷◌, ◌++◌, take, reverse, option_to_list, if◌then◌else◌, refl, ap, sym, ◌∙◌, subst, arith, append_assoc, length-append}
 use Rattle.std.proofs.lemmas.Bool.{true≢false}
 use Rattle.std.proofs.lemmas.List.{append-nil, reverse-append}
 use Rattle.std.specs.List.{AllByRecursion}
 use mathlib.Core.List.{IsPrefix}
 use Rattle.entry_lists.specs.Entries.{made_by}
-use Rattle.rpc_packet.specs.declared.owned.Packet.{Packet}
 use Rattle.rpc_journal.specs.declared.entry.Entry.{Entry}
 use Rattle.rpc_journal.specs.declared.entry.EntryKind.{EntryKind}
 use Rattle.rpc_journal.specs.declared.entry.EntryKind.TheVariants.{Arrive, Flush}
@@ -13,7 +12,6 @@ use Rattle.rpc_journal.specs.declared.item.Item.{Item}
 use Rattle.rpc_journal.specs.declared.setting.Setting.{Setting}
 use Rattle.rpc_journal.specs.Calls.{calls, call_count}
 use Rattle.rpc_journal.specs.Conditions.{IsCall}
-use Rattle.rpc_journal.specs.Effect.{Deed}
 use Rattle.rpc_journal.specs.Entries.{effect_of}
 use Rattle.rpc_journal.specs.History.{told, history}
 use Rattle.rpc_journal.specs.Items.{arrival_of, arrivals, is_flush, flushes, flush_count, items_sent, items_flushed}

@@ -4,6 +4,8 @@ pub mod DemoTable
 pub mod EndLemmas
 pub mod Examples
 pub mod ItemLemmas
+pub mod KnownLemmas
 pub mod PacketLemmas
+pub mod LegalLemmas
 pub mod Push
 pub mod RunLemmas

@@ -1,9 +1,8 @@
 -- The packets of a call that entries add: none once the call has an end.
-use Rattle.std.proofs.Common.{◌≡◌, ◌≢◌, ℕ, ◌<◌, Bool, true, false, not, ◌&&◌, ◌||◌, ◌==◌, List, [], ◌∷◌, ◌++◌, length, reverse, flat_map, Option, Some, None, is_some, if◌then◌else◌, refl, ap, sym, ◌∙◌, subst, inl, inr, ◌⊎◌, arith, append_assoc}
-use Rattle.std.proofs.lemmas.Bool.{true≢false, false≢true, eqb-true, ne_eqb, not-true, and_left, and_right}
+use Rattle.std.proofs.Common.{◌≡◌, ℕ, ◌<◌, Bool, true, false, not, ◌&&◌, ◌||◌, ◌==◌, List, [], ◌∷◌, ◌++◌, reverse, flat_map, Option, Some, None, is_some, if◌then◌else◌, refl, ap, sym, ◌∙◌, subst, arith, append_assoc}
+use Rattle.std.proofs.lemmas.Bool.{true≢false, false≢true, ne_eqb, and_left, and_right}
 use Rattle.std.proofs.lemmas.List.{append-nil, reverse-append}
 use Rattle.std.proofs.lemmas.List.Concat.{flat_map-cons}
-use Rattle.std.specs.List.{AllByRecursion}
 use Rattle.rpc_ids.specs.declared.method.MethodRef.{MethodRef}
 use Rattle.rpc_ids.specs.declared.method.Kind.{Kind}
 use Rattle.rpc_ids.specs.declared.method.Role.{Role}
@@ -24,21 +23,20 @@ use Rattle.rpc_journal.specs.declared.entry.Entry.{Entry}
 use Rattle.rpc_journal.specs.declared.entry.EntryKind.{EntryKind}
 use Rattle.rpc_journal.specs.declared.entry.EntryKind.TheVariants.{Arrive, Invoke, Say, Done, Start, Finish, Replace, Cancel, Tick, Flush, EndIn, Halt}
 use Rattle.rpc_journal.specs.declared.item.Item.{Item}
-use Rattle.rpc_journal.specs.declared.item.Act.{Act}
 use Rattle.rpc_journal.specs.declared.setting.Setting.{Setting}
-use Rattle.rpc_journal.specs.Effect.{Effect, Opening, Deed}
+use Rattle.rpc_journal.specs.Effect.{Opening, Deed}
 use Rattle.rpc_journal.specs.Calls.{call_count, call_at, has_end, ends_of, live_call, is_cancelled, runner_of, of_call}
 use Rattle.rpc_journal.specs.Queues.{is_completed}
-use Rattle.rpc_journal.specs.Items.{items_sent, is_done, is_for}
-use Rattle.rpc_journal.specs.Marks.{is_empty, is_okay, is_server, is_unary, streams_up, streams_down, streams_out}
+use Rattle.rpc_journal.specs.Items.{items_sent, is_done}
+use Rattle.rpc_journal.specs.Marks.{is_empty, is_okay, is_unary, streams_up, streams_down}
 use Rattle.rpc_journal.specs.Rows.{Row, channels_in, method_named, no_effect, says_item, status_packet, sends}
 use Rattle.rpc_journal.specs.ServerTable.{method_row, known_row, unknown_row}
 use Rattle.rpc_journal.specs.ClientTable.{call_row, live_row, no_call_row}
-use Rattle.rpc_journal.specs.Entries.{row_by, arrive_row, keeps, leaves, effect_of, invoke_effect, out_item, answer_item, messages_go, answered, end_effect, finish_effect, is_heard, cancel_effect, error_type, with_call}
+use Rattle.rpc_journal.specs.Entries.{row_by, arrive_row, leaves, effect_of, invoke_effect, out_item, answer_item, messages_go, answered, end_effect, finish_effect, is_heard, cancel_effect, error_type, with_call}
 use Rattle.rpc_journal.specs.History.{told, history}
 use Rattle.rpc_journal.specs.Lawful.{AllowedAll, IsLawful, is_refused, is_refused_say}
 use Rattle.rpc_journal.specs.Laws.{is_packet_for, NoPacketFor, SaysNoMoreOf}
-use Rattle.rpc_journal.proofs.Allowed.{Allowed, allowed}
+use Rattle.rpc_journal.proofs.Allowed.{allowed}
 use Rattle.rpc_journal.proofs.Push.{allowed-parts}
 use Rattle.rpc_journal.proofs.EndLemmas.{AllLive, live_is, heard_live, ended_known}
 use Rattle.rpc_channel.specs.Rising.{has_id}

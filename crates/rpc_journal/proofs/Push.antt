@@ -1,12 +1,11 @@
 -- Histories with one more entry, and histories that begin others.
-use Rattle.std.proofs.Common.{◌≡◌, ℕ, List, [], ◌∷◌, ◌++◌, length, reverse, None, refl, ap, sym, ◌∙◌, subst}
+use Rattle.std.proofs.Common.{◌≡◌, List, [], ◌∷◌, ◌++◌, reverse, None, ap, sym, subst}
 use Rattle.std.proofs.lemmas.List.{reverse-append, reverse-reverse}
 use Rattle.std.specs.List.{AllByRecursion}
 use mathlib.Core.List.{IsPrefix}
 use Rattle.rpc_handlers.specs.HandlerRule.{HandlerRule}
 use Rattle.rpc_journal.specs.declared.entry.Entry.{Entry}
 use Rattle.rpc_journal.specs.declared.setting.Setting.{Setting}
-use Rattle.rpc_journal.specs.Effect.{Deed}
 use Rattle.rpc_journal.specs.History.{told, tell, history}
 use Rattle.rpc_journal.specs.Lawful.{broken, AllowedAll, AnsweredAll, IsAnsweredByRule, IsLawful, IsLegal}
 

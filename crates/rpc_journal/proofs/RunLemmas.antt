@@ -1,5 +1,5 @@
 -- Runs of calls: none begins of a call that isn't ready, and none ends by another seat.
-use Rattle.std.proofs.Common.{◌≡◌, ◌≢◌, ℕ, Bool, true, false, not, ◌&&◌, ◌||◌, ◌==◌, List, [], ◌∷◌, ◌++◌, reverse, Option, Some, None, is_none, if◌then◌else◌, refl, ap, sym, ◌∙◌, subst}
+use Rattle.std.proofs.Common.{◌≡◌, ◌≢◌, ℕ, true, false, ◌||◌, List, [], ◌∷◌, ◌++◌, reverse, Option, Some, None, is_none, if◌then◌else◌, refl, ap, sym, ◌∙◌, subst}
 use Rattle.std.proofs.lemmas.Bool.{true≢false, false≢true, eqb-true, not-true, not-false, and_parts, and_from, false_from_ne_true}
 use Rattle.std.proofs.lemmas.List.{reverse-append}
 use Rattle.std.proofs.Math.Bool.{or-true}
@@ -16,7 +16,7 @@ use Rattle.rpc_journal.specs.Queues.{taken_event}
 use Rattle.rpc_journal.specs.Items.{is_for, is_ready}
 use Rattle.rpc_journal.specs.Quiet.{is_quiet}
 use Rattle.rpc_journal.specs.States.{state_before_run}
-use Rattle.rpc_journal.specs.History.{told, tell, history}
+use Rattle.rpc_journal.specs.History.{told, history}
 use Rattle.rpc_journal.specs.Lawful.{AllowedAll, IsLawful, starts_unready, finishes_unrun}
 use Rattle.rpc_journal.specs.Laws.{seat_of, HasNoRunOf, StaysQuiet}
 use Rattle.rpc_journal.specs.Runs.{Run, IsRunning}

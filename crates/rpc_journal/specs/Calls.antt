@@ -1,5 +1,5 @@
 -- The calls of a history, as its deeds tell of them. Deeds stand the newest first.
-use Rattle.std.specs.Prelude.{◌≡◌, ℕ, ◌+◌, Bool, true, false, not, ◌&&◌, ◌||◌, ◌==◌, List, [], ◌∷◌, ◌++◌, length, slice_get, Option, Some, None, option_to_list, option_and_then, if◌then◌else◌}
+use Rattle.std.specs.Prelude.{ℕ, Bool, false, not, ◌&&◌, ◌||◌, ◌==◌, List, [], ◌∷◌, ◌++◌, length, slice_get, Option, Some, None, option_to_list, option_and_then, if◌then◌else◌}
 use Rattle.rpc_ids.specs.declared.status.Status.{Status}
 use Rattle.rpc_packet.specs.declared.call_name.CallName.{CallName}
 use Rattle.rpc_journal.specs.declared.entry.EntryKind.{EntryKind}

@@ -21,10 +21,10 @@ use Rattle.rpc_journal.specs.declared.entry.Entry.{Entry}
 use Rattle.rpc_journal.specs.declared.item.Item.{Item}
 use Rattle.rpc_journal.specs.declared.setting.Setting.{Setting}
 use Rattle.rpc_journal.specs.Changes.{ArriveDid, InvokeDid, SayDid, DoneDid, StartDid, StartOfDid, FinishDid, ReplaceDid, CancelDid, TickDid, EndInDid, FlushDid, HaltDid}
-use Rattle.rpc_journal.specs.Conditions.{IsInputOpen}
-use Rattle.rpc_journal.specs.Lawful.{IsLawful}
+use Rattle.rpc_journal.specs.Conditions.{CanComplete, CanHalt, CanInvoke, CanSay, IsCall, IsHeard, IsInputOpen}
+use Rattle.rpc_journal.specs.Lawful.{IsLawful, IsLegal}
 use Rattle.rpc_journal.specs.Laws.{seat_of}
-use Rattle.rpc_journal.specs.Runs.{Run, Begins, IsRunning}
+use Rattle.rpc_journal.specs.Runs.{Run, Begins, IsAnswerOf, IsRunning}
 
 -- a seat goes on with a history
 abbrev pub GoesOnBy : ℕ → List Entry → List Entry → Type 0
@@ -57,3 +57,20 @@ abbrev pub InputStaysOpen : Type 0
 InputStaysOpen =
     (set : Setting) (h more : List Entry) (seat : ℕ) → IsLawful set (h ++ more)
     → AllByRecursion (λ e. seat_of e ≢ 0) more → IsInputOpen set h seat → IsInputOpen set (h ++ more) seat
+
+-- where a history is legal, and what a call asks holds of it, the history after the call is legal; H is a type of
+-- handlers, and R one of runs
+pub record KeepsLegal (H R : Type 0) : Type 0 where
+  pub arrive : (rule : HandlerRule) (set : Setting) (seat : ℕ) (p : Packet) (result : Result Arrived ArriveRefused) (before after : List Entry) → IsLegal rule set before → IsInputOpen set before seat → IsHeard set p → ArriveDid set seat p result before after → IsLegal rule set after
+  pub invoke : (rule : HandlerRule) (set : Setting) (seat : ℕ) (name : CallName) (payload : List ℕ) (state : Memo) (result : Result ℕ (H × InvokeRefused)) (before after : List Entry) → IsLegal rule set before → CanInvoke set name payload → InvokeDid set seat name payload state result before after → IsLegal rule set after
+  pub say : (rule : HandlerRule) (set : Setting) (seat c : ℕ) (out : Out) (result : Result (Unit {0}) SayRefused) (before after : List Entry) → IsLegal rule set before → CanSay set before c out → SayDid set seat c out result before after → IsLegal rule set after
+  pub done : (rule : HandlerRule) (set : Setting) (seat c : ℕ) (result : Result (Unit {0}) SayRefused) (before after : List Entry) → IsLegal rule set before → CanComplete set before c → DoneDid set seat c result before after → IsLegal rule set after
+  pub start : (rule : HandlerRule) (run_of : R → Run) (set : Setting) (seat : ℕ) (result : Result (Option R) StartRefused) (before after : List Entry) → IsLegal rule set before → StartDid rule run_of set seat result before after → IsLegal rule set after
+  pub start_of : (rule : HandlerRule) (run_of : R → Run) (set : Setting) (seat c : ℕ) (result : Result R StartOfRefused) (before after : List Entry) → IsLegal rule set before → StartOfDid rule run_of set seat c result before after → IsLegal rule set after
+  pub finish : (rule : HandlerRule) (set : Setting) (run : Run) (a : Answer) (handler : H) (result : Option H) (before after : List Entry) → IsLegal rule set before → IsRunning rule set before run → IsAnswerOf rule run a → FinishDid set run a handler result before after → IsLegal rule set after
+  pub replace : (rule : HandlerRule) (set : Setting) (seat c : ℕ) (state : Memo) (result : Result (Option H) (H × ReplaceRefused)) (before after : List Entry) → IsLegal rule set before → ReplaceDid set seat c state result before after → IsLegal rule set after
+  pub cancel : (rule : HandlerRule) (set : Setting) (seat c : ℕ) (result : Cancelled) (before after : List Entry) → IsLegal rule set before → IsCall set before c → CancelDid set seat c result before after → IsLegal rule set after
+  pub tick : (rule : HandlerRule) (set : Setting) (seat now : ℕ) (result : Result (Unit {0}) StartRefused) (before after : List Entry) → IsLegal rule set before → seat ≡ 1 → TickDid seat now result before after → IsLegal rule set after
+  pub end_in : (rule : HandlerRule) (set : Setting) (seat : ℕ) (before after : List Entry) → IsLegal rule set before → IsInputOpen set before seat → EndInDid seat before after → IsLegal rule set after
+  pub flush_front : (rule : HandlerRule) (set : Setting) (seat : ℕ) (result : Option Item) (before after : List Entry) → IsLegal rule set before → seat ≡ 1 → FlushDid set seat result before after → IsLegal rule set after
+  pub halt : (rule : HandlerRule) (set : Setting) (seat : ℕ) (why : Why) (before after : List Entry) → IsLegal rule set before → CanHalt why → HaltDid set seat why before after → IsLegal rule set after

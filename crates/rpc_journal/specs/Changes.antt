@@ -1,6 +1,6 @@
 -- One relation for each call of a table: what is fixed with it, the seat, the arguments, the result, and the entries
 -- before and after.
-use Rattle.std.specs.Prelude.{◌≡◌, ℕ, Bool, true, false, ◌&&◌, ◌||◌, List, [], ◌∷◌, ◌++◌, slice_get, ◌⊎◌, Option, Some, None, Result, is_some, is_none, unwrap_or, OnOk, OnErr, IfOk, IfErr, IfSome, IfNone, MatchOption, if◌then◌else◌}
+use Rattle.std.specs.Prelude.{◌≡◌, ℕ, Bool, true, false, ◌&&◌, ◌||◌, List, [], ◌∷◌, ◌++◌, slice_get, ◌⊎◌, Option, Some, None, Result, is_some, is_none, unwrap_or, OnOk, OnErr, IfOk, IfErr, IfSome, IfNone, if◌then◌else◌}
 use Rattle.link_io.specs.declared.why.Why.{Why}
 use Rattle.rpc_ids.specs.declared.status.Status.{Status}
 use Rattle.rpc_ids.specs.declared.status.Status.TheVariants.{Cancelled as WasCancelled}
@@ -27,7 +27,7 @@ use Rattle.rpc_journal.specs.declared.setting.Setting.{Setting}
 use Rattle.rpc_journal.specs.Effect.{Deed}
 use Rattle.rpc_journal.specs.Calls.{call_count, end_of, has_end, is_cancelled, is_replaced, runner_of}
 use Rattle.rpc_journal.specs.Queues.{waiting_of}
-use Rattle.rpc_journal.specs.Items.{flush_count, halt_reason, is_ready, items_sent}
+use Rattle.rpc_journal.specs.Items.{flush_count, halt_reason, items_sent}
 use Rattle.rpc_journal.specs.Marks.{is_empty}
 use Rattle.rpc_journal.specs.Entries.{arrive_row}
 use Rattle.rpc_journal.specs.History.{history, entry_by, adding}

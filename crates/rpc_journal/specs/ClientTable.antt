@@ -1,5 +1,5 @@
 -- What the arrival of a packet does at a client, by its type and the state of the call of its name.
-use Rattle.std.specs.Prelude.{ℕ, not, ◌&&◌, [], ◌∷◌, List, Option, Some, None, if◌then◌else◌}
+use Rattle.std.specs.Prelude.{ℕ, not, ◌&&◌, [], ◌∷◌, List, Option, Some, if◌then◌else◌}
 use Rattle.rpc_ids.specs.declared.method.MethodRef.{MethodRef}
 use Rattle.rpc_ids.specs.declared.status.Status.TheVariants.{InvalidArgument, FailedPrecondition}
 use Rattle.rpc_ids.specs.Status.{status_of}

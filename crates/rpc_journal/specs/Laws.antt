@@ -1,16 +1,15 @@
 -- What holds of every history.
-use Rattle.std.specs.Prelude.{◌≡◌, ◌≢◌, ℕ, ◌≤◌, Bool, true, false, ◌&&◌, List, ◌++◌, length, map}
+use Rattle.std.specs.Prelude.{◌≡◌, ◌≢◌, ℕ, ◌≤◌, Bool, true, false, ◌&&◌, List, ◌++◌, length}
 use Rattle.std.specs.List.{AllByRecursion}
 use mathlib.Core.List.{IsPrefix}
 use Rattle.entry_lists.specs.Entries.{made_by}
-use Rattle.rpc_packet.specs.declared.owned.Packet.{Packet}
 use Rattle.rpc_handlers.specs.HandlerRule.{HandlerRule}
 use Rattle.rpc_journal.specs.declared.entry.Entry.{Entry}
 use Rattle.rpc_journal.specs.declared.item.Act.{Act}
 use Rattle.rpc_journal.specs.declared.item.Act.TheVariants.{Send}
 use Rattle.rpc_journal.specs.declared.item.Item.{Item}
 use Rattle.rpc_journal.specs.declared.setting.Setting.{Setting}
-use Rattle.rpc_journal.specs.Calls.{call_count, ends_of, has_end, is_start_of, is_finish_of}
+use Rattle.rpc_journal.specs.Calls.{ends_of, has_end, is_start_of, is_finish_of}
 use Rattle.rpc_journal.specs.Items.{arrivals, flushes, flush_count, is_for, items_sent, items_flushed}
 use Rattle.rpc_journal.specs.Quiet.{is_quiet}
 use Rattle.rpc_journal.specs.History.{history}

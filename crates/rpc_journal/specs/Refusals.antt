@@ -1,6 +1,6 @@
 -- The first thing that speaks against each call of a table, where something does; of the entries before it.
-use Rattle.std.specs.Prelude.{ℕ, Bool, not, ◌&&◌, nat_le, List, length, Option, Some, None, is_none, option_map, if◌then◌else◌}
-use Rattle.rpc_ids.specs.declared.status.Status.{Status}
+use Rattle.std.specs.Prelude.{ℕ, Bool, not, ◌&&◌, nat_le, List, length, Option, Some, None, is_none, option_map, unwrap_or, if◌then◌else◌}
+use Rattle.rpc_ids.specs.declared.status.Status.TheVariants.{Cancelled}
 use Rattle.rpc_packet.specs.declared.call_name.CallName.{CallName}
 use Rattle.rpc_packet.specs.declared.owned.Packet.{Packet}
 use Rattle.rpc_channel.specs.Rising.{has_id}
@@ -51,7 +51,7 @@ message_refusal set ds c =
 -- of a store action: the call was cancelled
 abbrev pub out_refusal : Setting → List Deed → ℕ → Out → Option say.SayRefused
 out_refusal set ds c (Message payload) = message_refusal set ds c
-out_refusal set ds c out = if is_cancelled ds c then option_map say.TheVariants.Closed (end_of ds c) else None
+out_refusal set ds c out = refused_where (is_cancelled ds c) (say.TheVariants.Closed (unwrap_or (end_of ds c) Cancelled))
 
 abbrev pub say_refusal : Setting → List Entry → ℕ → Out → Option say.SayRefused
 say_refusal set h c out =

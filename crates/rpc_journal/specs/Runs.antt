@@ -1,8 +1,10 @@
 -- Runs of calls, between their Start and their Finish.
-use Rattle.std.specs.Prelude.{◌≡◌, ℕ, List, length, slice_get, Some, IsTrue}
+use Rattle.std.specs.Prelude.{◌≡◌, ℕ, false, List, length, slice_get, Some, IsTrue}
+use Rattle.rpc_handlers.specs.declared.answer.Answer.{Answer}
 use Rattle.rpc_handlers.specs.declared.event.Event.{Event}
 use Rattle.rpc_handlers.specs.declared.event.Memo.{Memo}
 use Rattle.rpc_handlers.specs.HandlerRule.{HandlerRule}
+use Rattle.rpc_handlers.specs.Limits.{is_past_limits}
 use Rattle.rpc_journal.specs.declared.entry.Entry.{Entry}
 use Rattle.rpc_journal.specs.declared.entry.EntryKind.TheVariants.{Start}
 use Rattle.rpc_journal.specs.declared.setting.Setting.{Setting}
@@ -35,3 +37,8 @@ pub record Begins (rule : HandlerRule) (set : Setting) (by : ℕ) (run : Run) (b
   pub newest : run.place ≡ length before
   pub takes : taken_event (history set after) run.call ≡ Some run.event
   pub has : IsTrue rule.ruled → state_of rule set (history set before) run.call ≡ Some run.state
+
+-- what the handler of a run answered: within the limits and, where its type is ruled, by the rule
+pub record IsAnswerOf (rule : HandlerRule) (run : Run) (a : Answer) : Type 0 where
+  pub limits : is_past_limits a ≡ false
+  pub by_rule : IsTrue rule.ruled → a ≡ rule.answer run.state run.event

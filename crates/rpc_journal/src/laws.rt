@@ -1,6 +1,6 @@
 //! What follows from the definitions for every history. Each function does nothing: what counts is its contract.
 ghost use Rattle.rpc_journal.specs.Laws.{BeginningIsLawful, BeginningIsLegal, EndsOnce, NoPacketAfterEnd, QuietForGood, RunStands, ItemsBegin, FlushedBegin, ArrivalsOfSeat, FlushesOfSeat, FlushesCount, CallStays};
-ghost use Rattle.rpc_journal.specs.ChangeLaws.{AddsBySeat, BegunRuns, InputStaysOpen};
+ghost use Rattle.rpc_journal.specs.ChangeLaws.{AddsBySeat, BegunRuns, InputStaysOpen, KeepsLegal};
 
 /// A beginning of a lawful or legal history is one itself.
 pub fn beginnings()
@@ -44,7 +44,10 @@ pub fn seen()
     ensures input { InputStaysOpen }
 {}
 
-/// What a call of the table adds is by its seat. `H` is a type of handlers, and `R` one of runs.
+/// What a call of the table adds is by its seat, and keeps a legal history legal. `H` is a type of handlers, and `R`
+/// one of runs.
 pub fn changes<H, R>()
-    ensures { AddsBySeat H R }
-{}
+    ensures by_seat { AddsBySeat H R }
+    ensures legal { KeepsLegal H R }
+{
+}
