@@ -1,0 +1,4 @@
+pub mod FormLemmas
+pub mod OutcomeLemmas
+pub mod ReadingLemmas
+pub mod WordLemmas

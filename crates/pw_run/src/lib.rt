@@ -1,0 +1,21 @@
+//! The program: the words of its command line, what it reads, the report that it writes, and its exit status.
+//! It waits for nobody and touches no device of its own: [`run_recorded`] works over any source and sink, and says of
+//! each exit status what was read and written. Enter there.
+#![tactic(auto)]
+
+mod built_form;
+mod counts;
+mod demo;
+mod limits;
+mod lines;
+mod outcome;
+mod recorded;
+mod report;
+#[cfg(test)]
+mod tests;
+mod words;
+mod writing;
+
+pub use counts::Counts;
+pub use outcome::Outcome;
+pub use recorded::run_recorded;
