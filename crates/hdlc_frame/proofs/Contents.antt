@@ -8,7 +8,7 @@ use Rattle.hdlc_frame.specs.declared.octets.TheConstants.{ESCAPE, ESCAPE_BIT, FL
 use Rattle.hdlc_frame.specs.Content.{StandsFor, unescaped}
 use Rattle.hdlc_frame.specs.Content.StandsFor.{nothing, itself, escaped}
 
-neq-eqb : (a b : ℕ) → a ≢ b → (a == b) ≡ false
+pub neq-eqb : (a b : ℕ) → a ≢ b → (a == b) ≡ false
 neq-eqb a b h = elim (eqb_tells a b) [ inl w ↦ absurd (h w.1) | inr w ↦ w.0 ]
 
 pub walk_end : unescaped false [] ≡ Some []

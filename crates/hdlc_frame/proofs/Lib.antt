@@ -1,3 +1,6 @@
-mod Contents
-mod Headers
-mod Register
+pub mod Contents
+pub mod Headers
+pub mod Machines
+pub mod Numbers
+pub mod Parting
+pub mod Register

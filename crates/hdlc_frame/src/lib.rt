@@ -4,11 +4,20 @@
 #![tactic(auto)]
 
 mod crc;
+mod decoder;
 mod encode;
+mod found;
+mod judge;
 mod octets;
+mod phase;
+mod pieces;
 mod text;
 
 pub use crc::crc32;
+pub use decoder::Decoder;
 pub use encode::encode_ui;
+pub use found::{Bad, Frame, Got, Pushed};
+pub use judge::SHORTEST_CONTENT;
 pub use octets::{ESCAPE, ESCAPE_BIT, FLAG, UI_CONTROL};
+pub use pieces::{Decoded, decode_pieces};
 pub use text::content_of;

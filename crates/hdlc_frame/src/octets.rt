@@ -1,5 +1,10 @@
 //! The octets that the framing standard names (RFC 1662, section 4.1).
 
+ghost use Rattle.std.specs.Prelude.{◌≡◌, ◌<◌, ◌≤◌, ◌⊎◌, length, slice_index, take};
+ghost use Rattle.hdlc_frame.specs.Machine.{IsOrdinary};
+
+use memchr::memchr2;
+
 /// Stands in front of a frame and behind it, and nowhere else.
 pub const FLAG: u8 = 0x7E;
 
@@ -11,3 +16,15 @@ pub const ESCAPE_BIT: u8 = 0x20;
 
 /// The control octet of an unnumbered information frame.
 pub const UI_CONTROL: u8 = 0x03;
+
+/// How many octets stand in front of the first flag or escape.
+pub(crate) fn ordinary_len(octets: &[u8]) -> usize
+    ensures within { result ≤ length octets.now }
+    ensures ordinary { IsOrdinary (take result octets.now) }
+    ensures stop { result < length octets.now → (slice_index octets.now result ≡ FLAG) ⊎ (slice_index octets.now result ≡ ESCAPE) }
+{
+    match memchr2(FLAG, ESCAPE, octets) {
+        Some(n) => n,
+        None => octets.len(),
+    }
+}

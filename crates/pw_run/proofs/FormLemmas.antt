@@ -1,5 +1,5 @@
 -- Laws on the form of input that is served.
-use Rattle.std.proofs.Common.{◌≡◌, ℕ, ◌*◌, ◌+◌, ◌<◌, ◌≤◌, List, [], ◌∷◌, ◌++◌, length, refl, sym, ◌∙◌, ap, subst, arith, Option, Some, None, length-append}
+use Rattle.std.proofs.Common.{◌≡◌, ℕ, ◌*◌, ◌<◌, ◌≤◌, List, [], ◌∷◌, ◌++◌, length, refl, sym, ◌∙◌, ap, subst, arith, Option, Some, None, length-append}
 use Rattle.std.proofs.lemmas.Option.{same_Some}
 use Rattle.hdlc_frame.specs.Content.{StandsFor}
 use Rattle.hdlc_frame.specs.Content.StandsFor.{nothing, itself, escaped}

@@ -1,5 +1,5 @@
 -- What a run of `replay` read and wrote.
-use Rattle.std.specs.Prelude.{◌≡◌, ℕ, ◌≤◌, ◌⊎◌, List, length, Option}
+use Rattle.std.specs.Prelude.{◌≡◌, ℕ, ◌⊎◌, List, length, Option}
 use Rattle.std.specs.Io.KnownBytes.{Consumes, IsAtEnd, Appends}
 use Rattle.link_io.specs.Device.{AppendsSome}
 use Rattle.rpc_packet.specs.Message.{Message}
