@@ -1,7 +1,6 @@
 -- The calls that events are put to, and those that run, are there.
-use Rattle.std.proofs.Common.{◌≡◌, ℕ, ◌+◌, ◌<◌, ◌≤◌, Bool, true, false, not, ◌&&◌, ◌||◌, ◌==◌, List, [], ◌∷◌, ◌++◌, length, map, drop, Option, Some, None, is_some, option_to_list, if◌then◌else◌, refl, ap, sym, ◌∙◌, subst, arith, length-append, lt_of_not-le}
+use Rattle.std.proofs.Common.{◌≡◌, ℕ, ◌+◌, ◌<◌, ◌≤◌, Bool, true, false, not, ◌&&◌, ◌||◌, List, [], ◌∷◌, ◌++◌, length, map, drop, Option, Some, None, option_to_list, if◌then◌else◌, refl, ap, sym, ◌∙◌, subst, arith, length-append, lt_of_not-le}
 use Rattle.std.proofs.lemmas.Bool.{true≢false, false≢true, eqb-true, ne_eqb, leb-false, not-true, and_parts}
-use Rattle.std.proofs.lemmas.Option.{slice_get_within}
 use Rattle.std.proofs.Math.Seq.{drop-nil}
 use Rattle.std.specs.List.{AllByRecursion}
 use Rattle.rpc_ids.specs.declared.method.MethodRef.{MethodRef}
@@ -24,7 +23,7 @@ use Rattle.rpc_journal.specs.declared.entry.EntryKind.{EntryKind}
 use Rattle.rpc_journal.specs.declared.entry.EntryKind.TheVariants.{Arrive, Invoke, Say, Done, Start, Finish, Replace, Cancel, Tick, Flush, EndIn, Halt}
 use Rattle.rpc_journal.specs.declared.item.Item.{Item}
 use Rattle.rpc_journal.specs.declared.setting.Setting.{Setting}
-use Rattle.rpc_journal.specs.Calls.{of_call, calls, call_count, call_at, has_end, live_call, is_cancelled, is_start_of, is_finish_of, runner_of}
+use Rattle.rpc_journal.specs.Calls.{of_call, calls, call_count, call_at, live_call, is_cancelled, is_start_of, is_finish_of, runner_of}
 use Rattle.rpc_journal.specs.Effect.{Effect, Opening, Deed}
 use Rattle.rpc_journal.specs.Entries.{row_by, arrive_row, leaves, effect_of, invoke_effect, finish_effect, answered, end_effect, is_heard, cancel_effect, each_from, with_call}
 use Rattle.rpc_journal.specs.History.{told}
@@ -35,7 +34,7 @@ use Rattle.rpc_journal.specs.Queues.{drops_of, puts_since, starts_since, waiting
 use Rattle.rpc_journal.specs.Rows.{Row, channels_in, method_named, no_effect, says_item, status_packet, sends}
 use Rattle.rpc_journal.specs.ServerTable.{method_row, known_row, unknown_row}
 use Rattle.rpc_journal.specs.ClientTable.{call_row, live_row, no_call_row}
-use Rattle.rpc_journal.proofs.Allowed.{Allowed, allowed}
+use Rattle.rpc_journal.proofs.Allowed.{allowed}
 use Rattle.rpc_journal.proofs.EndLemmas.{AllLive, live_is}
 use Rattle.rpc_channel.specs.Rising.{has_id}
 
@@ -186,7 +185,7 @@ unput set [] c beyond = refl
 unput set (e ∷ h) c beyond =
     let more = length-append (calls (told set h)) (option_to_list (effect_of set (told set h) e.kind).opens) in
     let now : of_call c (effect_of set (told set h) e.kind).puts ≡ [] =
-        none_beyond _ c _ (effect-puts set (told set h) e.kind) (omega (arith, more, beyond)) in
+    none_beyond _ c _ (effect-puts set (told set h) e.kind) (omega (arith, more, beyond)) in
     at (drops_of (record { entry = e; does = effect_of set (told set h) e.kind }) c) (unput set h c (omega (arith, more, beyond))) now
   where
     at : (b : Bool) → puts_since (told set h) c ≡ [] → of_call c (effect_of set (told set h) e.kind).puts ≡ []

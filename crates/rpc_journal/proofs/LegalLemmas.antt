@@ -1,9 +1,9 @@
 -- Each call of a table keeps a legal history legal.
-use Rattle.std.proofs.Common.{◌≡◌, ◌≢◌, ℕ, ◌<◌, ◌≤◌, Bool, true, false, not, ◌&&◌, ◌||◌, ◌==◌, List, [], ◌∷◌, ◌++◌, length, reverse, slice_get, nat_le, Option, Some, None, Ok, Err, Result, IsTrue, is_some, is_none, option_map, if◌then◌else◌, refl, ap, sym, ◌∙◌, subst, eq-eqb, arith}
+use Rattle.std.proofs.Common.{◌≡◌, ℕ, ◌<◌, Bool, true, false, not, ◌&&◌, List, [], ◌∷◌, length, reverse, slice_get, nat_le, Option, Some, None, Ok, Err, Result, is_some, is_none, option_map, if◌then◌else◌, refl, ap, sym, ◌∙◌, subst, eq-eqb}
 use Rattle.std.proofs.lemmas.Bool.{true≢false, not-false, lt-leb}
 use Rattle.std.proofs.lemmas.Option.{slice_get_within}
 use Rattle.link_io.specs.declared.why.Why.{Why}
-use Rattle.link_io.specs.declared.why.Why.TheVariants.{Settled, Source, Sink, Store, InputLimit, JournalLimit, Memory}
+use Rattle.link_io.specs.declared.why.Why.TheVariants.{Settled}
 use Rattle.rpc_packet.specs.declared.call_name.CallName.{CallName}
 use Rattle.rpc_packet.specs.declared.owned.Packet.{Packet}
 use Rattle.rpc_handlers.specs.declared.answer.Answer.{Answer}
@@ -16,19 +16,18 @@ use Rattle.rpc_journal.specs.declared.entry.Entry.{Entry}
 use Rattle.rpc_journal.specs.declared.entry.EntryKind.{EntryKind}
 use Rattle.rpc_journal.specs.declared.entry.EntryKind.TheVariants.{Arrive, Invoke, Say, Done, Start, Finish, Replace, Cancel, Tick, Flush, EndIn, Halt}
 use Rattle.rpc_journal.specs.declared.setting.Setting.{Setting}
-use Rattle.rpc_journal.specs.Calls.{call_count, call_at, end_of, ends_of, has_end, is_cancelled, live_call, runner_of}
+use Rattle.rpc_journal.specs.Calls.{call_at, ends_of, has_end, is_cancelled, live_call, runner_of}
 use Rattle.rpc_journal.specs.ChangeLaws.{KeepsLegal}
-use Rattle.rpc_journal.specs.Changes.{Accepts, StartDid, StartOfDid, FinishDid, CancelDid, FlushDid, HaltDid, request}
+use Rattle.rpc_journal.specs.Changes.{Accepts, StartDid, StartOfDid, FlushDid, request}
 use Rattle.rpc_journal.specs.Conditions.{CanComplete, CanHalt, CanInvoke, CanSay, IsCall, IsHeard, IsInputOpen}
-use Rattle.rpc_journal.specs.Effect.{Deed}
 use Rattle.rpc_journal.specs.History.{history, told, entry_by, adding}
 use Rattle.rpc_journal.specs.Items.{flush_count, halt_reason, is_done, is_for, is_ready, items_sent}
 use Rattle.rpc_journal.specs.Lawful.{IsAnsweredByRule, IsLegal, full_queue, has_stream, is_settled_reason, is_unary_call}
 use Rattle.rpc_journal.specs.Marks.{is_empty, is_server, or_else}
 use Rattle.rpc_journal.specs.Rows.{channels_in, method_named}
 use Rattle.rpc_channel.specs.Rising.{has_id}
-use Rattle.rpc_journal.specs.Refusals.{refused_where, is_full, arrive_refusal, invoke_refusal, say_refusal, done_refusal, start_of_refusal, replace_refusal}
-use Rattle.rpc_journal.specs.Runs.{Run, Begins, IsAnswerOf, IsRunning}
+use Rattle.rpc_journal.specs.Refusals.{refused_where, arrive_refusal, invoke_refusal, say_refusal, done_refusal, replace_refusal}
+use Rattle.rpc_journal.specs.Runs.{Run, IsAnswerOf, IsRunning}
 use Rattle.rpc_journal.proofs.Allowed.{Allowed, allow}
 use Rattle.rpc_journal.proofs.KnownLemmas.{ready_known, run_known}
 use Rattle.rpc_journal.proofs.Push.{legal-push}
@@ -76,7 +75,7 @@ arrive_allowed : (set : Setting) (h : List Entry) (seat : ℕ) (p : Packet) → 
     → Allowed set (history set h) (entry_by seat (Arrive p))
 arrive_allowed set h seat p input heard unrefused =
     let room : is_some (full_queue set (history set h) p) ≡ false =
-        option_map-none _ _ (or_else-none _ _ unrefused).1 in
+    option_map-none _ _ (or_else-none _ _ unrefused).1 in
     record {
       seat = ap not (eq-eqb seat 0 input.feeder);
       input = input.not_ended;
@@ -238,7 +237,7 @@ start_of_legal : {R : Type 0} (rule : HandlerRule) (run_of : R → Run) (set : S
 start_of_legal rule run_of set seat c (Ok r) before after legal did =
     let ready : is_ready (history set before) c ≡ true = not-false _ (refused_where-none _ _ (or_else-none _ _ did.unrefused).1) in
     legal_after rule set seat _ before after legal did.begins.adds
-      (start_allowed set before seat (run_of r).call (subst (λ k. is_ready (history set before) k ≡ true) (sym did.chosen) ready)) tt
+    (start_allowed set before seat (run_of r).call (subst (λ k. is_ready (history set before) k ≡ true) (sym did.chosen) ready)) tt
 start_of_legal rule run_of set seat c (Err e) before after legal did = legal_same rule set before after legal did.kept
 
 cancel_legal : (rule : HandlerRule) (set : Setting) (seat c : ℕ) (before after : List Entry) → IsLegal rule set before → IsCall set before c

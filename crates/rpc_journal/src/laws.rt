@@ -49,5 +49,4 @@ pub fn seen()
 pub fn changes<H, R>()
     ensures by_seat { AddsBySeat H R }
     ensures legal { KeepsLegal H R }
-{
-}
+{}
