@@ -1,0 +1,11 @@
+pub mod Allowed
+pub mod ChangeLemmas
+pub mod DemoTable
+pub mod EndLemmas
+pub mod Examples
+pub mod ItemLemmas
+pub mod KnownLemmas
+pub mod PacketLemmas
+pub mod LegalLemmas
+pub mod Push
+pub mod RunLemmas

@@ -1,0 +1,52 @@
+//! What follows from the definitions for every history. Each function does nothing: what counts is its contract.
+ghost use Rattle.rpc_journal.specs.Laws.{BeginningIsLawful, BeginningIsLegal, EndsOnce, NoPacketAfterEnd, QuietForGood, RunStands, ItemsBegin, FlushedBegin, ArrivalsOfSeat, FlushesOfSeat, FlushesCount, CallStays};
+ghost use Rattle.rpc_journal.specs.ChangeLaws.{AddsBySeat, BegunRuns, InputStaysOpen, KeepsLegal};
+
+/// A beginning of a lawful or legal history is one itself.
+pub fn beginnings()
+    ensures lawful { BeginningIsLawful }
+    ensures legal { BeginningIsLegal }
+{}
+
+/// Each call has at most one end, and no packet of it is added after the entry that closes it.
+pub fn ends()
+    ensures once { EndsOnce }
+    ensures no_packet_after { NoPacketAfterEnd }
+{}
+
+/// From a history in which a call is quiet no lawful history goes on with a Start or a Finish of it.
+pub fn quiet_calls()
+    ensures { QuietForGood }
+{}
+
+/// A run that begins is on; no entry of another seat ends it, and its event and the state before it stay.
+pub fn runs()
+    ensures begun { BegunRuns }
+    ensures stand { RunStands }
+{}
+
+/// The items sent and the items flushed of a beginning are beginnings of those of the whole.
+pub fn items()
+    ensures sent { ItemsBegin }
+    ensures flushed { FlushedBegin }
+{}
+
+/// The arrivals of a history are those of seat 0's entries, and the flushes those of seat 1's.
+pub fn seats()
+    ensures arrivals { ArrivalsOfSeat }
+    ensures flushes { FlushesOfSeat }
+    ensures count { FlushesCount }
+{}
+
+/// What a caller has seen stays true: a call is there, and the input is open to who feeds it.
+pub fn seen()
+    ensures call { CallStays }
+    ensures input { InputStaysOpen }
+{}
+
+/// What a call of the table adds is by its seat, and keeps a legal history legal. `H` is a type of handlers, and `R`
+/// one of runs.
+pub fn changes<H, R>()
+    ensures by_seat { AddsBySeat H R }
+    ensures legal { KeepsLegal H R }
+{}
