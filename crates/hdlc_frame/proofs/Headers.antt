@@ -1,5 +1,5 @@
 -- The writer of an address, group by group.
-use Rattle.std.proofs.Common.{◌≡◌, ℕ, ◌+◌, ◌-◌, ◌*◌, ◌/◌, ◌%◌, ◌^◌, ◌<◌, ◌≤◌, zero, suc, ltb, List, [], ◌∷◌, ◌++◌, refl, sym, ap, ◌∙◌, append_assoc, bit_xor, arith}
+use Rattle.std.proofs.Common.{◌≡◌, ℕ, ◌+◌, ◌*◌, ◌/◌, ◌%◌, ◌^◌, ◌<◌, ◌≤◌, zero, suc, List, [], ◌∷◌, ◌++◌, refl, sym, ap, ◌∙◌, append_assoc, bit_xor, arith}
 use Rattle.std.specs.Int.{to_le_bytes, w32}
 use Rattle.std.proofs.lemmas.Grind.{flat_map-append}
 use Rattle.std.proofs.lemmas.Bool.{lt-ltb, le-ltb}
@@ -23,12 +23,12 @@ pub text_of_none : text_of [] ≡ []
 unfolding text_of
 text_of_none = refl
 
-groups_more :
+pub groups_more :
     (n address : ℕ) → 128 ≤ address → address_groups (suc n) address ≡ (address % 128 * 2) ∷ address_groups n (address / 128)
 unfolding address_groups
 groups_more n address h = rw (le-ltb address 128 h) refl
 
-groups_last : (n address : ℕ) → address < 128 → address_groups (suc n) address ≡ (address * 2 + 1) ∷ []
+pub groups_last : (n address : ℕ) → address < 128 → address_groups (suc n) address ≡ (address * 2 + 1) ∷ []
 unfolding address_groups
 groups_last n address h = rw (lt-ltb address 128 h) refl
 

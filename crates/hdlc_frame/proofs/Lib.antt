@@ -1,6 +1,11 @@
+pub mod Carried
 pub mod Contents
+mod Examples
 pub mod Headers
+mod Tables
 pub mod Machines
 pub mod Numbers
 pub mod Parting
+pub mod ReadBack
 pub mod Register
+mod Words

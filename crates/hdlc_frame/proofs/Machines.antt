@@ -1,9 +1,9 @@
 -- The steps of the decoder, against the stream.
-use Rattle.std.proofs.Common.{◌≡◌, ◌≢◌, ℕ, ◌+◌, ◌-◌, ◌<◌, ◌≤◌, ◌==◌, ◌||◌, not, zero, suc, ltb, min, Bool, true, false, cond, List, [], ◌∷◌, ◌++◌, length, get_or, get_or-take, slice_range, take, drop, map, Option, Some, None, refl, sym, ap, ◌∙◌, append_assoc, subst, inl, inr, ◌⊎◌, bit_xor, arith}
+use Rattle.std.proofs.Common.{◌≡◌, ◌≢◌, ℕ, ◌+◌, ◌-◌, ◌<◌, ◌≤◌, ◌||◌, zero, suc, ltb, min, Bool, true, false, List, [], ◌∷◌, ◌++◌, length, get_or, slice_range, take, drop, map, Option, Some, None, refl, sym, ap, ◌∙◌, append_assoc, subst, inl, inr, bit_xor, arith}
 use Rattle.std.specs.Bool.{if◌then◌else◌}
 use Rattle.std.specs.Option.{option_map}
-use Rattle.std.proofs.lemmas.Bool.{cases_lt, eq-eqb, or_left, or_right, lt-ltb, le-ltb, ltb-true, ltb-false}
-use Rattle.std.proofs.lemmas.List.{append-nil, get_or_default, length-append, length-drop, length-take, take_more, length-take-le, take-append-drop, take-append-le, take_all}
+use Rattle.std.proofs.lemmas.Bool.{cases_lt, lt-ltb, le-ltb, ltb-false}
+use Rattle.std.proofs.lemmas.List.{append-nil, length-append, length-drop, length-take, take_more, length-take-le, take-append-drop, take-append-le, take_all}
 use Rattle.std.proofs.lemmas.List.Elements.{All-take}
 use Rattle.std.proofs.Math.Seq.{take-add, take-append-add}
 use Rattle.hdlc_frame.specs.declared.phase.Phase.{Phase}
@@ -16,10 +16,11 @@ use Rattle.hdlc_frame.specs.declared.found.Bad.TheVariants.{Long}
 use Rattle.hdlc_frame.specs.Found.{Found, found, found_in, found_in_content, found_in_unescaped}
 use Rattle.hdlc_frame.specs.Found.Found.{fault}
 use Rattle.hdlc_frame.specs.Pushed.{closed_by, closed_found}
+use Rattle.hdlc_frame.specs.Laws.{ended}
 use Rattle.hdlc_frame.specs.Machine.{HasRead, HasReadIn, HasReadText, IsOrdinary, Moves, Reading, after_escape, after_run, begun, content_behind, escape_in, keeping, run_in}
 use Rattle.hdlc_frame.specs.Segments.{has_octets, is_flag, open_text}
 use Rattle.hdlc_frame.proofs.Contents.{neq-eqb, walk_cut, walk_end, walk_escape, walk_escaped, walk_itself, walk_twice}
-use Rattle.hdlc_frame.proofs.Parting.{NoFlag, ended, found_flag, found_text, open_text_flag, open_text_text}
+use Rattle.hdlc_frame.proofs.Parting.{NoFlag, found_flag, found_text, open_text_flag, open_text_text}
 
 abbrev with_phase : Reading → Phase → Reading
 with_phase r p = record r { phase = p }

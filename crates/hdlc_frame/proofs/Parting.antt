@@ -1,13 +1,13 @@
 -- How a stream's segments grow with it.
-use Rattle.std.proofs.Common.{◌≡◌, ◌≢◌, ℕ, ◌+◌, ◌-◌, ◌<◌, ◌≤◌, ◌==◌, zero, suc, Bool, true, false, cond, List, [], ◌∷◌, ◌++◌, length, take, drop, map, Option, Some, None, refl, sym, ap, ◌∙◌, append_assoc, subst, inl, inr, arith}
+use Rattle.std.proofs.Common.{◌≡◌, ℕ, Bool, true, false, List, [], ◌∷◌, ◌++◌, drop, map, Option, Some, None, refl, sym, ap, ◌∙◌, append_assoc}
 use Rattle.std.specs.List.{All, filter, slice_split, onto_first}
 use Rattle.std.specs.Option.{option_map}
-use Rattle.std.proofs.lemmas.Bool.{eq-eqb}
 use Rattle.std.proofs.lemmas.List.{append-nil, map-append}
 use Rattle.std.proofs.lemmas.List.Elements.{filter-append}
 use Rattle.std.proofs.lemmas.List.Splits.{slice_split-cons_yes, slice_split-cons_no, slice_split_none}
 use Rattle.hdlc_frame.specs.declared.octets.TheConstants.{FLAG}
-use Rattle.hdlc_frame.specs.Found.{Found, found, found_in}
+use Rattle.hdlc_frame.specs.Found.{found, found_in}
+use Rattle.hdlc_frame.specs.Laws.{SegmentsGrow, ended}
 use Rattle.hdlc_frame.specs.Segments.{but_last, has_octets, is_flag, last_of, open_text, segments, texts_behind_flags}
 
 abbrev pub NoFlag : List ℕ → Type 0
@@ -73,12 +73,6 @@ last_of_push : (xs : List (List ℕ)) (x : List ℕ) → last_of (xs ++ x ∷ []
 last_of_push [] x = refl
 last_of_push (y ∷ []) x = refl
 last_of_push (y ∷ z ∷ zs) x = last_of_push (z ∷ zs) x
-
--- the segment that a flag ends, of what stood behind the last flag
-abbrev pub ended : Option (List ℕ) → List (List ℕ)
-ended None = []
-ended (Some []) = []
-ended (Some (octet ∷ text)) = (octet ∷ text) ∷ []
 
 -- what holds of a stream parted so
 abbrev segments_from : List (List ℕ) → List (List ℕ)
@@ -160,3 +154,11 @@ found_flag limit stream = ap (map (found_in limit)) (segments_flag stream) ∙ m
 pub found_none : (limit : ℕ) → found limit [] ≡ []
 unfolding found
 found_none limit = ap (map (found_in limit)) segments_none
+
+pub segments_grow_is : (stream : List ℕ) → SegmentsGrow stream
+segments_grow_is stream = record {
+  text = segments_text stream;
+  open_text_grows = open_text_text stream;
+  flag = segments_flag stream;
+  flag_opens = open_text_flag stream;
+}

@@ -1,11 +1,10 @@
 -- What a table of 256 registers gives, against the definition bit by bit.
-use Rattle.std.proofs.Common.{◌≡◌, ℕ, ◌+◌, ◌-◌, ◌*◌, ◌/◌, ◌%◌, ◌^◌, ◌<◌, ◌≤◌, ◌==◌, ◌&&◌, length, get_or, drop, zero-add, add-one, subst, zero, suc, List, [], ◌∷◌, ◌++◌, Bool, true, false, cond, if◌then◌else◌, refl, sym, ap, ◌∙◌, arith, bit_xor}
+use Rattle.std.proofs.Common.{◌≡◌, ℕ, ◌+◌, ◌*◌, ◌/◌, ◌%◌, ◌^◌, ◌<◌, ◌==◌, length, get_or, drop, add-one, subst, zero, suc, List, [], ◌∷◌, ◌++◌, Bool, true, false, cond, refl, sym, ap, ◌∙◌, arith, bit_xor}
 use Rattle.std.specs.Int.Bits.{xor_assoc, xor_self, xor_zero_r, xor_shifted}
 use Rattle.std.proofs.lemmas.Nat.{xor_comm, xor_mod, xor_shr, shr_below, shr_split}
-use Rattle.std.proofs.Math.Nat.{pow-suc, mul_assoc}
-use Rattle.std.proofs.lemmas.Bool.{eqb-true}
+use Rattle.std.proofs.Math.Nat.{pow-suc}
 use Rattle.std.proofs.lemmas.List.{at_drop_more}
-use Rattle.hdlc_frame.specs.declared.crc.TheConstants.{POLYNOMIAL, TABLE}
+use Rattle.hdlc_frame.specs.declared.crc.TheConstants.{POLYNOMIAL}
 use Rattle.hdlc_frame.specs.CheckSequence.{after_bit, after_bits, after_octet, after_octets}
 
 xor_swap : (a b c : ℕ) → bit_xor (bit_xor a b) c ≡ bit_xor (bit_xor a c) b
@@ -121,26 +120,3 @@ step r found i whole octets h below is so_far =
 pub octets-append : (r : ℕ) (xs ys : List ℕ) → after_octets r (xs ++ ys) ≡ after_octets (after_octets r xs) ys
 octets-append r [] ys = refl
 octets-append r (x ∷ xs) ys = octets-append (after_octet r x) xs ys
-
--- every entry of a table, from the i-th on
-abbrev pub is_table : ℕ → List ℕ → Bool
-is_table i [] = true
-is_table i (entry ∷ entries) = (entry == after_bits 8 i 0) && is_table (i + 1) entries
-
-both : (a b : Bool) → (a && b) ≡ true → (a ≡ true) × (b ≡ true)
-both true b h = (refl, h)
-both false b h = absurd (cc)
-
-table_holds : is_table 0 TABLE ≡ true
-unfolding after_bits
-table_holds = refl
-
-entry_is : (entries : List ℕ) (first i : ℕ) → is_table first entries ≡ true → i < length entries → get_or entries i 0 ≡ after_bits 8 (first + i) 0
-entry_is [] first i holds h = absurd (omega arith)
-entry_is (entry ∷ entries) first zero holds h =
-    eqb-true entry (after_bits 8 first 0) ((both (entry == after_bits 8 first 0) (is_table (first + 1) entries) holds).0) ∙ ap (λ x. after_bits 8 x 0) (omega arith)
-entry_is (entry ∷ entries) first (suc i) holds h =
-    entry_is entries (first + 1) i ((both (entry == after_bits 8 first 0) (is_table (first + 1) entries) holds).1) (omega arith) ∙ ap (λ x. after_bits 8 x 0) (omega arith)
-
-pub table_at : (i : ℕ) → i < 256 → get_or TABLE i 0 ≡ after_bits 8 i 0
-table_at i h = entry_is TABLE 0 i table_holds h ∙ ap (λ x. after_bits 8 x 0) (zero-add i)

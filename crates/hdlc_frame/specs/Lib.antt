@@ -2,6 +2,7 @@ pub mod CheckSequence
 pub mod Content
 pub mod Encoded
 pub mod Found
+pub mod Laws
 pub mod Lent
 pub mod Machine
 pub mod Owned

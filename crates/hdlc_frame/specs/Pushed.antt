@@ -8,10 +8,9 @@ use Rattle.hdlc_frame.specs.declared.phase.Phase.{Phase}
 use Rattle.hdlc_frame.specs.declared.phase.Phase.TheVariants.{Outside, Start, Plain, Escaped, Broken}
 use Rattle.hdlc_frame.specs.declared.decoder.Closed.{Closed}
 use Rattle.hdlc_frame.specs.declared.decoder.Closed.TheVariants.{Faulty, Kept, Open, Whole}
-use Rattle.hdlc_frame.specs.declared.decoder.Decoder.{Decoder}
 use Rattle.hdlc_frame.specs.contracts.decoder.Decoder.{the_row}
 use Rattle.hdlc_frame.specs.Found.{Found, found_in_content}
-use Rattle.hdlc_frame.specs.Found.Found.{fault, frame}
+use Rattle.hdlc_frame.specs.Found.Found.{fault}
 use Rattle.hdlc_frame.specs.Machine.{HasRead, Reading}
 
 abbrev pub closed_found : Reading → List ℕ → Closed → List Found

@@ -8,9 +8,13 @@ mod decoder;
 mod encode;
 mod found;
 mod judge;
+mod lanes;
+pub mod laws;
 mod octets;
 mod phase;
 mod pieces;
+#[cfg(test)]
+mod tests;
 mod text;
 
 pub use crc::crc32;

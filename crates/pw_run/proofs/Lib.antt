@@ -1,4 +1,4 @@
-pub mod FormLemmas
 pub mod OutcomeLemmas
-pub mod ReadingLemmas
+pub mod StreamLemmas
+pub mod TallyLemmas
 pub mod WordLemmas

@@ -1,6 +1,10 @@
-pub mod BuiltForm
+pub mod Heard
+pub mod HeardAs
 pub mod Lines
+pub mod Methods
 pub mod Outcome
 pub mod Recorded
 pub mod Report
+pub mod Serving
+pub mod Tally
 pub mod Words

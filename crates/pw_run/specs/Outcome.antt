@@ -1,7 +1,9 @@
 -- The exit statuses of the program.
-use Rattle.std.specs.Prelude.{ℕ}
+use Rattle.std.specs.Prelude.{◌≡◌, ℕ, ◌⊎◌}
+use Rattle.pw_run.specs.declared.ending.Ending.{Ending}
+use Rattle.pw_run.specs.declared.ending.Ending.TheVariants as ended
 use Rattle.pw_run.specs.declared.outcome.Outcome.{Outcome}
-use Rattle.pw_run.specs.declared.outcome.Outcome.TheVariants.{Done, NoMemory, BadWords, SourceFault, SinkFault, NotBuilt}
+use Rattle.pw_run.specs.declared.outcome.Outcome.TheVariants.{Done, NoMemory, BadWords, SourceFault, SinkFault, InputLimit, NotBuilt}
 
 abbrev pub code_of : Outcome → ℕ
 code_of Done = 0
@@ -9,13 +11,22 @@ code_of NoMemory = 1
 code_of BadWords = 2
 code_of SourceFault = 3
 code_of SinkFault = 4
+code_of InputLimit = 8
 code_of NotBuilt = 10
 
--- an outcome of a run that read its input without a fault
-abbrev pub IsAnswer : Outcome → Type 0
-IsAnswer Done = Unit {0}
-IsAnswer NoMemory = Unit {0}
-IsAnswer BadWords = ⊥
-IsAnswer SourceFault = ⊥
-IsAnswer SinkFault = Unit {0}
-IsAnswer NotBuilt = Unit {0}
+-- the outcome of a run that wrote its report
+abbrev pub outcome_of : Ending → Outcome
+outcome_of ended.AtEnd = Done
+outcome_of ended.SourceFault = SourceFault
+outcome_of ended.InputLimit = InputLimit
+
+-- with these outcomes nothing was written
+abbrev pub IsSilent : Outcome → Type 0
+IsSilent NoMemory = Unit {0}
+IsSilent BadWords = Unit {0}
+IsSilent NotBuilt = Unit {0}
+IsSilent _ = ⊥
+
+-- a run that read a stream to this ending had its outcome, or found a fault or no memory at the output
+abbrev pub IsOutcomeOf : Ending → Outcome → Type 0
+IsOutcomeOf ending outcome = (outcome ≡ outcome_of ending) ⊎ ((outcome ≡ NoMemory) ⊎ (outcome ≡ SinkFault))

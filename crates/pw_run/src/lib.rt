@@ -3,19 +3,24 @@
 //! each exit status what was read and written. Enter there.
 #![tactic(auto)]
 
-mod built_form;
 mod counts;
-mod demo;
+mod ending;
+mod heard;
 mod limits;
 mod lines;
+mod methods;
 mod outcome;
 mod recorded;
-mod report;
+mod serving;
+mod stream;
+mod tally;
 #[cfg(test)]
 mod tests;
 mod words;
 mod writing;
 
 pub use counts::Counts;
+pub use ending::Ending;
 pub use outcome::Outcome;
 pub use recorded::run_recorded;
+pub use serving::Served;

@@ -12,5 +12,5 @@ pub const LARGEST_CONTENT: usize = 8_192;
 /// The most bytes of a packet's payload that can be sent.
 pub const LARGEST_PAYLOAD: usize = 8_000;
 
-/// So many bytes are read at most: one more than the longest text of a content between two flags has.
-pub const INPUT_LIMIT: usize = 2 * LARGEST_CONTENT + 3;
+/// So many bytes of a stream are read at most.
+pub const INPUT_LIMIT: usize = 67_108_864;

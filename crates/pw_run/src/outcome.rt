@@ -9,11 +9,13 @@ pub enum Outcome {
     NoMemory,
     /// The words are no command. Nothing was read or written.
     BadWords,
-    /// A read of the input failed.
+    /// A read of the input failed, and the report of what came before it was written.
     SourceFault,
     /// A write of the output failed.
     SinkFault,
-    /// The input is of a form that isn't served yet. Nothing was written.
+    /// So many bytes were read as an input may have, and the report of them was written.
+    InputLimit,
+    /// The input calls a method that isn't served yet. Nothing was written.
     NotBuilt,
 }
 
@@ -30,6 +32,7 @@ impl Outcome {
             Outcome::BadWords => 2,
             Outcome::SourceFault => 3,
             Outcome::SinkFault => 4,
+            Outcome::InputLimit => 8,
             Outcome::NotBuilt => 10,
         }
     }

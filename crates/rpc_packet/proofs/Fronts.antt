@@ -1,13 +1,12 @@
 -- A field that is read in its shortest spelling is spelled there, and what is spelled so is read again.
-use Rattle.std.proofs.Common.{◌≡◌, ℕ, zero, suc, ◌+◌, ◌-◌, ◌*◌, ◌/◌, ◌%◌, ◌^◌, ◌<◌, ◌≤◌, Bool, true, false, cond, eqb, ltb, leb, List, [], ◌∷◌, ◌++◌, length, get_or, take, drop, Option, Some, None, refl, sym, ap, subst, ◌∙◌, append_assoc, arith, inl, inr}
+use Rattle.std.proofs.Common.{◌≡◌, ℕ, zero, suc, ◌+◌, ◌-◌, ◌*◌, ◌/◌, ◌%◌, ◌^◌, ◌<◌, ◌≤◌, Bool, true, false, cond, eqb, ltb, leb, List, [], ◌∷◌, ◌++◌, length, get_or, take, drop, Option, Some, None, refl, sym, ap, ◌∙◌, append_assoc, arith, inl, inr}
 use Rattle.std.specs.Int.{w32, from_le_bytes, to_le_bytes}
 use Rattle.std.proofs.Math.Nat.{pow-suc}
-use Rattle.std.proofs.lemmas.Bool.{cases_lt, cases_eq, lt-ltb, le-ltb, ltb-true, ltb-false, eqb-true, eqb-false, eq-eqb, ne_eqb, leb-false, lt-leb}
+use Rattle.std.proofs.lemmas.Bool.{cases_lt, cases_eq, lt-ltb, le-ltb, ltb-true, ltb-false, eqb-false, eq-eqb, ne_eqb, leb-false, lt-leb}
 use Rattle.std.proofs.lemmas.Option.{some_pair_parts}
 use Rattle.std.proofs.lemmas.List.{take_at, drop_at, take-append-drop, length-append, length-take, get_or-drop, get_or-take, get_or_past, nil_from_length}
 use Rattle.std.proofs.lemmas.Nat.{le_bytes_4, from_le_bytes-to_le_bytes_4}
-use Rattle.rpc_packet.specs.Wire.{varint, varint_within}
-use Rattle.rpc_packet.specs.Spelling.{number_unless_zero, word_unless_zero, bytes_unless_empty}
+use Rattle.proto_wire.specs.Varint.{groups_of, varint_text}
 use Rattle.rpc_packet.specs.Canonical.{◌>>=◌, longer_varint, varint_at, number_at, uint32_at, word_at, bytes_at}
 
 abbrev pub IsBytes : List ℕ → Type 0
@@ -50,9 +49,9 @@ Takes-then a x b y c p q = record { parts = p.parts ∙ ap (λ (t : List ℕ). x
 
 -- ---- varints
 
-longer_takes : (most low n : ℕ) (bytes rest : List ℕ) (high : ℕ × List ℕ) → low < 128 → Takes bytes (varint_within most high.0) high.1 → longer_varint low high ≡ Some (n, rest)
-    → Takes ((128 + low) ∷ bytes) (varint_within (suc most) n) rest × (n < 2 ^ 64)
-unfolding varint_within
+longer_takes : (most low n : ℕ) (bytes rest : List ℕ) (high : ℕ × List ℕ) → low < 128 → Takes bytes (groups_of most high.0) high.1 → longer_varint low high ≡ Some (n, rest)
+    → Takes ((128 + low) ∷ bytes) (groups_of (suc most) n) rest × (n < 2 ^ 64)
+unfolding groups_of
 longer_takes most low n bytes rest high lt behind e =
     let g = unless_some (eqb high.0 0) _ (n, rest) e in
     let h = unless_some (leb (2 ^ 57) high.0) _ (n, rest) g.1 in
@@ -70,8 +69,8 @@ longer_takes most low n bytes rest high lt behind e =
       omega arith,
     )
 
-pub varint_takes : (most n : ℕ) (bytes rest : List ℕ) → IsBytes bytes → varint_at most bytes ≡ Some (n, rest) → Takes bytes (varint_within most n) rest × (n < 2 ^ 64)
-unfolding varint_at varint_within
+pub varint_takes : (most n : ℕ) (bytes rest : List ℕ) → IsBytes bytes → varint_at most bytes ≡ Some (n, rest) → Takes bytes (groups_of most n) rest × (n < 2 ^ 64)
+unfolding varint_at groups_of
 varint_takes zero n bytes rest fits e = absurd cc
 varint_takes (suc most) n [] rest fits e = absurd cc
 varint_takes (suc most) n (b ∷ bytes) rest fits e =
@@ -88,8 +87,8 @@ varint_takes (suc most) n (b ∷ bytes) rest fits e =
           rw byte at (longer_takes most (b - 128) n bytes rest high below behind.0 longer))
     ]
 
-pub varint_again : (most n : ℕ) (rest : List ℕ) → n < 128 ^ suc most → n < 2 ^ 64 → varint_at (suc most) (varint_within (suc most) n ++ rest) ≡ Some (n, rest)
-unfolding varint_at varint_within
+pub varint_again : (most n : ℕ) (rest : List ℕ) → n < 128 ^ suc most → n < 2 ^ 64 → varint_at (suc most) (groups_of (suc most) n ++ rest) ≡ Some (n, rest)
+unfolding varint_at groups_of
 varint_again zero n rest short fits =
     let small : n < 128 = omega (arith, short) in
     rw (lt-ltb n 128 small, lt-ltb n 128 small) refl
@@ -106,15 +105,24 @@ varint_again (suc most) n rest short fits =
           rw (le-ltb n 128 le, set, again, some, below, value) refl
     ]
 
-pub varint_reads : (n : ℕ) (rest : List ℕ) → n < 2 ^ 64 → varint_at 10 (varint n ++ rest) ≡ Some (n, rest)
-unfolding varint
+pub varint_reads : (n : ℕ) (rest : List ℕ) → n < 2 ^ 64 → varint_at 10 (varint_text n ++ rest) ≡ Some (n, rest)
+unfolding varint_text
 varint_reads n rest fits = varint_again 9 n rest (omega arith) fits
 
 -- ---- fields
 
+abbrev pub number_unless_zero : ℕ → ℕ → List ℕ
+number_unless_zero number n = cond (eqb n 0) [] (varint_text (number * 8 + 0) ++ varint_text n)
+
+abbrev pub word_unless_zero : ℕ → ℕ → List ℕ
+word_unless_zero number n = cond (eqb n 0) [] (varint_text (number * 8 + 5) ++ to_le_bytes w32 n)
+
+abbrev pub bytes_unless_empty : ℕ → List ℕ → List ℕ
+bytes_unless_empty number text = cond (eqb (length text) 0) [] (varint_text (number * 8 + 2) ++ (varint_text (length text) ++ text))
+
 -- the field's tag is this one byte
 pub record IsTag (value tag : ℕ) : Type 0 where
-  pub spelled : varint value ≡ tag ∷ []
+  pub spelled : varint_text value ≡ tag ∷ []
   pub some : tag ≡ 0 → ⊥
 
 -- another field follows, or none
@@ -129,8 +137,8 @@ absent text none x bytes rest fits empty e =
     let parts = some_pair_parts none x bytes rest e in
     record { parts = rw (← parts.0, empty, parts.1) refl; rest_fits = rw (← parts.1) fits }
 
-pub number_takes : (number tag : ℕ) → IsTag (number * 8) tag → (bytes : List ℕ) (n : ℕ) (rest : List ℕ) → IsBytes bytes → number_at tag bytes ≡ Some (n, rest) → Takes bytes (number_unless_zero number n) rest
-unfolding number_at varint
+pub number_takes : (number tag : ℕ) → IsTag (number * 8 + 0) tag → (bytes : List ℕ) (n : ℕ) (rest : List ℕ) → IsBytes bytes → number_at tag bytes ≡ Some (n, rest) → Takes bytes (number_unless_zero number n) rest
+unfolding number_at varint_text
 number_takes number tag is [] n rest fits e = absent (number_unless_zero number) 0 n [] rest fits refl e
 number_takes number tag is (b ∷ bytes) n rest fits e =
     elim (cases_eq b tag) [
@@ -139,7 +147,7 @@ number_takes number tag is (b ∷ bytes) n rest fits e =
           let g = unless_some (eqb x.0 0) (Some x) (n, rest) tested in
           let parts = some_pair_parts x.0 n x.1 rest g.1 in
           let text = varint_takes 10 x.0 bytes x.1 (IsBytes-rest b bytes fits) read in
-          let whole = tagged b tag (varint_within 10 x.0) bytes x.1 same text.0 in
+          let whole = tagged b tag (groups_of 10 x.0) bytes x.1 same text.0 in
           rw (← parts.0, ← parts.1, g.0, is.spelled) whole)
       | inr other ↦ absent (number_unless_zero number) 0 n (b ∷ bytes) rest fits refl (rw (ne_eqb b tag other) at e)
     ]
@@ -149,7 +157,7 @@ unfolding number_at
 number_absent tag [] other = refl
 number_absent tag (b ∷ rest) other = rw (ne_eqb b tag other) refl
 
-pub number_again : (number tag : ℕ) → IsTag (number * 8) tag → (n : ℕ) (rest : List ℕ) → n < 2 ^ 64 → (n ≡ 0 → NotAt tag rest) → number_at tag (number_unless_zero number n ++ rest) ≡ Some (n, rest)
+pub number_again : (number tag : ℕ) → IsTag (number * 8 + 0) tag → (n : ℕ) (rest : List ℕ) → n < 2 ^ 64 → (n ≡ 0 → NotAt tag rest) → number_at tag (number_unless_zero number n ++ rest) ≡ Some (n, rest)
 unfolding number_at
 number_again number tag is n rest fits other =
     elim (cases_eq n 0) [
@@ -157,7 +165,7 @@ number_again number tag is n rest fits other =
       | inr some ↦ rw (ne_eqb n 0 some, is.spelled, eq-eqb tag tag refl, varint_reads n rest fits, ne_eqb n 0 some) refl
     ]
 
-pub uint32_takes : (number tag : ℕ) → IsTag (number * 8) tag → (bytes : List ℕ) (n : ℕ) (rest : List ℕ) → IsBytes bytes → uint32_at tag bytes ≡ Some (n, rest) → Takes bytes (number_unless_zero number n) rest × (n < 2 ^ 32)
+pub uint32_takes : (number tag : ℕ) → IsTag (number * 8 + 0) tag → (bytes : List ℕ) (n : ℕ) (rest : List ℕ) → IsBytes bytes → uint32_at tag bytes ≡ Some (n, rest) → Takes bytes (number_unless_zero number n) rest × (n < 2 ^ 32)
 unfolding uint32_at
 uint32_takes number tag is bytes n rest fits e =
     then_some (number_at tag bytes) _ (n, rest) e (λ x read tested.
@@ -166,7 +174,7 @@ uint32_takes number tag is bytes n rest fits e =
     let below : x.0 < 2 ^ 32 = ltb-true _ _ g.0 in
     rw (← parts.0, ← parts.1) (number_takes number tag is bytes x.0 x.1 fits read, below))
 
-pub uint32_again : (number tag : ℕ) → IsTag (number * 8) tag → (n : ℕ) (rest : List ℕ) → n < 2 ^ 32 → (n ≡ 0 → NotAt tag rest) → uint32_at tag (number_unless_zero number n ++ rest) ≡ Some (n, rest)
+pub uint32_again : (number tag : ℕ) → IsTag (number * 8 + 0) tag → (n : ℕ) (rest : List ℕ) → n < 2 ^ 32 → (n ≡ 0 → NotAt tag rest) → uint32_at tag (number_unless_zero number n ++ rest) ≡ Some (n, rest)
 unfolding uint32_at
 uint32_again number tag is n rest fits other = rw (number_again number tag is n rest (omega arith) other, lt-ltb n (2 ^ 32) fits) refl
 
@@ -215,7 +223,7 @@ word_again number tag is n rest fits some =
     rw (word_spelled number tag n (to_le_bytes w32 n) is (ne_eqb n 0 some) refl) (word_read tag n (to_le_bytes w32 n) rest refl (from_le_bytes-to_le_bytes_4 n fits) (ne_eqb n 0 some))
 
 pub bytes_takes : (number tag : ℕ) → IsTag (number * 8 + 2) tag → (bytes : List ℕ) (text rest : List ℕ) → IsBytes bytes → bytes_at tag bytes ≡ Some (text, rest) → Takes bytes (bytes_unless_empty number text) rest
-unfolding bytes_at varint
+unfolding bytes_at varint_text
 bytes_takes number tag is [] text rest fits e = absent (bytes_unless_empty number) [] text [] rest fits refl e
 bytes_takes number tag is (b ∷ bytes) text rest fits e =
     elim (cases_eq b tag) [
@@ -228,8 +236,8 @@ bytes_takes number tag is (b ∷ bytes) text rest fits e =
           let len : length (take x.0 x.1) ≡ x.0 = omega (arith, length-take x.0 x.1) in
           let size = varint_takes 10 x.0 bytes x.1 (IsBytes-rest b bytes fits) read in
           let second : Takes x.1 (take x.0 x.1) (drop x.0 x.1) = record { parts = sym (take-append-drop x.0 x.1); rest_fits = IsBytes-drop x.0 x.1 size.0.rest_fits } in
-          let both = Takes-then bytes (varint_within 10 x.0) x.1 (take x.0 x.1) (drop x.0 x.1) size.0 second in
-          let whole = tagged b tag (varint_within 10 x.0 ++ take x.0 x.1) bytes (drop x.0 x.1) same both in
+          let both = Takes-then bytes (groups_of 10 x.0) x.1 (take x.0 x.1) (drop x.0 x.1) size.0 second in
+          let whole = tagged b tag (groups_of 10 x.0 ++ take x.0 x.1) bytes (drop x.0 x.1) same both in
           let spelled : Takes (b ∷ bytes) (bytes_unless_empty number (take x.0 x.1)) (drop x.0 x.1) = rw (len, g.0, is.spelled) whole in
           rw (← parts.0, ← parts.1) spelled)
       | inr other ↦ absent (bytes_unless_empty number) [] text (b ∷ bytes) rest fits refl (rw (ne_eqb b tag other) at e)
@@ -247,10 +255,10 @@ bytes_again number tag is text rest fits other =
       | inl none ↦ rw (nil_from_length text none) (bytes_absent tag rest other)
       | inr some ↦
           let long : ltb (length (text ++ rest)) (length text) ≡ false = le-ltb _ _ (omega (arith, length-append text rest)) in
-          rw (ne_eqb (length text) 0 some, is.spelled, eq-eqb tag tag refl, append_assoc (varint (length text)) text rest, varint_reads (length text) (text ++ rest) fits, ne_eqb (length text) 0 some, long, take_at text rest (length text) refl, drop_at text rest (length text) refl) refl
+          rw (ne_eqb (length text) 0 some, is.spelled, eq-eqb tag tag refl, append_assoc (varint_text (length text)) text rest, varint_reads (length text) (text ++ rest) fits, ne_eqb (length text) 0 some, long, take_at text rest (length text) refl, drop_at text rest (length text) refl) refl
     ]
 
-pub number_other : (tag number t : ℕ) → IsTag (number * 8) t → (t ≡ tag → ⊥) → (n : ℕ) (rest : List ℕ) → NotAt tag rest → NotAt tag (number_unless_zero number n ++ rest)
+pub number_other : (tag number t : ℕ) → IsTag (number * 8 + 0) t → (t ≡ tag → ⊥) → (n : ℕ) (rest : List ℕ) → NotAt tag rest → NotAt tag (number_unless_zero number n ++ rest)
 number_other tag number t is differs n rest other =
     elim (cases_eq n 0) [
       | inl none ↦ rw none other

@@ -1,4 +1,7 @@
 pub mod Fronts
 pub mod Groups
+pub mod ReadingLaws
 pub mod Requests
-pub mod Varints
+pub mod SpellingLaws
+pub mod Steps
+pub mod Tables

@@ -1,39 +1,42 @@
 -- A REQUEST that is read is spelled so, and what is spelled so is read.
-use Rattle.std.proofs.Common.{◌≡◌, ℕ, ◌+◌, ◌*◌, ◌^◌, ◌<◌, ◌≤◌, Bool, true, false, cond, eqb, List, [], ◌∷◌, ◌++◌, length, get_or, Option, Some, None, refl, sym, ap, subst, ◌∙◌, append_assoc, arith, inl, inr}
+use Rattle.std.proofs.Common.{◌≡◌, ℕ, ◌^◌, ◌<◌, ◌≤◌, eqb, List, [], ◌++◌, length, Option, Some, None, refl, sym, ap, subst, ◌∙◌, arith, inl, inr}
 use Rattle.std.specs.Prelude.{IfSome, option_map}
-use Rattle.std.proofs.lemmas.Bool.{cases_eq, eqb-true, eqb-false, ne_eqb, eq-eqb}
+use Rattle.std.proofs.lemmas.Bool.{cases_eq, eqb-true, eqb-false, ne_eqb}
 use Rattle.std.proofs.lemmas.List.{append-nil, nil_from_length, length-append}
 use Rattle.std.proofs.lemmas.Option.{same_Some}
-use Rattle.rpc_packet.specs.declared.call_name.CallName.{CallName}
 use Rattle.rpc_packet.specs.declared.packet_ref.PacketRef.{PacketRef}
-use Rattle.rpc_packet.specs.Wire.{varint, varint_within}
-use Rattle.rpc_packet.specs.Spelling.{number_unless_zero, word_unless_zero, bytes_unless_empty, name_fields, content_fields, spelling_of}
+use Rattle.proto_wire.specs.Absent.{nonzero_varint, nonzero_fixed32, nonempty_bytes}
+use Rattle.proto_wire.specs.Entries.{with_entry, fields_text}
+use Rattle.proto_wire.specs.Field.{WireField}
+use Rattle.proto_wire.specs.Spelling.{field_text}
+use Rattle.proto_wire.specs.Varint.{groups_of, varint_text}
+use Rattle.rpc_packet.specs.Spelling.{packet_entries, spelling_of}
 use Rattle.rpc_packet.specs.Message.{Message, lent_message}
-use Rattle.rpc_packet.specs.Canonical.{◌>>=◌, IsRequest, uint32_at, word_at, bytes_at, request_at}
-use Rattle.rpc_packet.proofs.Fronts.{IsBytes, then_some, unless_some, when_some, Takes, Takes-then, IsTag, NotAt, uint32_takes, uint32_again, word_takes, word_again, bytes_takes, bytes_again, number_other}
+use Rattle.rpc_packet.specs.Canonical.{IsRequest, uint32_at, word_at, bytes_at, request_at}
+use Rattle.rpc_packet.proofs.Fronts.{IsBytes, number_unless_zero, word_unless_zero, bytes_unless_empty, then_some, unless_some, when_some, Takes-then, IsTag, NotAt, uint32_takes, uint32_again, word_takes, word_again, bytes_takes, bytes_again, number_other}
 
 channel_tag : IsTag 16 0x10
-unfolding varint varint_within
+unfolding varint_text groups_of
 channel_tag = record { spelled = refl; some = λ z. omega (arith, z) }
 
 service_tag : IsTag 29 0x1D
-unfolding varint varint_within
+unfolding varint_text groups_of
 service_tag = record { spelled = refl; some = λ z. omega (arith, z) }
 
 method_tag : IsTag 37 0x25
-unfolding varint varint_within
+unfolding varint_text groups_of
 method_tag = record { spelled = refl; some = λ z. omega (arith, z) }
 
 payload_tag : IsTag 42 0x2A
-unfolding varint varint_within
+unfolding varint_text groups_of
 payload_tag = record { spelled = refl; some = λ z. omega (arith, z) }
 
 status_tag : IsTag 48 0x30
-unfolding varint varint_within
+unfolding varint_text groups_of
 status_tag = record { spelled = refl; some = λ z. omega (arith, z) }
 
 call_tag : IsTag 56 0x38
-unfolding varint varint_within
+unfolding varint_text groups_of
 call_tag = record { spelled = refl; some = λ z. omega (arith, z) }
 
 -- the six fields behind the type, in a row
@@ -41,9 +44,21 @@ abbrev read_fields : ℕ → ℕ → ℕ → List ℕ → ℕ → ℕ → List �
 read_fields channel service method payload status call =
     number_unless_zero 2 channel ++ (word_unless_zero 3 service ++ (word_unless_zero 4 method ++ (bytes_unless_empty 5 payload ++ (number_unless_zero 6 status ++ number_unless_zero 7 call))))
 
+varint_written : (number n : ℕ) (rest : List WireField) → fields_text (with_entry number (nonzero_varint n) rest) ≡ number_unless_zero number n ++ fields_text rest
+unfolding field_text
+varint_written number n rest = elim (cases_eq n 0) [ inl none ↦ rw none refl | inr some ↦ rw (ne_eqb n 0 some) refl ]
+
+fixed32_written : (number n : ℕ) (rest : List WireField) → fields_text (with_entry number (nonzero_fixed32 n) rest) ≡ word_unless_zero number n ++ fields_text rest
+unfolding field_text
+fixed32_written number n rest = elim (cases_eq n 0) [ inl none ↦ rw none refl | inr some ↦ rw (ne_eqb n 0 some) refl ]
+
+bytes_written : (number : ℕ) (text : List ℕ) (rest : List WireField) → fields_text (with_entry number (nonempty_bytes text) rest) ≡ bytes_unless_empty number text ++ fields_text rest
+unfolding field_text
+bytes_written number text rest = elim (cases_eq (length text) 0) [ inl none ↦ rw none refl | inr some ↦ rw (ne_eqb (length text) 0 some) refl ]
+
 spelling_is : (m : Message) → m.ptype ≡ 0 → spelling_of m ≡ read_fields m.name.channel m.name.service m.name.method m.payload m.status m.name.call
-unfolding spelling_of name_fields content_fields
-spelling_is m request = rw request (simp append_assoc)
+unfolding spelling_of packet_entries
+spelling_is m request = rw (request, varint_written 2, fixed32_written 3, fixed32_written 4, bytes_written 5, varint_written 6, varint_written 7, append-nil (number_unless_zero 7 m.name.call)) refl
 
 pub request_takes : (bytes : List ℕ) (m : Message) → IsBytes bytes → request_at bytes ≡ Some m → IsRequest m × (bytes ≡ spelling_of m)
 unfolding request_at

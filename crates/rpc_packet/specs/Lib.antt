@@ -1,5 +1,7 @@
 pub mod Canonical
+pub mod Hearing
 pub mod Message
 pub mod PacketType
+pub mod Reading
 pub mod Spelling
-pub mod Wire
+pub mod Table

@@ -1,25 +1,30 @@
 -- The one spelling that is written: fields by rising number, those that are 0 or empty left out.
-use Rattle.std.specs.Prelude.{ℕ, List, [], ◌++◌, length, ◌==◌, if◌then◌else◌}
+use Rattle.std.specs.Prelude.{ℕ, ◌^◌, ◌<◌, List, [], ◌∷◌, length}
+use Rattle.proto_wire.specs.Absent.{nonzero_varint, nonzero_fixed32, nonempty_bytes}
+use Rattle.proto_wire.specs.Entries.{Entry, present, fields_text}
 use Rattle.rpc_packet.specs.Message.{Message}
-use Rattle.rpc_packet.specs.Wire.{varint_field, bytes_field, fixed32_field}
 
-abbrev pub number_unless_zero : ℕ → ℕ → List ℕ
-number_unless_zero number value = if value == 0 then [] else varint_field number value
+-- type, channel_id, service_id, method_id, payload, status, call_id
+unfoldable pub packet_entries : Message → List Entry
+packet_entries m =
+    record { number = 1; value = nonzero_varint m.ptype } ∷
+    record { number = 2; value = nonzero_varint m.name.channel } ∷
+    record { number = 3; value = nonzero_fixed32 m.name.service } ∷
+    record { number = 4; value = nonzero_fixed32 m.name.method } ∷
+    record { number = 5; value = nonempty_bytes m.payload } ∷
+    record { number = 6; value = nonzero_varint m.status } ∷
+    record { number = 7; value = nonzero_varint m.name.call } ∷ []
 
-abbrev pub word_unless_zero : ℕ → ℕ → List ℕ
-word_unless_zero number value = if value == 0 then [] else fixed32_field number value
-
-abbrev pub bytes_unless_empty : ℕ → List ℕ → List ℕ
-bytes_unless_empty number value = if length value == 0 then [] else bytes_field number value
-
--- type, channel_id, service_id, method_id
-unfoldable pub name_fields : Message → List ℕ
-name_fields m = number_unless_zero 1 m.ptype ++ number_unless_zero 2 m.name.channel
-    ++ word_unless_zero 3 m.name.service ++ word_unless_zero 4 m.name.method
-
--- payload, status, call_id
-unfoldable pub content_fields : Message → List ℕ
-content_fields m = bytes_unless_empty 5 m.payload ++ number_unless_zero 6 m.status ++ number_unless_zero 7 m.name.call
-
+-- the fields that are present, each in its shortest spelling
 unfoldable pub spelling_of : Message → List ℕ
-spelling_of m = name_fields m ++ content_fields m
+spelling_of m = fields_text (present (packet_entries m))
+
+-- what a packet can say
+pub record IsWithinLimits (m : Message) : Type 0 where
+  pub ptype : m.ptype < 2 ^ 64
+  pub channel : m.name.channel < 2 ^ 32
+  pub service : m.name.service < 2 ^ 32
+  pub method : m.name.method < 2 ^ 32
+  pub call : m.name.call < 2 ^ 32
+  pub payload : length m.payload < 2 ^ 64
+  pub status : m.status < 2 ^ 32

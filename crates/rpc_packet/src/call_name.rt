@@ -1,5 +1,5 @@
 /// What names a call: the packets with one `CallName` belong to one call at a time.
-#[derive(Clone, Copy, Debug, PartialEq, Eq)]
+#[derive(Clone, Copy, Debug, PartialEq, Eq, PartialOrd, Ord, Hash)]
 pub struct CallName {
     pub channel: u32,
     /// The hash of the service's full name.

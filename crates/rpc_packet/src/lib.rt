@@ -5,10 +5,12 @@
 
 mod call_name;
 mod canonical;
-mod field;
+mod field_number;
 mod owned;
 mod packet_ref;
 mod packet_type;
+#[cfg(test)]
+mod tests;
 
 pub use call_name::CallName;
 pub use canonical::of_spelling;

@@ -1,14 +1,16 @@
-ghost use Rattle.std.specs.Prelude.{◌≡◌, ◌++◌, ℕ, List, OnOk, OnErr};
+ghost use Rattle.std.specs.Prelude.{◌≡◌, ◌++◌, Ok, OnOk, OnErr};
 ghost use Rattle.rpc_packet.specs.Message.{message_of};
-ghost use Rattle.rpc_packet.specs.Spelling.{spelling_of, name_fields, content_fields};
+ghost use Rattle.rpc_packet.specs.Reading.{packet_of};
+ghost use Rattle.rpc_packet.specs.Spelling.{packet_entries, spelling_of};
 
-use crate::field::{append_bytes, append_number, append_word};
+use crate::field_number::{CALL_ID, CHANNEL_ID, METHOD_ID, PAYLOAD, SERVICE_ID, STATUS, TYPE};
 use crate::{CallName, PacketType};
 use bytes::Bytes;
+use proto_wire::{OptionalField, Value, write_fields};
 use std::alloc::AllocError;
 
 /// A packet that owns its payload, to be kept or sent.
-#[derive(Debug, PartialEq, Eq, Drop)]
+#[derive(Clone, Debug, PartialEq, Eq, Drop)]
 pub struct Packet {
     pub ptype: PacketType,
     pub name: CallName,
@@ -18,50 +20,53 @@ pub struct Packet {
 }
 
 impl Packet {
-    /// Appends the packet's one spelling: its fields by rising number, those that are 0 or empty left out,
-    /// each varint as short as it can be. Where memory runs out, `out` is as it was.
+    /// Appends the packet's one spelling: its fields by rising number, those that are 0 or empty left out, each
+    /// varint as short as it can be. `PacketRef::read` reads it as this packet. Where memory runs out, `out` is as it
+    /// was.
+    #[tactic(auto, unfolding(crate::specs::Spelling::packet_entries, crate::specs::Spelling::spelling_of))]
     pub fn write(&self, out: &mut Vec<u8>) -> Result<(), AllocError>
         ensures ok { OnOk result (out.new.items ≡ out.old.items ++ spelling_of (message_of self.now)) }
         ensures err { OnErr result (out.new.items ≡ out.old.items) }
+        ensures again { packet_of (spelling_of (message_of self.now)) ≡ Ok (message_of self.now) }
     {
-        let start = out.len();
-        match self.append(out) {
-            Ok(()) => Ok(()),
-            Err(error) => {
-                out.truncate(start);
-                Err(error)
-            }
-        }
-    }
-
-    #[tactic(auto, unfolding(crate::specs::Spelling::spelling_of))]
-    fn append(&self, out: &mut Vec<u8>) -> Result<(), AllocError>
-        ensures ok { OnOk result (out.new.items ≡ out.old.items ++ spelling_of (message_of self.now)) }
-        ensures grown { (more : List ℕ) × (out.new.items ≡ out.old.items ++ more) }
-    {
-        self.append_name(out)?;
-        self.append_content(out)
-    }
-
-    #[tactic(auto, unfolding(crate::specs::Spelling::name_fields))]
-    fn append_name(&self, out: &mut Vec<u8>) -> Result<(), AllocError>
-        ensures ok { OnOk result (out.new.items ≡ out.old.items ++ name_fields (message_of self.now)) }
-        ensures grown { (more : List ℕ) × (out.new.items ≡ out.old.items ++ more) }
-    {
-        append_number(out, 1, self.ptype.number())?;
-        append_number(out, 2, u64::from(self.name.channel))?;
-        append_word(out, 3, self.name.service)?;
-        append_word(out, 4, self.name.method)?;
-        Ok(())
-    }
-
-    #[tactic(auto, unfolding(crate::specs::Spelling::content_fields))]
-    fn append_content(&self, out: &mut Vec<u8>) -> Result<(), AllocError>
-        ensures ok { OnOk result (out.new.items ≡ out.old.items ++ content_fields (message_of self.now)) }
-        ensures grown { (more : List ℕ) × (out.new.items ≡ out.old.items ++ more) }
-    {
-        append_bytes(out, 5, &self.payload)?;
-        append_number(out, 6, u64::from(self.status))?;
-        append_number(out, 7, u64::from(self.name.call))
+        let CallName {
+            channel,
+            service,
+            method,
+            call,
+        } = self.name;
+        write_fields(
+            out,
+            &[
+                OptionalField {
+                    number: TYPE,
+                    value: Value::nonzero_varint(self.ptype.number()),
+                },
+                OptionalField {
+                    number: CHANNEL_ID,
+                    value: Value::nonzero_varint(u64::from(channel)),
+                },
+                OptionalField {
+                    number: SERVICE_ID,
+                    value: Value::nonzero_fixed32(service),
+                },
+                OptionalField {
+                    number: METHOD_ID,
+                    value: Value::nonzero_fixed32(method),
+                },
+                OptionalField {
+                    number: PAYLOAD,
+                    value: Value::nonempty_bytes(&self.payload),
+                },
+                OptionalField {
+                    number: STATUS,
+                    value: Value::nonzero_varint(u64::from(self.status)),
+                },
+                OptionalField {
+                    number: CALL_ID,
+                    value: Value::nonzero_varint(u64::from(call)),
+                },
+            ],
+        )
     }
 }

@@ -1,7 +1,10 @@
-use Rattle.std.proofs.Common.{◌≡◌, drop}
+use Rattle.std.proofs.Common.{◌≡◌, length}
 use Rattle.hdlc_frame.specs.CheckSequence.{after_octets}
 use Rattle.hdlc_frame.proofs.crc.register_after.Given as goal
 
 -- the rest leads on to the same
-abbrev pub invariant-loop-octet : goal.invariant-loop-octet
-invariant-loop-octet l = after_octets l.after (drop l.octet-index l.octets) ≡ after_octets l.register l.octets
+abbrev pub invariant-eights : goal.invariant-eights
+invariant-eights l = after_octets l.after l.rest ≡ after_octets l.register l.octets
+
+abbrev pub decreases-eights : goal.decreases-eights
+decreases-eights l = length l.rest

@@ -1,8 +1,8 @@
-use Rattle.std.proofs.Common.{◌≡◌, ap, sym, ◌∙◌, ◌++◌, arith}
+use Rattle.std.proofs.Common.{ap, ◌∙◌, ◌++◌, arith}
 use Rattle.hdlc_frame.specs.declared.octets.TheConstants.{UI_CONTROL}
 use Rattle.hdlc_frame.specs.Encoded.{text_of_octet}
 use Rattle.hdlc_frame.proofs.encode.push_header.Goals as goal
-use Rattle.hdlc_frame.proofs.Headers.{Begun, begun_more, begun_none, header_register, header_written}
+use Rattle.hdlc_frame.proofs.Headers.{begun_more, begun_none, header_register, header_written}
 
 pub loop-rest-init : goal.loop-rest-init
 loop-rest-init c = begun_none c.args.address c.args.out.now.items (omega arith)

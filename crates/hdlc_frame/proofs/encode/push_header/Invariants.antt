@@ -1,4 +1,3 @@
-use Rattle.std.proofs.Common.{◌≡◌, ℕ}
 use Rattle.hdlc_frame.proofs.Headers.{Begun}
 use Rattle.hdlc_frame.proofs.encode.push_header.Given as goal
 

@@ -1,8 +1,6 @@
-use Rattle.std.proofs.Common.{◌≡◌, ◌≢◌, ℕ, ◌/◌, ◌%◌, get_or, arith, ap, sym, ◌∙◌}
+use Rattle.std.proofs.Common.{◌≡◌, ◌≢◌, ◌/◌, ◌%◌, get_or, arith, ap, sym, ◌∙◌}
 use Rattle.std.proofs.lemmas.List.{take_rest}
 use Rattle.hdlc_frame.proofs.judge.read_number.Goals as goal
-use Rattle.hdlc_frame.specs.Found.{number_at}
-use Rattle.std.specs.Option.{option_map}
 use Rattle.hdlc_frame.proofs.Numbers.{read_end, read_five, read_last, read_more}
 
 pub returns-in_err-octet : goal.returns-in_err-octet

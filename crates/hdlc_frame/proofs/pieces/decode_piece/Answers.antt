@@ -1,9 +1,8 @@
-use Rattle.std.proofs.Common.{◌≡◌, ◌∙◌, ℕ, List, ◌++◌, ◌+◌, ◌-◌, ◌≤◌, length, map, take, drop, ap, sym, subst, arith}
-use Rattle.std.proofs.lemmas.List.{length-drop, length-take, take_rest}
+use Rattle.std.proofs.Common.{◌∙◌, ℕ, List, ◌++◌, ◌+◌, ◌-◌, ◌≤◌, length, take, drop, ap, sym, subst, arith}
+use Rattle.std.proofs.lemmas.List.{length-drop, take_rest}
 use Rattle.hdlc_frame.specs.Found.{found}
 use Rattle.hdlc_frame.specs.Lent.{found_in_got}
 use Rattle.hdlc_frame.specs.Machine.{HasRead}
-use Rattle.hdlc_frame.specs.Owned.{decoded_found}
 use Rattle.hdlc_frame.proofs.Machines.{more_taken}
 use Rattle.hdlc_frame.proofs.pieces.decode_piece.Goals as goal
 

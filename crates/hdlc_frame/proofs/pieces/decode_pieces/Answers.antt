@@ -1,4 +1,4 @@
-use Rattle.std.proofs.Common.{◌≡◌, ◌∙◌, ap, sym, map}
+use Rattle.std.proofs.Common.{◌∙◌, ap, sym, map}
 use Rattle.hdlc_frame.specs.Owned.{decoded_found}
 use Rattle.hdlc_frame.proofs.Parting.{found_none}
 use Rattle.hdlc_frame.proofs.pieces.decode_pieces.Goals as goal

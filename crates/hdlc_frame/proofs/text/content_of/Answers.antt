@@ -1,4 +1,4 @@
-use Rattle.std.proofs.Common.{arith, ap, Ok, Some, None, refl, sym, ◌∙◌, ◌≡◌}
+use Rattle.std.proofs.Common.{ap, Ok}
 use Rattle.hdlc_frame.proofs.text.content_of.Goals as goal
 use Rattle.hdlc_frame.proofs.Contents.{stands_walk, walk_stands}
 

@@ -1,4 +1,4 @@
-use Rattle.std.proofs.Common.{◌≡◌, arith, Bool, not, true, false, Ok, ap, sym, refl, ◌∙◌}
+use Rattle.std.proofs.Common.{◌≡◌, Bool, not, true, false, ap, sym, refl, ◌∙◌}
 use Rattle.hdlc_frame.proofs.text.push_content.Goals as goal
 use Rattle.hdlc_frame.proofs.text.push_content.Goals.{then-is_escaped+else-octet-eq-ESCAPE+in_ok-push, else-is_escaped+then-octet-eq-ESCAPE-2, else-is_escaped+else-octet-eq-ESCAPE-2+in_ok-push-2}
 use Rattle.hdlc_frame.proofs.Contents.{moved, read_flag, read_twice, read_escape, read_itself, read_escaped, read_all, read_cut}

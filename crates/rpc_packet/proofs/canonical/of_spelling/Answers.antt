@@ -1,4 +1,4 @@
-use Rattle.std.proofs.Common.{rules, ◌≡◌, ◌<◌, ◌^◌, ap, ◌∙◌, sym, arith, length}
+use Rattle.std.proofs.Common.{◌<◌, ◌^◌, ap, ◌∙◌, arith, length}
 use Rattle.std.proofs.lemmas.Option.{IfSome_then}
 use Rattle.rpc_packet.proofs.canonical.of_spelling.Goals as goal
 use Rattle.rpc_packet.specs.Canonical.{request_at}

@@ -1,4 +1,4 @@
-use Rattle.std.proofs.Common.{◌≡◌, ℕ, ◌≤◌, [], subst, take, arith}
+use Rattle.std.proofs.Common.{subst, take, arith}
 use Rattle.hdlc_frame.specs.declared.decoder.Closed.{Closed}
 use Rattle.hdlc_frame.specs.Machine.{Moves}
 use Rattle.hdlc_frame.specs.Pushed.{closed_found}

@@ -1,4 +1,4 @@
-use Rattle.std.proofs.Common.{ℕ, ◌-◌, ◌≤◌, [], length, take}
+use Rattle.std.proofs.Common.{◌-◌, ◌≤◌, [], length, take}
 use Rattle.hdlc_frame.specs.Machine.{Moves}
 use Rattle.hdlc_frame.proofs.decoder.Decoder.feed.Given as goal
 

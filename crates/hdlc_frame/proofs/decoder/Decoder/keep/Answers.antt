@@ -1,4 +1,4 @@
-use Rattle.std.proofs.Common.{◌≡◌, ◌∙◌, ℕ, length, arith}
+use Rattle.std.proofs.Common.{◌≡◌, ◌∙◌, length, arith}
 use Rattle.std.proofs.lemmas.List.{length-take}
 use Rattle.hdlc_frame.proofs.decoder.Decoder.keep.Goals as goal
 use Rattle.hdlc_frame.proofs.Machines.{if_true, keep_is}

@@ -1,4 +1,4 @@
-use Rattle.std.proofs.Common.{◌≡◌, ◌∙◌, ℕ, List, [], ◌∷◌, ◌++◌, length, take, ap, sym, refl, Option, Some, None, arith}
+use Rattle.std.proofs.Common.{◌≡◌, ◌∙◌, ℕ, List, [], ◌++◌, ap, sym, refl, Option, Some, None, arith}
 use Rattle.std.specs.Option.{IsNone}
 use Rattle.std.proofs.lemmas.List.{length-take-le}
 use Rattle.hdlc_frame.specs.declared.decoder.Closed.{Closed}

@@ -1,5 +1,5 @@
-use Rattle.std.proofs.Common.{◌≡◌, ◌≢◌, ◌∙◌, ℕ, ◌<◌, ◌-◌, ◌⊎◌, List, length, get_or, take, drop, inl, inr, arith}
-use Rattle.std.proofs.lemmas.List.{length-drop, take_rest}
+use Rattle.std.proofs.Common.{◌≡◌, ◌≢◌, ℕ, ◌<◌, ◌-◌, ◌⊎◌, length, get_or, take, drop, inl, inr, arith}
+use Rattle.std.proofs.lemmas.List.{take_rest}
 use Rattle.hdlc_frame.specs.declared.octets.TheConstants.{ESCAPE, FLAG}
 use Rattle.hdlc_frame.proofs.decoder.Decoder.step.Goals as goal
 use Rattle.hdlc_frame.proofs.Machines.{step_end, step_escape, step_flag, step_whole}

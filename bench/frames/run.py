@@ -1,0 +1,78 @@
+#!/usr/bin/env python3
+"""Decodes 64 MB of frames by this repository's decoder, by a plain decoder in C and by memcpy, and prints MB/s.
+
+Builds bench/frames/plain_decoder.c with cc, and the program crates/frame_speed with rt (proved, by LLVM). Each is run
+with a few rounds and with one, and the difference is measured, so reading the file and starting don't count.
+"""
+import os
+import random
+import subprocess
+import sys
+import time
+import zlib
+
+HERE = os.path.dirname(os.path.abspath(__file__))
+TOP = os.path.dirname(os.path.dirname(HERE))
+BUILD = os.path.join(TOP, "bench", "build")
+SIZE = 64 << 20
+ROUNDS = 5
+
+
+def frame(payload):
+    head = b"\xa5\x03" + payload
+    content = head + zlib.crc32(head).to_bytes(4, "little")
+    return b"\x7e" + content.replace(b"\x7d", b"\x7d\x5d").replace(b"\x7e", b"\x7d\x5e") + b"\x7e"
+
+
+def stream(length, escapes):
+    # few escapes: random octets; many: half of them are flags or escapes
+    rng = random.Random(length * 2 + escapes)
+    some = []
+    for _ in range(max(1, (1 << 20) // length)):
+        octets = bytearray(rng.randbytes(length))
+        if escapes:
+            for i in range(0, length, 2):
+                octets[i] = 0x7D if octets[i] & 1 else 0x7E
+        some.append(frame(bytes(octets)))
+    block = b"".join(some)
+    return block * (SIZE // len(block))
+
+
+def seconds(command):
+    start = time.monotonic()
+    out = subprocess.run(command, check=True, capture_output=True, text=True).stdout
+    return time.monotonic() - start, out
+
+
+def speed(command, size):
+    best = min(seconds(command + [str(1 + ROUNDS)])[0] - seconds(command + ["1"])[0] for _ in range(3))
+    return size * ROUNDS / best / 1e6
+
+
+def main():
+    os.makedirs(BUILD, exist_ok=True)
+    plain = os.path.join(BUILD, "plain_decoder")
+    subprocess.run(["cc", "-O2", "-o", plain, os.path.join(HERE, "plain_decoder.c")], check=True)
+    crate = os.path.join(TOP, "crates", "frame_speed")
+    subprocess.run(["rt", "run"], cwd=crate, check=True, stdout=subprocess.DEVNULL, stderr=subprocess.DEVNULL)
+    ours = os.path.join(crate, "out", "frame_speed")
+    print(f"{os.cpu_count()} processors, MB/s of stream, best of 3")
+    print("| payload | escapes | this decoder | plain C | ratio | memcpy |")
+    print("|---|---|---|---|---|---|")
+    for length in (16, 256, 4096):
+        for escapes in (False, True):
+            path = os.path.join(BUILD, "stream")
+            with open(path, "wb") as file:
+                file.write(stream(length, escapes))
+            size = os.path.getsize(path)
+            told = {seconds([ours, path, "1"])[1], seconds([plain, "plain", path, "1"])[1]}
+            if len(told) != 1:
+                sys.exit(f"the decoders differ: {told}")
+            a = speed([ours, path], size)
+            b = speed([plain, "plain", path], size)
+            c = speed([plain, "memcpy", path], size)
+            print(f"| {length} | {'many' if escapes else 'few'} | {a:.0f} | {b:.0f} | {a / b:.2f} | {c:.0f} |", flush=True)
+
+
+if __name__ == "__main__":
+    main()

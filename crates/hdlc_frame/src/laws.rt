@@ -1,0 +1,19 @@
+//! Laws of the definitions, for callers' proofs. Nothing runs here.
+
+ghost use Rattle.std.specs.Prelude.{ℕ, ◌^◌, ◌<◌, List};
+ghost use Rattle.hdlc_frame.specs.Laws.{AreOctets, IsFoundIn, IsReadBack, SegmentsGrow};
+
+/// What the reader finds in a text is what the relation of text, content and frame says.
+pub fn found_is_carried()
+    ensures { (limit : ℕ) (text : List ℕ) → AreOctets text → IsFoundIn limit text }
+{}
+
+/// How the segments of a stream grow with it, octet by octet.
+pub fn segments_grow()
+    ensures { (stream : List ℕ) → SegmentsGrow stream }
+{}
+
+/// What `encode_ui` appends is one segment, and is read back so.
+pub fn written_is_read_back()
+    ensures { (address : ℕ) (payload : List ℕ) → address < 2 ^ 32 → IsReadBack address payload }
+{}

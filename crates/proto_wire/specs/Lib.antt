@@ -1,0 +1,12 @@
+pub mod Absent
+pub mod Entries
+pub mod Field
+pub mod Front
+pub mod Gives
+pub mod Message
+pub mod Reading
+pub mod Spelling
+pub mod Typed
+pub mod Varint
+pub mod Views
+pub mod Writing

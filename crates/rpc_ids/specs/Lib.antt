@@ -1,0 +1,3 @@
+pub mod Names
+pub mod Registry
+pub mod Status

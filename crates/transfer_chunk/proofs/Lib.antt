@@ -1,0 +1,3 @@
+pub mod ChunkLaws
+pub mod ReadSteps
+pub mod ReadingLaws

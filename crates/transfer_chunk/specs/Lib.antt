@@ -1,0 +1,4 @@
+pub mod Chunk
+pub mod ChunkText
+pub mod ChunkTypes
+pub mod Reading
