@@ -1,5 +1,5 @@
-//! Frames after pw_hdlc: unnumbered information frames between flags, with byte stuffing and a 32-bit check sequence
-//! (RFC 1662). `encode_ui` writes a frame; `content_of` reads the text of one.
+//! Frames after pw_hdlc: unnumbered information frames between flags, with octet stuffing and a 32-bit check sequence
+//! (RFC 1662). `Decoder` finds the frames and faults of a stream in any pieces, and `encode_ui` writes a frame.
 //! Nothing here waits, reads or writes a device, or keeps the time.
 #![tactic(auto)]
 
