@@ -502,14 +502,6 @@ step_whole old piece rest at n e below some flag o start =
     subst P (sym (part_with piece rest at n FLAG e below flag))
     (subst Q same (moves_whole old (take n rest) start o (some_octets (take n rest) (omega (arith, length-take n rest)))))
 
-pub moves_none : (r : Reading) (piece : List ℕ) → Moves r r (take 0 piece) []
-moves_none r piece = record {
-  limit = refl;
-  read = λ stream h. let P : List ℕ → Type 0 = λ l. HasRead r l in subst P (sym (append-nil stream)) h;
-  gives = λ stream h. ap (found r.limit) (append-nil stream) ∙ sym (append-nil (found r.limit stream));
-  late = λ stream h n below. absurd (omega arith);
-}
-
 -- one step more
 pub moves_more :
     (a b c : Reading) (piece : List ℕ) (at end : ℕ) (got : List Found) → at ≤ end → Moves a b (take at piece) [] → Moves b c (slice_range piece at end) got →
@@ -533,10 +525,10 @@ more_taken stream piece rest at n e =
     append_assoc stream (take at piece) (take n rest) ∙ ap (λ l. stream ++ (take at piece ++ take n l)) e ∙
     ap (λ l. stream ++ l) (sym (take-add at n piece))
 
--- a step that read nothing changes nothing that matters
+-- a crawl behind what was read
 pub moves_crawled :
-  (a b c : Reading) (piece rest : List ℕ) (at n : ℕ) → rest ≡ drop at piece → Moves a b (take at piece) [] → Moves b c (take n rest) [] →
-  Moves a c (take (at + n) piece) []
+    (a b c : Reading) (piece rest : List ℕ) (at n : ℕ) → rest ≡ drop at piece → Moves a b (take at piece) [] → Moves b c (take n rest) [] →
+    Moves a c (take (at + n) piece) []
 moves_crawled a b c piece rest at n e m1 m2 =
     let P : List ℕ → Type 0 = λ l. Moves a c l [] in
     subst P (ap (λ l. take at piece ++ take n l) e ∙ sym (take-add at n piece)) (moves_then a b c (take at piece) (take n rest) [] m1 m2)

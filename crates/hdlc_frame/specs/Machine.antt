@@ -93,7 +93,7 @@ pub record Unescapes (before : Bool) (bytes : List ℕ) (after : Bool) (old new 
   pub few : length more ≤ length bytes
   pub no_flag : All (λ octet. octet ≢ FLAG) bytes
   pub told :
-    (rest : List ℕ) → unescaped before (bytes ++ rest) ≡ option_map (λ content. more ++ content) (unescaped after rest)
+      (rest : List ℕ) → unescaped before (bytes ++ rest) ≡ option_map (λ content. more ++ content) (unescaped after rest)
 
 abbrev pub phase_in_text : Bool → Phase
 phase_in_text true = Escaped

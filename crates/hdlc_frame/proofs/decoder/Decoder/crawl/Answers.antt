@@ -1,5 +1,5 @@
-use Rattle.std.proofs.Common.{◌≡◌, ◌∙◌, ℕ, ◌+◌, ◌-◌, ◌≤◌, List, Bool, true, length, take, ap, sym, subst, min, arith}
-use Rattle.std.proofs.lemmas.List.{length-take, length-take-le}
+use Rattle.std.proofs.Common.{◌≡◌, ℕ, ◌≤◌, List, true, length, take, subst, arith}
+use Rattle.std.proofs.lemmas.List.{length-take}
 use Rattle.hdlc_frame.specs.Machine.{Unescapes}
 use Rattle.hdlc_frame.proofs.Crawls.{moves_crawl}
 use Rattle.hdlc_frame.proofs.Machines.{take_within}
@@ -21,5 +21,5 @@ returns-clause-moves c =
     let len : length (take n octets) ≤ n = omega (arith, length-take n octets) in
     let facts = c.is_behind_escape.ensures.0 c.if-not-is_behind_escape.false in
     rw c.in_text-self-inside.ensures
-      (moves_crawl c.args.self.now inside.limit inside.phase inside.is_long inside.content.items (take n octets) new after c.self.view_is facts.0 facts.1
-        (omega arith) (subst P same c.unescape-n.ensures.reads))
+    (moves_crawl c.args.self.now inside.limit inside.phase inside.is_long inside.content.items (take n octets) new after c.self.view_is facts.0 facts.1
+    (omega arith) (subst P same c.unescape-n.ensures.reads))

@@ -11,7 +11,7 @@ returns-then-at-piece-clause-moves c =
     let piece = c.args.piece.now in
     let at = c.loop-at.at in
     moves_crawled c.args.self.now c.loop-at.self c.crawl-at.new.self piece (take (length piece - at) (drop at piece)) at c.crawl-at.result (take_rest piece at)
-      c.loop-at.invariant.moves c.crawl-at.ensures.moves
+    c.loop-at.invariant.moves c.crawl-at.ensures.moves
 
 pub loop-at-preserved : goal.loop-at-preserved
 loop-at-preserved c =
@@ -20,14 +20,14 @@ loop-at-preserved c =
     let step = c.step-end in
     let further = step.ensures.further in
     let crawled =
-      moves_crawled c.args.self.now c.loop-at.self c.crawl-at.new.self piece (take (length piece - at) (drop at piece)) at c.crawl-at.result (take_rest piece at)
-        c.loop-at.invariant.moves c.crawl-at.ensures.moves
+    moves_crawled c.args.self.now c.loop-at.self c.crawl-at.new.self piece (take (length piece - at) (drop at piece)) at c.crawl-at.result (take_rest piece at)
+    c.loop-at.invariant.moves c.crawl-at.ensures.moves
     in
     let P : Closed → Type 0 = λ closed. Moves c.args.self.now step.new.self (take step.result.0 piece) (closed_found step.new.self piece closed) in
     record {
       within = step.ensures.taken;
       moves =
-        subst P c.in-Open.is
+          subst P c.in-Open.is
           (moves_more c.args.self.now c.crawl-at.new.self step.new.self piece (at + c.crawl-at.result) step.result.0 _ (omega arith) crawled step.ensures.moves);
     }
 
@@ -38,8 +38,8 @@ returns-in_default c =
     let step = c.step-end in
     let further = step.ensures.further in
     let crawled =
-      moves_crawled c.args.self.now c.loop-at.self c.crawl-at.new.self piece (take (length piece - at) (drop at piece)) at c.crawl-at.result (take_rest piece at)
-        c.loop-at.invariant.moves c.crawl-at.ensures.moves
+    moves_crawled c.args.self.now c.loop-at.self c.crawl-at.new.self piece (take (length piece - at) (drop at piece)) at c.crawl-at.result (take_rest piece at)
+    c.loop-at.invariant.moves c.crawl-at.ensures.moves
     in
     record {
       taken = step.ensures.taken;
@@ -47,5 +47,5 @@ returns-in_default c =
       progress = λ some. omega arith;
       within = step.ensures.within;
       moves =
-        moves_more c.args.self.now c.crawl-at.new.self step.new.self piece (at + c.crawl-at.result) step.result.0 _ (omega arith) crawled step.ensures.moves;
+          moves_more c.args.self.now c.crawl-at.new.self step.new.self piece (at + c.crawl-at.result) step.result.0 _ (omega arith) crawled step.ensures.moves;
     }
