@@ -1,5 +1,6 @@
 pub mod Carried
 pub mod Contents
+mod Crawls
 mod Examples
 pub mod Headers
 mod Tables

@@ -68,7 +68,7 @@ keep_is limit len part phase is_long content octets after within el ep ea =
     in
     ap with_long same_long ∙ ap with_content same_content
 
-no_flag : (octets : List ℕ) → IsOrdinary octets → NoFlag octets
+pub no_flag : (octets : List ℕ) → IsOrdinary octets → NoFlag octets
 no_flag octets h = λ k d below. neq-eqb (get_or octets k d) FLAG ((h k d below).0)
 
 first : (x : ℕ) (xs : List ℕ) → IsOrdinary (x ∷ xs) → (x ≢ FLAG) × (x ≢ ESCAPE)
@@ -81,14 +81,14 @@ one_escape : NoFlag (ESCAPE ∷ [])
 one_escape zero d below = refl
 one_escape (suc k) d below = absurd (omega arith)
 
-abbrev onto_content : List ℕ → Option (List ℕ) → Option (List ℕ)
+abbrev pub onto_content : List ℕ → Option (List ℕ) → Option (List ℕ)
 onto_content front found = option_map (λ content. front ++ content) found
 
-onto_nothing : (found : Option (List ℕ)) → found ≡ onto_content [] found
+pub onto_nothing : (found : Option (List ℕ)) → found ≡ onto_content [] found
 onto_nothing None = refl
 onto_nothing (Some content) = refl
 
-onto_twice : (xs ys : List ℕ) (found : Option (List ℕ)) → onto_content xs (onto_content ys found) ≡ onto_content (xs ++ ys) found
+pub onto_twice : (xs ys : List ℕ) (found : Option (List ℕ)) → onto_content xs (onto_content ys found) ≡ onto_content (xs ++ ys) found
 onto_twice xs ys None = refl
 onto_twice xs ys (Some content) = ap Some (sym (append_assoc xs ys content))
 
@@ -102,11 +102,11 @@ run_told [] rest h = onto_nothing (unescaped false rest)
 run_told (x ∷ xs) rest h =
     walk_itself x (xs ++ rest) ((first x xs h).0) ((first x xs h).1) ∙ ap (option_map (λ content. x ∷ content)) (run_told xs rest (others x xs h)) ∙ onto_one x xs (unescaped false rest)
 
-behind_plain : (rest : List ℕ) → content_behind Plain rest ≡ unescaped false rest
+pub behind_plain : (rest : List ℕ) → content_behind Plain rest ≡ unescaped false rest
 unfolding content_behind
 behind_plain rest = refl
 
-behind_escaped : (rest : List ℕ) → content_behind Escaped rest ≡ unescaped true rest
+pub behind_escaped : (rest : List ℕ) → content_behind Escaped rest ≡ unescaped true rest
 unfolding content_behind
 behind_escaped rest = refl
 
@@ -207,12 +207,12 @@ read_broken r text more broken t = record {
   long = t.long;
 }
 
-has_more : (text more : List ℕ) → has_octets text ≡ true → has_octets (text ++ more) ≡ true
+pub has_more : (text more : List ℕ) → has_octets text ≡ true → has_octets (text ++ more) ≡ true
 has_more [] more h = absurd (cc)
 has_more (x ∷ xs) more h = refl
 
 -- the open text, longer
-grown : (stream text more : List ℕ) → NoFlag more → open_text stream ≡ Some text → open_text (stream ++ more) ≡ Some (text ++ more)
+pub grown : (stream text more : List ℕ) → NoFlag more → open_text stream ≡ Some text → open_text (stream ++ more) ≡ Some (text ++ more)
 grown stream text more none e = open_text_text stream more none ∙ ap (option_map (λ l. l ++ more)) e
 
 still_outside : (stream more : List ℕ) → NoFlag more → open_text stream ≡ None → open_text (stream ++ more) ≡ None
@@ -272,7 +272,7 @@ unfolding HasRead
 flag_reads r stream = open_text_flag stream
 
 -- bytes without a flag
-moves_text :
+pub moves_text :
     (old new : Reading) (bytes : List ℕ) → new.limit ≡ old.limit → NoFlag bytes →
     ((stream : List ℕ) → HasRead old stream → HasRead new (stream ++ bytes)) → Moves old new bytes []
 moves_text old new bytes same none reads = record {
@@ -502,14 +502,6 @@ step_whole old piece rest at n e below some flag o start =
     subst P (sym (part_with piece rest at n FLAG e below flag))
     (subst Q same (moves_whole old (take n rest) start o (some_octets (take n rest) (omega (arith, length-take n rest)))))
 
-pub moves_none : (r : Reading) (piece : List ℕ) → Moves r r (take 0 piece) []
-moves_none r piece = record {
-  limit = refl;
-  read = λ stream h. let P : List ℕ → Type 0 = λ l. HasRead r l in subst P (sym (append-nil stream)) h;
-  gives = λ stream h. ap (found r.limit) (append-nil stream) ∙ sym (append-nil (found r.limit stream));
-  late = λ stream h n below. absurd (omega arith);
-}
-
 -- one step more
 pub moves_more :
     (a b c : Reading) (piece : List ℕ) (at end : ℕ) (got : List Found) → at ≤ end → Moves a b (take at piece) [] → Moves b c (slice_range piece at end) got →
@@ -532,3 +524,11 @@ pub more_taken :
 more_taken stream piece rest at n e =
     append_assoc stream (take at piece) (take n rest) ∙ ap (λ l. stream ++ (take at piece ++ take n l)) e ∙
     ap (λ l. stream ++ l) (sym (take-add at n piece))
+
+-- a crawl behind what was read
+pub moves_crawled :
+    (a b c : Reading) (piece rest : List ℕ) (at n : ℕ) → rest ≡ drop at piece → Moves a b (take at piece) [] → Moves b c (take n rest) [] →
+    Moves a c (take (at + n) piece) []
+moves_crawled a b c piece rest at n e m1 m2 =
+    let P : List ℕ → Type 0 = λ l. Moves a c l [] in
+    subst P (ap (λ l. take at piece ++ take n l) e ∙ sym (take-add at n piece)) (moves_then a b c (take at piece) (take n rest) [] m1 m2)

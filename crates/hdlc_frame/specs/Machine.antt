@@ -1,5 +1,5 @@
 -- What a decoder's state says of the stream that it has read.
-use Rattle.std.specs.Prelude.{◌≡◌, ◌≢◌, ℕ, ◌+◌, ◌<◌, ◌||◌, bit_xor, nat_lt, Bool, true, false, List, [], ◌∷◌, ◌++◌, length, take, Option, Some, None}
+use Rattle.std.specs.Prelude.{◌≡◌, ◌≢◌, ℕ, ◌+◌, ◌<◌, ◌≤◌, ◌||◌, bit_xor, nat_lt, Bool, true, false, List, [], ◌∷◌, ◌++◌, length, take, Option, Some, None}
 use Rattle.std.specs.List.{All}
 use Rattle.std.specs.Option.{option_map}
 use Rattle.hdlc_frame.specs.declared.octets.TheConstants.{ESCAPE, ESCAPE_BIT, FLAG}
@@ -84,3 +84,17 @@ pub record Moves (old new : Reading) (bytes : List ℕ) (got : List Found) : Typ
   pub late :
       (stream : List ℕ) → HasRead old stream → (n : ℕ) → n < length bytes →
       found old.limit (stream ++ take n bytes) ≡ found old.limit stream
+
+-- Bytes without a flag, what they add to a content, and whether an escape stands in front of them and behind, whatever
+-- follows them.
+pub record Unescapes (before : Bool) (bytes : List ℕ) (after : Bool) (old new : List ℕ) : Type 0 where
+  pub more : List ℕ
+  pub grown : new ≡ old ++ more
+  pub few : length more ≤ length bytes
+  pub no_flag : All (λ octet. octet ≢ FLAG) bytes
+  pub told :
+      (rest : List ℕ) → unescaped before (bytes ++ rest) ≡ option_map (λ content. more ++ content) (unescaped after rest)
+
+abbrev pub phase_in_text : Bool → Phase
+phase_in_text true = Escaped
+phase_in_text false = Plain

@@ -4,6 +4,7 @@ use crate::found::{Bad, Got, Pushed};
 use crate::judge::judge;
 use crate::octets::{ESCAPE, ESCAPE_BIT, ordinary_len};
 use crate::phase::Phase;
+use crate::text::unescape;
 use std::alloc::{AllocError, Global};
 use std::marker::Model;
 
@@ -40,13 +41,13 @@ enum Closed {
 }
 
 impl Decoder {
-    ghost use Rattle.std.specs.Prelude.{◌≡◌, ◌≢◌, ◌+◌, ◌-◌, ◌<◌, ◌≤◌, ◌++◌, ◌∷◌, [], ℕ, List, length, take, slice_range, nat_lt, ◌||◌, IfOk, IsNone, IsTrue, ◌↔◌};
+    ghost use Rattle.std.specs.Prelude.{◌≡◌, ◌≢◌, ◌+◌, ◌-◌, ◌<◌, ◌≤◌, ◌++◌, ◌∷◌, [], ℕ, List, length, take, slice_range, nat_lt, ◌||◌, IfOk, IsNone, IsTrue, ◌↔◌, false};
     ghost use Rattle.std.specs.Borrow.{sem};
     ghost use Rattle.hdlc_frame.specs.Found.{Found, found};
     ghost use Rattle.hdlc_frame.specs.Machine.{HasRead, Moves, Reading, after_escape, after_run, begun, keeping};
     ghost use Rattle.hdlc_frame.specs.Lent.{found_in_got};
     ghost use Rattle.hdlc_frame.specs.Pushed.{IsWithin, Leaves, closed_by, closed_found};
-    ghost use Rattle.hdlc_frame.specs.declared.phase.Phase.TheVariants.{Start};
+    ghost use Rattle.hdlc_frame.specs.declared.phase.Phase.TheVariants.{Escaped, Start};
 
     /// A decoder that has read nothing, for contents of at most `limit` octets (6 to 8,192). It takes its buffer of
     /// `limit` bytes here, and no memory later.
@@ -148,6 +149,27 @@ impl Decoder {
         closed
     }
 
+    fn is_behind_escape(&self) -> bool
+        ensures { IsTrue result ↔ ((self.now.phase ≡ Escaped) × (self.now.is_long ≡ false)) }
+    {
+        matches!(self.phase, Phase::Escaped) && !self.is_long
+    }
+
+    // Behind an escape, reads octets one at a time while escapes are close together. Answers how many.
+    fn crawl(&mut self, octets: &[u8]) -> usize
+        ensures within { result ≤ length octets.now }
+        ensures moves { Moves self.old self.new (take result octets.now) [] }
+    {
+        if !self.is_behind_escape() {
+            return 0;
+        }
+        let room = self.limit - self.content.len();
+        let part = &octets[..octets.len().min(room)];
+        let (n, is_escaped) = unescape(&mut self.content, true, part);
+        self.phase = Phase::in_text(is_escaped);
+        n
+    }
+
     // Reads ordinary octets from `at` on, and the flag or escape behind them. Answers how far it came.
     fn step(&mut self, piece: &[u8], at: usize) -> (usize, Closed)
         requires { at < length piece.now }
@@ -186,6 +208,10 @@ impl Decoder {
     {
         let mut at = 0;
         while at < piece.len() {
+            at += self.crawl(&piece[at..]);
+            if at == piece.len() {
+                return (at, Closed::Open);
+            }
             let (end, closed) = self.step(piece, at);
             match closed {
                 Closed::Open => at = end,

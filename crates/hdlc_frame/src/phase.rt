@@ -1,5 +1,8 @@
 //! Where a decoder stands in a segment.
 
+ghost use Rattle.std.specs.Prelude.{◌≡◌};
+ghost use Rattle.hdlc_frame.specs.Machine.{phase_in_text};
+
 #[derive(Clone, Copy)]
 pub(crate) enum Phase {
     /// No flag came yet.
@@ -12,4 +15,17 @@ pub(crate) enum Phase {
     Escaped,
     /// An escape was followed by another one.
     Broken,
+}
+
+impl Phase {
+    /// Inside a segment's text.
+    pub(crate) fn in_text(is_escaped: bool) -> Phase
+        ensures { result ≡ phase_in_text is_escaped }
+    {
+        if is_escaped {
+            Phase::Escaped
+        } else {
+            Phase::Plain
+        }
+    }
 }

@@ -1,31 +1,51 @@
-use Rattle.std.proofs.Common.{subst, take, arith}
+use Rattle.std.proofs.Common.{◌+◌, ◌-◌, length, take, drop, subst, arith}
+use Rattle.std.proofs.lemmas.List.{take_rest}
 use Rattle.hdlc_frame.specs.declared.decoder.Closed.{Closed}
 use Rattle.hdlc_frame.specs.Machine.{Moves}
 use Rattle.hdlc_frame.specs.Pushed.{closed_found}
 use Rattle.hdlc_frame.proofs.decoder.Decoder.feed.Goals as goal
-use Rattle.hdlc_frame.proofs.Machines.{moves_more}
+use Rattle.hdlc_frame.proofs.Machines.{moves_crawled, moves_more}
+
+pub returns-then-at-piece-clause-moves : goal.returns-then-at-piece-clause-moves
+returns-then-at-piece-clause-moves c =
+    let piece = c.args.piece.now in
+    let at = c.loop-at.at in
+    moves_crawled c.args.self.now c.loop-at.self c.crawl-at.new.self piece (take (length piece - at) (drop at piece)) at c.crawl-at.result (take_rest piece at)
+    c.loop-at.invariant.moves c.crawl-at.ensures.moves
 
 pub loop-at-preserved : goal.loop-at-preserved
 loop-at-preserved c =
+    let piece = c.args.piece.now in
+    let at = c.loop-at.at in
     let step = c.step-end in
-    let P : Closed → Type 0 = λ closed. Moves c.args.self.now step.new.self (take step.result.0 c.args.piece.now) (closed_found step.new.self c.args.piece.now closed) in
+    let further = step.ensures.further in
+    let crawled =
+    moves_crawled c.args.self.now c.loop-at.self c.crawl-at.new.self piece (take (length piece - at) (drop at piece)) at c.crawl-at.result (take_rest piece at)
+    c.loop-at.invariant.moves c.crawl-at.ensures.moves
+    in
+    let P : Closed → Type 0 = λ closed. Moves c.args.self.now step.new.self (take step.result.0 piece) (closed_found step.new.self piece closed) in
     record {
       within = step.ensures.taken;
       moves =
           subst P c.in-Open.is
-          (moves_more c.args.self.now c.loop-at.self step.new.self c.args.piece.now c.loop-at.at step.result.0 _ (omega (arith, step.ensures.further))
-          c.loop-at.invariant.moves step.ensures.moves);
+          (moves_more c.args.self.now c.crawl-at.new.self step.new.self piece (at + c.crawl-at.result) step.result.0 _ (omega arith) crawled step.ensures.moves);
     }
 
 pub returns-in_default : goal.returns-in_default
 returns-in_default c =
+    let piece = c.args.piece.now in
+    let at = c.loop-at.at in
     let step = c.step-end in
+    let further = step.ensures.further in
+    let crawled =
+    moves_crawled c.args.self.now c.loop-at.self c.crawl-at.new.self piece (take (length piece - at) (drop at piece)) at c.crawl-at.result (take_rest piece at)
+    c.loop-at.invariant.moves c.crawl-at.ensures.moves
+    in
     record {
       taken = step.ensures.taken;
       whole = λ is. absurd (c.in_default.not-Open is);
-      progress = λ some. omega (arith, step.ensures.further);
+      progress = λ some. omega arith;
       within = step.ensures.within;
       moves =
-          moves_more c.args.self.now c.loop-at.self step.new.self c.args.piece.now c.loop-at.at step.result.0 _ (omega (arith, step.ensures.further))
-          c.loop-at.invariant.moves step.ensures.moves;
+          moves_more c.args.self.now c.crawl-at.new.self step.new.self piece (at + c.crawl-at.result) step.result.0 _ (omega arith) crawled step.ensures.moves;
     }

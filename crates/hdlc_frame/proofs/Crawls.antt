@@ -1,0 +1,142 @@
+-- Octets read one at a time behind an escape.
+use Rattle.std.proofs.Common.{◌≡◌, ◌≢◌, ℕ, ◌+◌, ◌<◌, ◌≤◌, zero, suc, Bool, true, false, List, [], ◌∷◌, ◌++◌, length, get_or, take, refl, sym, ap, ◌∙◌, append_assoc, subst, bit_xor, arith}
+use Rattle.std.specs.List.{All}
+use Rattle.std.proofs.lemmas.Bool.{le-ltb, ltb-false}
+use Rattle.std.proofs.lemmas.List.{append-nil, length-append, take_all, take_more}
+use Rattle.std.proofs.lemmas.List.Elements.{All-append}
+use Rattle.hdlc_frame.specs.declared.octets.TheConstants.{ESCAPE, ESCAPE_BIT, FLAG}
+use Rattle.hdlc_frame.specs.declared.phase.Phase.{Phase}
+use Rattle.hdlc_frame.specs.declared.phase.Phase.TheVariants.{Escaped}
+use Rattle.hdlc_frame.specs.Content.{unescaped}
+use Rattle.hdlc_frame.specs.Machine.{HasRead, HasReadText, Moves, Reading, Unescapes, content_behind, phase_in_text}
+use Rattle.hdlc_frame.proofs.Contents.{neq-eqb, walk_escape, walk_escaped, walk_itself}
+use Rattle.hdlc_frame.proofs.Machines.{behind_escaped, behind_plain, grown, has_more, moves_text, onto_content, onto_nothing, onto_twice}
+use Rattle.hdlc_frame.proofs.Parting.{NoFlag}
+
+one_flag_free : (x : ℕ) → x ≢ FLAG → All (λ octet. octet ≢ FLAG) (x ∷ [])
+one_flag_free x f zero d below = f
+one_flag_free x f (suc k) d below = absurd (omega arith)
+
+-- one octet more
+snoc :
+    (e e1 e2 : Bool) (bytes old middle new added : List ℕ) (x : ℕ) → Unescapes e bytes e1 old middle → x ≢ FLAG → length added ≤ 1 →
+    new ≡ middle ++ added → ((rest : List ℕ) → unescaped e1 (x ∷ rest) ≡ onto_content added (unescaped e2 rest)) →
+    Unescapes e (bytes ++ x ∷ []) e2 old new
+snoc e e1 e2 bytes old middle new added x u f short en law = record {
+  more = u.more ++ added;
+  grown = en ∙ ap (λ l. l ++ added) u.grown ∙ append_assoc old u.more added;
+  few = let few = u.few in omega (arith, length-append u.more added, length-append bytes (x ∷ []));
+  no_flag = All-append (λ octet. octet ≢ FLAG) bytes (x ∷ []) u.no_flag (one_flag_free x f);
+  told = λ rest.
+      ap (unescaped e) (append_assoc bytes (x ∷ []) rest) ∙ u.told (x ∷ rest) ∙ ap (onto_content u.more) (law rest) ∙
+      onto_twice u.more added (unescaped e2 rest);
+}
+
+-- the same with the octet in its place
+snoc_at :
+    (e e1 e2 f1 f2 : Bool) (xs old middle new added : List ℕ) (i : ℕ) → i < length xs → Unescapes e (take i xs) f1 old middle → f1 ≡ e1 → f2 ≡ e2 →
+    get_or xs i 0 ≢ FLAG → length added ≤ 1 → new ≡ middle ++ added →
+    ((rest : List ℕ) → unescaped e1 (get_or xs i 0 ∷ rest) ≡ onto_content added (unescaped e2 rest)) →
+    Unescapes e (take (i + 1) xs) f2 old new
+snoc_at e e1 e2 f1 f2 xs old middle new added i below u is1 is2 f short en law =
+    let P : Bool → Type 0 = λ b. Unescapes e (take i xs) b old middle in
+    let Q : Bool → Type 0 = λ b. Unescapes e (take (i + 1) xs) b old new in
+    let R : List ℕ → Type 0 = λ l. Unescapes e l e2 old new in
+    subst Q (sym is2)
+    (subst R (sym (take_more xs i 0 below)) (snoc e e1 e2 (take i xs) old middle new added (get_or xs i 0) (subst P is1 u) f short en law))
+
+pub crawl_itself :
+    (e f1 f2 : Bool) (xs old middle new : List ℕ) (i : ℕ) → i < length xs → Unescapes e (take i xs) f1 old middle → f1 ≡ false → f2 ≡ false →
+    get_or xs i 0 ≢ FLAG → get_or xs i 0 ≢ ESCAPE → new ≡ middle ++ get_or xs i 0 ∷ [] → Unescapes e (take (i + 1) xs) f2 old new
+crawl_itself e f1 f2 xs old middle new i below u is1 is2 f other en =
+    let x = get_or xs i 0 in
+    snoc_at e false false f1 f2 xs old middle new (x ∷ []) i below u is1 is2 f (omega arith) en (λ rest. walk_itself x rest f other)
+
+pub crawl_escape :
+    (e f1 f2 : Bool) (xs old middle new : List ℕ) (i : ℕ) → i < length xs → Unescapes e (take i xs) f1 old middle → f1 ≡ false → f2 ≡ true →
+    get_or xs i 0 ≡ ESCAPE → new ≡ middle → Unescapes e (take (i + 1) xs) f2 old new
+crawl_escape e f1 f2 xs old middle new i below u is1 is2 escape en =
+    let x = get_or xs i 0 in
+    snoc_at e false true f1 f2 xs old middle new [] i below u is1 is2 (omega arith) (omega arith) (en ∙ sym (append-nil middle))
+    (λ rest. walk_escape x rest escape ∙ onto_nothing (unescaped true rest))
+
+pub crawl_turned :
+    (e f1 f2 : Bool) (xs old middle new : List ℕ) (i : ℕ) → i < length xs → Unescapes e (take i xs) f1 old middle → f1 ≡ true → f2 ≡ false →
+    get_or xs i 0 ≢ FLAG → get_or xs i 0 ≢ ESCAPE → new ≡ middle ++ bit_xor (get_or xs i 0) ESCAPE_BIT ∷ [] →
+    Unescapes e (take (i + 1) xs) f2 old new
+crawl_turned e f1 f2 xs old middle new i below u is1 is2 f other en =
+    let x = get_or xs i 0 in
+    snoc_at e true false f1 f2 xs old middle new (bit_xor x ESCAPE_BIT ∷ []) i below u is1 is2 f (omega arith) en (λ rest. walk_escaped x rest f other)
+
+flag_free : (bytes : List ℕ) → All (λ octet. octet ≢ FLAG) bytes → NoFlag bytes
+flag_free bytes none = λ k d below. neq-eqb (get_or bytes k d) FLAG (none k d below)
+
+behind_either : (after : Bool) (rest : List ℕ) → content_behind (phase_in_text after) rest ≡ unescaped after rest
+behind_either true rest = behind_escaped rest
+behind_either false rest = behind_plain rest
+
+-- the whole crawl, as one move of the decoder
+read_crawled :
+    (r : Reading) (text bytes new : List ℕ) (after : Bool) → r.phase ≡ Escaped → r.is_long ≡ false → length r.content + length bytes ≤ r.limit →
+    Unescapes true bytes after r.content new → HasReadText r text →
+    HasReadText (record r { phase = phase_in_text after; content = new }) (text ++ bytes)
+read_crawled r text bytes new after escaped short room u t =
+    let whole_fits : length t.whole ≤ r.limit = ltb-false r.limit (length t.whole) (sym t.long ∙ short) in
+    let kept : r.content ≡ t.whole = t.content ∙ take_all r.limit t.whole whole_fits in
+    let same : new ≡ t.whole ++ u.more = u.grown ∙ ap (λ l. l ++ u.more) kept in
+    let few = u.few in
+    let len : length r.content ≡ length t.whole = ap length kept in
+    let fits : length (t.whole ++ u.more) ≤ r.limit = omega (arith, length-append t.whole u.more) in
+    record {
+      whole = t.whole ++ u.more;
+      told = λ rest.
+          ap (unescaped false) (append_assoc text bytes rest) ∙ t.told (bytes ++ rest) ∙
+          ap (onto_content t.whole) (ap (λ p. content_behind p (bytes ++ rest)) escaped ∙ behind_escaped (bytes ++ rest) ∙ u.told rest) ∙
+          onto_twice t.whole u.more (unescaped after rest) ∙ ap (onto_content (t.whole ++ u.more)) (sym (behind_either after rest));
+      content = same ∙ sym (take_all r.limit (t.whole ++ u.more) fits);
+      long = short ∙ sym (le-ltb r.limit (length (t.whole ++ u.more)) fits);
+    }
+
+crawl_reads :
+    (limit : ℕ) (is_long : Bool) (content bytes new stream : List ℕ) (after : Bool) → is_long ≡ false → length content + length bytes ≤ limit →
+    Unescapes true bytes after content new →
+    let before : Reading = record { limit = limit; phase = Escaped; is_long = is_long; content = content } in
+    HasRead before stream → HasRead (record before { phase = phase_in_text after; content = new }) (stream ++ bytes)
+unfolding HasRead
+crawl_reads limit is_long content bytes new stream true short room u h =
+    let before : Reading = record { limit = limit; phase = Escaped; is_long = is_long; content = content } in (
+      h.0 ++ bytes,
+      grown stream h.0 bytes (flag_free bytes u.no_flag) h.1,
+      has_more h.0 bytes h.2,
+      read_crawled before h.0 bytes new true refl short room u h.3,
+    )
+crawl_reads limit is_long content bytes new stream false short room u h =
+    let before : Reading = record { limit = limit; phase = Escaped; is_long = is_long; content = content } in (
+      h.0 ++ bytes,
+      grown stream h.0 bytes (flag_free bytes u.no_flag) h.1,
+      has_more h.0 bytes h.2,
+      read_crawled before h.0 bytes new false refl short room u h.3,
+    )
+
+moves_crawl_at :
+    (limit : ℕ) (phase : Phase) (is_long : Bool) (content bytes new : List ℕ) (after : Bool) → phase ≡ Escaped → is_long ≡ false →
+    length content + length bytes ≤ limit → Unescapes true bytes after content new →
+    let before : Reading = record { limit = limit; phase = phase; is_long = is_long; content = content } in
+    Moves before (record before { phase = phase_in_text after; content = new }) bytes []
+moves_crawl_at limit phase is_long content bytes new after escaped short room u =
+    let make : Phase → Reading = λ p. record { limit = limit; phase = p; is_long = is_long; content = content } in
+    let P : Phase → Type 0 = λ p. Moves (make p) (record (make Escaped) { phase = phase_in_text after; content = new }) bytes [] in
+    subst P (sym escaped)
+    (moves_text (make Escaped) (record (make Escaped) { phase = phase_in_text after; content = new }) bytes refl (flag_free bytes u.no_flag)
+    (λ stream h. crawl_reads limit is_long content bytes new stream after short room u h))
+
+pub moves_crawl :
+    (old : Reading) (limit : ℕ) (phase : Phase) (is_long : Bool) (content bytes new : List ℕ) (after : Bool) →
+    let before : Reading = record { limit = limit; phase = phase; is_long = is_long; content = content } in
+    before ≡ old → old.phase ≡ Escaped → old.is_long ≡ false → length content + length bytes ≤ limit → Unescapes true bytes after content new →
+    Moves old (record before { phase = phase_in_text after; content = new }) bytes []
+moves_crawl old limit phase is_long content bytes new after same escaped short room u =
+    let before : Reading = record { limit = limit; phase = phase; is_long = is_long; content = content } in
+    let P : Reading → Type 0 = λ r. Moves r (record before { phase = phase_in_text after; content = new }) bytes [] in
+    subst P same
+    (moves_crawl_at limit phase is_long content bytes new after (ap (λ r. r.phase) same ∙ escaped) (ap (λ r. r.is_long) same ∙ short) room u)
