@@ -1,9 +1,8 @@
 -- The relation of text and content, and the walk that computes it.
-use Rattle.std.proofs.Common.{◌≡◌, ◌≢◌, ℕ, ◌+◌, ◌<◌, ◌≤◌, ◌==◌, Bool, true, false, List, [], ◌∷◌, ◌++◌, length, get_or, drop, Option, Some, None, refl, sym, ap, ◌∙◌, append_assoc, subst, inl, inr, bit_xor, arith}
+use Rattle.std.proofs.Common.{◌≡◌, ◌≢◌, ℕ, ◌==◌, Bool, true, false, List, [], ◌∷◌, Option, Some, None, refl, sym, ap, ◌∙◌, subst, inl, inr, bit_xor, arith}
 use Rattle.std.specs.Option.{option_map}
 use Rattle.std.proofs.lemmas.Bool.{eq-eqb}
 use Rattle.std.proofs.lemmas.Bool.Decides.{eqb_tells}
-use Rattle.std.proofs.lemmas.List.{append-nil, at_drop_more, drop_all}
 use Rattle.hdlc_frame.specs.declared.octets.TheConstants.{ESCAPE, ESCAPE_BIT, FLAG}
 use Rattle.hdlc_frame.specs.Content.{StandsFor, unescaped}
 use Rattle.hdlc_frame.specs.Content.StandsFor.{nothing, itself, escaped}
@@ -110,99 +109,3 @@ walk_stands (octet ∷ next ∷ text) content h =
                 subst P (sym found.2) (itself octet (next ∷ text) found.0 w.1 v.1 (walk_stands (next ∷ text) found.0 found.1))
           ]
     ]
-
--- how far a text was read: what was appended since, and what the rest of the text adds to it
-pub record ReadTo (before text out : List ℕ) (is_escaped : Bool) (i : ℕ) : Type 0 where
-  pub more : List ℕ
-  pub grown : out ≡ before ++ more
-  pub read : unescaped false text ≡ option_map (λ content. more ++ content) (unescaped is_escaped (drop i text))
-
-same : (found : Option (List ℕ)) → found ≡ option_map (λ content. [] ++ content) found
-same None = refl
-same (Some content) = refl
-
-pub read_none : (before text : List ℕ) → ReadTo before text before false 0
-read_none before text = record { more = []; grown = sym (append-nil before); read = same (unescaped false text) }
-
-nothing_more : (more : List ℕ) (found : Option (List ℕ)) → found ≡ None → option_map (λ content. more ++ content) found ≡ None
-nothing_more more found e = ap (option_map (λ content. more ++ content)) e
-
-one_more :
-    (more : List ℕ) (x : ℕ) (found : Option (List ℕ)) →
-    option_map (λ content. more ++ content) (option_map (λ content. x ∷ content) found) ≡
-    option_map (λ content. (more ++ x ∷ []) ++ content) found
-one_more more x None = refl
-one_more more x (Some content) = ap Some (sym (append_assoc more (x ∷ []) content))
-
--- one octet more
-next_octet : (is_escaped : Bool) (text : List ℕ) (i : ℕ) → i < length text → unescaped is_escaped (drop i text) ≡ unescaped is_escaped (get_or text i 0 ∷ drop (i + 1) text)
-next_octet is_escaped text i h = at_drop_more (unescaped is_escaped) text i 0 h
-
-pub read_flag :
-    (before text out : List ℕ) (is_escaped : Bool) (i : ℕ) → i < length text → ReadTo before text out is_escaped i →
-    get_or text i 0 ≡ FLAG → unescaped false text ≡ None
-read_flag before text out is_escaped i h r is =
-    r.read ∙ nothing_more r.more _ (next_octet is_escaped text i h ∙ walk_flag is_escaped (get_or text i 0) (drop (i + 1) text) is)
-
-pub read_twice :
-    (before text out : List ℕ) (i : ℕ) → i < length text → ReadTo before text out true i →
-    get_or text i 0 ≡ ESCAPE → unescaped false text ≡ None
-read_twice before text out i h r is =
-    r.read ∙ nothing_more r.more _ (next_octet true text i h ∙ walk_twice (get_or text i 0) (drop (i + 1) text) is)
-
-pub read_escape :
-    (before text out : List ℕ) (i : ℕ) → i < length text → ReadTo before text out false i →
-    get_or text i 0 ≡ ESCAPE → ReadTo before text out true (i + 1)
-read_escape before text out i h r is = record {
-  more = r.more;
-  grown = r.grown;
-  read = r.read ∙ ap (option_map (λ content. r.more ++ content)) (next_octet false text i h ∙ walk_escape (get_or text i 0) (drop (i + 1) text) is);
-}
-
-grown_more : (before more out : List ℕ) (x : ℕ) → out ≡ before ++ more → out ++ x ∷ [] ≡ before ++ (more ++ x ∷ [])
-grown_more before more out x e = ap (λ l. l ++ x ∷ []) e ∙ append_assoc before more (x ∷ [])
-
-pub read_itself :
-    (before text out : List ℕ) (i : ℕ) → i < length text → ReadTo before text out false i →
-    get_or text i 0 ≢ FLAG → get_or text i 0 ≢ ESCAPE → ReadTo before text (out ++ get_or text i 0 ∷ []) false (i + 1)
-read_itself before text out i h r f e = let x = get_or text i 0 in record {
-  more = r.more ++ x ∷ [];
-  grown = grown_more before r.more out x r.grown;
-  read =
-      r.read ∙ ap (option_map (λ content. r.more ++ content)) (next_octet false text i h ∙ walk_itself x (drop (i + 1) text) f e) ∙
-      one_more r.more x (unescaped false (drop (i + 1) text));
-}
-
-pub read_escaped :
-    (before text out : List ℕ) (i : ℕ) → i < length text → ReadTo before text out true i →
-    get_or text i 0 ≢ FLAG → get_or text i 0 ≢ ESCAPE → ReadTo before text (out ++ bit_xor (get_or text i 0) ESCAPE_BIT ∷ []) false (i + 1)
-read_escaped before text out i h r f e = let x = bit_xor (get_or text i 0) ESCAPE_BIT in record {
-  more = r.more ++ x ∷ [];
-  grown = grown_more before r.more out x r.grown;
-  read =
-      r.read ∙ ap (option_map (λ content. r.more ++ content)) (next_octet true text i h ∙ walk_escaped (get_or text i 0) (drop (i + 1) text) f e) ∙
-      one_more r.more x (unescaped false (drop (i + 1) text));
-}
-
--- at the end of the text
-pub read_all :
-    (before text out : List ℕ) (i : ℕ) → length text ≤ i → ReadTo before text out false i →
-    (content : List ℕ) × (unescaped false text ≡ Some content) × (out ≡ before ++ content)
-read_all before text out i h r = (
-  r.more,
-  r.read ∙ ap (λ x. option_map (λ content. r.more ++ content) (unescaped false x)) (drop_all i text h) ∙
-      ap (option_map (λ content. r.more ++ content)) walk_end ∙ ap Some (append-nil r.more),
-  r.grown,
-)
-
-pub read_cut :
-    (before text out : List ℕ) (i : ℕ) → length text ≤ i → ReadTo before text out true i → unescaped false text ≡ None
-read_cut before text out i h r =
-    r.read ∙ nothing_more r.more _ (ap (unescaped true) (drop_all i text h) ∙ walk_cut)
-
-pub moved :
-    (before text out out2 : List ℕ) (e e2 : Bool) (i : ℕ) → out ≡ out2 → e ≡ e2 → ReadTo before text out e i → ReadTo before text out2 e2 i
-moved before text out out2 e e2 i same_out same_e r =
-    let P : List ℕ → Type 0 = λ x. ReadTo before text x e i in
-    let Q : Bool → Type 0 = λ x. ReadTo before text out2 x i in
-    subst Q same_e (subst P same_out r)

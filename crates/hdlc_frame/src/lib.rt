@@ -24,4 +24,3 @@ pub use found::{Bad, Frame, Got, Pushed};
 pub use judge::SHORTEST_CONTENT;
 pub use octets::{ESCAPE, ESCAPE_BIT, FLAG, UI_CONTROL};
 pub use pieces::{Decoded, decode_pieces};
-pub use text::content_of;

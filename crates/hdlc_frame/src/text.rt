@@ -1,58 +1,10 @@
-//! The text between two flags, and the content that it stands for (RFC 1662, section 4.2).
+//! The text between two flags, as the writer makes it of a content (RFC 1662, section 4.2).
 
-ghost use Rattle.std.specs.Prelude.{◌≡◌, ◌++◌, OnOk, OnErr, List, ℕ, true, false};
-ghost use Rattle.hdlc_frame.specs.Content.{StandsFor, unescaped};
+ghost use Rattle.std.specs.Prelude.{◌≡◌, ◌++◌, OnOk, List, ℕ};
 ghost use Rattle.hdlc_frame.specs.Encoded.{text_of, text_of_octet};
 
 use crate::octets::{ESCAPE, ESCAPE_BIT, FLAG};
 use std::alloc::AllocError;
-
-/// Appends to `out` the content that `text` stands for, and answers `true`; `false` where it stands for none: a flag
-/// is in it, or an escape with no octet behind it that may be escaped.
-pub fn content_of(text: &[u8], out: &mut Vec<u8>) -> Result<bool, AllocError>
-    ensures stands { result ≡ Ok true → (content : List ℕ) × StandsFor text.now content × (out.new.items ≡ out.old.items ++ content) }
-    ensures none { result ≡ Ok false → (content : List ℕ) → StandsFor text.now content → ⊥ }
-    ensures unchanged { result ≡ Ok false → out.new.items ≡ out.old.items }
-    ensures err { OnErr result (out.new.items ≡ out.old.items) }
-{
-    let start = out.len();
-    match push_content(text, out) {
-        Ok(true) => Ok(true),
-        Ok(false) => {
-            out.truncate(start);
-            Ok(false)
-        }
-        Err(error) => {
-            out.truncate(start);
-            Err(error)
-        }
-    }
-}
-
-fn push_content(text: &[u8], out: &mut Vec<u8>) -> Result<bool, AllocError>
-    ensures stands { result ≡ Ok true → (content : List ℕ) × (unescaped false text.now ≡ Some content) × (out.new.items ≡ out.old.items ++ content) }
-    ensures none { result ≡ Ok false → unescaped false text.now ≡ None }
-    ensures kept { (more : List ℕ) × (out.new.items ≡ out.old.items ++ more) }
-{
-    let mut is_escaped = false;
-    for octet in text {
-        if *octet == FLAG {
-            return Ok(false);
-        }
-        if is_escaped {
-            if *octet == ESCAPE {
-                return Ok(false);
-            }
-            out.push(*octet ^ ESCAPE_BIT)?;
-            is_escaped = false;
-        } else if *octet == ESCAPE {
-            is_escaped = true;
-        } else {
-            out.push(*octet)?;
-        }
-    }
-    Ok(!is_escaped)
-}
 
 /// Appends the text that stands for `content`: flags and escapes are escaped, and nothing else.
 #[tactic(auto, unfolding(crate::specs::Encoded::text_of))]

@@ -1,4 +1,3 @@
-pub mod Canonical
 pub mod Hearing
 pub mod Message
 pub mod PacketType

@@ -4,7 +4,6 @@
 #![tactic(auto)]
 
 mod call_name;
-mod canonical;
 mod field_number;
 mod owned;
 mod packet_ref;
@@ -13,7 +12,6 @@ mod packet_type;
 mod tests;
 
 pub use call_name::CallName;
-pub use canonical::of_spelling;
 pub use owned::Packet;
 pub use packet_ref::PacketRef;
 pub use packet_type::PacketType;

@@ -1,0 +1,3 @@
+pub mod FirstStates
+pub mod LawLemmas
+pub mod Limits

@@ -1,0 +1,10 @@
+pub mod Answers
+pub mod Chat
+pub mod Count
+pub mod DemoCall
+pub mod DemoRule
+pub mod Echo
+pub mod Laws
+pub mod Methods
+pub mod ReadBack
+pub mod Sum

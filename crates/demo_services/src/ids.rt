@@ -1,0 +1,28 @@
+//! The ids of the service and of its methods, as packets carry them: the hashes of their names.
+ghost use Rattle.std.specs.Prelude.{◌≡◌, codes};
+ghost use Rattle.rpc_ids.specs.Names.{name_id};
+
+/// The service `demo.Demo`.
+pub const DEMO: u32 = 0x70f4_5cfb;
+
+/// The method Echo.
+pub const ECHO: u32 = 0x8b47_0ee9;
+
+/// The method Count.
+pub const COUNT: u32 = 0xb636_13b6;
+
+/// The method Sum.
+pub const SUM: u32 = 0x0957_0bb8;
+
+/// The method Chat.
+pub const CHAT: u32 = 0x9ba9_81bc;
+
+#[tactic(auto, unfolding(rpc_ids::specs::Names::name_id))]
+/// Each id is that of its name. The function does nothing: what counts is its contract.
+pub fn ids_are_of_names()
+    ensures demo { DEMO ≡ name_id (codes "demo.Demo") }
+    ensures echo { ECHO ≡ name_id (codes "Echo") }
+    ensures count { COUNT ≡ name_id (codes "Count") }
+    ensures sum { SUM ≡ name_id (codes "Sum") }
+    ensures chat { CHAT ≡ name_id (codes "Chat") }
+{}

@@ -1,0 +1,27 @@
+//! The service `demo.Demo`, with a method of each kind: Echo, Count, Sum and Chat.
+//!
+//! Give `DemoMaker` and the registry of `demo_registry` to a server. A call of the service is a `DemoCall`; what its
+//! methods answer is stated in `specs/`, a definition for each.
+#![tactic(auto)]
+
+mod answers;
+mod call;
+mod chat;
+mod count;
+mod echo;
+pub mod ids;
+pub mod laws;
+mod maker;
+mod registry;
+mod sum;
+
+pub use call::DemoCall;
+pub use chat::Chat;
+pub use count::{Count, MAX_COUNT};
+pub use echo::Echo;
+pub use maker::DemoMaker;
+pub use registry::demo_registry;
+pub use sum::Sum;
+
+#[cfg(test)]
+mod tests;

@@ -1,0 +1,3 @@
+pub mod Fun
+pub mod HandlerRule
+pub mod Limits

@@ -1,0 +1,67 @@
+//! A handler of a stored closure, asked here and on another thread.
+ghost use Rattle.std.specs.Prelude.{◌≡◌, [], ◌∷◌, ◌++◌, IfOk, None};
+ghost use Rattle.rpc_handlers.specs.Fun.{IsByRule};
+
+use super::*;
+use bytes::Bytes;
+use rpc_ids::{MethodRef, Status};
+use std::alloc::{AllocError, Global};
+use std::test::Fail;
+use std::thread::join;
+
+/// Counts the events: each adds a word to the state. It answers nothing.
+#[derive(Drop)]
+struct CountsEvents;
+
+impl Rule for CountsEvents {
+    ghost answer = { λ _ _. record { items = []; end = None } };
+
+    ghost next = { λ m _. record m { words = m.words ++ 1 ∷ [] } };
+
+    ghost first = { λ seed _. seed };
+}
+
+fn count_event(alloc: Global, m: &Memo) -> Result<(Answer, Memo), AllocError>
+    ensures { IfOk result (λ given. (given.0.items ≡ []) × (given.0.end ≡ None) × (given.1 ≡ record m.now { words = m.now.words ++ 1 ∷ [] })) }
+{
+    let mut next = m.clone()?;
+    next.words.push(1)?;
+    let answer = Answer {
+        items: Outs::new(alloc),
+        end: None,
+    };
+    Ok((answer, next))
+}
+
+#[test]
+fn a_stored_closure_is_asked_on_two_threads(rt: HostRuntime) -> Result<(), Fail> {
+    let alloc = rt.alloc();
+    let first = Memo {
+        words: Words::new(alloc),
+        parts: Parts::new(alloc),
+    };
+    let mut counter: Fun<_, CountsEvents> = Fun::new(
+        move |m: &Memo, _ev: &Event| count_event(alloc, m),
+        first,
+    );
+    assert!(rt; counter.on(&Event::Completion)?.end.is_none());
+    let moved = join(&rt, move || counter.memo(), || ());
+    assert_eq!(rt; moved.0?.words.as_slice(), [1u64].as_slice());
+    Ok(())
+}
+
+#[test]
+fn lists_and_makers_at_work(rt: HostRuntime) -> Result<(), Fail> {
+    let alloc = rt.alloc();
+    let mut outs = Outs::new(alloc);
+    outs.push(Out::Say(Bytes::from_static(b"hi")))?;
+    outs.push(Out::Commit { session: 1 })?;
+    assert_eq!(rt; outs.clone()?.as_slice().len(), 2);
+    let mut parts = Parts::new(alloc);
+    parts.push(Bytes::from_static(b"part"))?;
+    assert_eq!(rt; parts.as_slice().len(), 1);
+    let nobody: Nobody<Fun<fn(&Memo, &Event) -> Result<(Answer, Memo), AllocError>, CountsEvents>> =
+        Nobody::new(alloc);
+    assert!(rt; nobody.seed()?.words.as_slice().is_empty());
+    Ok(())
+}

@@ -1,0 +1,4 @@
+pub mod CutLemmas
+pub mod CutLaws
+pub mod AnswerLemmas
+pub mod RunLaws

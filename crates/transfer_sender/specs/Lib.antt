@@ -1,0 +1,4 @@
+pub mod Sender
+pub mod Cut
+pub mod Answer
+pub mod Run
