@@ -7,5 +7,8 @@ pub mod ItemLemmas
 pub mod KnownLemmas
 pub mod PacketLemmas
 pub mod LegalLemmas
+pub mod PlaceLemmas
 pub mod Push
 pub mod RunLemmas
+pub mod TableLemmas
+pub mod TellLemmas

@@ -5,11 +5,15 @@
 #![tactic(auto)]
 
 mod answers;
+mod arrival_move;
+mod call_state;
+mod call_states;
 mod entry;
 mod fault;
 mod item;
 mod journal;
 pub mod laws;
+
 mod setting;
 mod waiting;
 
@@ -17,10 +21,13 @@ pub use answers::{
     ArriveRefused, Arrived, Cancelled, InvokeRefused, ReplaceRefused, SayRefused, StartOfRefused,
     StartRefused,
 };
+pub use call_state::{CallState, MAX_UNFLUSHED, MAX_WAITING};
+pub use call_states::CallStates;
 pub use entry::{Entry, EntryKind, MAX_ENTRIES};
 pub use fault::{Broken, Fault};
 pub use item::{Act, Item};
 pub use journal::Journal;
+pub use arrival_move::{Move, server_move};
 pub use setting::Setting;
 pub use waiting::Waiting;
 

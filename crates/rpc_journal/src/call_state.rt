@@ -1,0 +1,155 @@
+//! What a history says of one call.
+ghost use Rattle.std.specs.Prelude.{◌≡◌, ◌≢◌, ◌+◌, ◌<◌, ◌≤◌, count_by, not, length, IsTrue, Some, None, false, true, is_some};
+ghost use Rattle.std.specs.List.{list_any};
+ghost use Rattle.std.specs.VecDeque.{deque_len, deque_capacity};
+ghost use Rattle.rpc_handlers.specs.declared.event.Event.{Event};
+ghost use Rattle.rpc_journal.specs.Marks.{is_empty};
+ghost use Rattle.rpc_journal.specs.Queues.{is_ended, is_tick};
+ghost use Rattle.rpc_journal.specs.Touch.{IsTouched, untouched, starting, finishing, cancelling, closing, putting, is_startable, wants_time};
+
+use crate::waiting::Waiting;
+use rpc_handlers::Event;
+use rpc_ids::{MethodRef, Status};
+use rpc_packet::CallName;
+use std::collections::VecDeque;
+
+/// How many messages can wait for a call.
+pub const MAX_WAITING: usize = 64;
+
+/// How many items can wait to be flushed before no run begins.
+pub const MAX_UNFLUSHED: u64 = 65_536;
+
+/// What a history says of one call.
+#[derive(Debug, Drop)]
+pub struct CallState {
+    pub name: CallName,
+    pub method: MethodRef,
+    /// How the call ended.
+    pub status: Option<Status>,
+    /// A `Cancel` of the call is there.
+    pub cancelled: bool,
+    /// The client's stream was completed, at a server.
+    pub completed: bool,
+    /// The client's stream was completed, at a client.
+    pub done: bool,
+    /// The seat that runs the call.
+    pub run: Option<u32>,
+    /// The last run took an `Ended`, so that its answer isn't heard.
+    pub took_end: bool,
+    /// The events that wait, the oldest first.
+    pub waiting: VecDeque<Waiting>,
+}
+
+impl CallState {
+    /// Whether a run can begin, where so many items wait to be flushed.
+    pub fn is_ready(&self, unflushed: u64, halted: bool) -> bool
+        ensures { result ≡ is_startable self.now unflushed halted }
+    {
+        !self.waiting.is_empty()
+            && self.run.is_none()
+            && !self.cancelled
+            && unflushed < MAX_UNFLUSHED
+            && !halted
+    }
+
+    /// How many events other than `Ended` wait.
+    pub fn messages(&self) -> usize
+        ensures { result ≡ count_by (λ w. not (is_ended w.event)) self.now.waiting.items }
+    {
+        self.waiting.iter().filter(|w| !is_ended(&w.event)).count()
+    }
+
+    /// Whether the call is to be told of the time.
+    pub fn wants_tick(&self) -> bool
+        ensures { result ≡ wants_time self.now }
+    {
+        self.method.ticks
+            && self.status.is_none()
+            && !self.awaits_tick()
+            && self.waiting.len() < MAX_WAITING
+    }
+
+    // Whether a Tick waits.
+    fn awaits_tick(&self) -> bool
+        ensures { result ≡ list_any (λ w. is_tick w.event) self.now.waiting.items }
+    {
+        self.waiting.iter().any(|w| is_tick(&w.event))
+    }
+
+    /// A run of this seat begins, with the oldest event that waits.
+    pub fn start(&mut self, seat: u32) -> Waiting
+        requires { is_empty self.old.waiting.items ≡ false }
+        ensures state { (at : _) → IsTouched at (starting seat) self.old self.new }
+    {
+        let oldest = self.waiting.pop_front().unwrap();
+        self.took_end = is_ended(&oldest.event);
+        self.run = Some(seat);
+        oldest
+    }
+
+    /// The run ends, and with it the call where its answer gives an end.
+    pub fn finish(&mut self, end: Option<Status>)
+        requires { is_some end ≡ true → self.old.status ≡ None }
+        ensures state { (at : _) → IsTouched at (finishing end) self.old self.new }
+    {
+        self.run = None;
+        if end.is_some() {
+            self.status = end;
+            self.waiting.clear();
+        }
+    }
+
+    /// The call is cancelled.
+    pub fn cancel(&mut self)
+        ensures state { (at : _) → IsTouched at (cancelling self.old.status) self.old self.new }
+    {
+        self.cancelled = true;
+        self.waiting.clear();
+        if self.status.is_none() {
+            self.status = Some(Status::Cancelled);
+        }
+    }
+
+    /// The peer ends the call: what waits goes, and the end waits. There must be room for it.
+    pub fn close(&mut self, at: u64, status: Status)
+        requires open_call { self.old.status ≡ None }
+        requires room { 0 < deque_capacity self.old.waiting }
+        ensures state { IsTouched at (closing status) self.old self.new }
+    {
+        self.status = Some(status);
+        self.waiting.clear();
+        self.waiting.push_back_reserved(Waiting {
+            at,
+            event: Event::Ended(status),
+        });
+    }
+
+    /// An event waits. There must be room for it.
+    pub fn put(&mut self, at: u64, event: Event)
+        requires { deque_len self.old.waiting < deque_capacity self.old.waiting }
+        ensures state { IsTouched at (putting event) self.old self.new }
+    {
+        if let Event::Completion = event {
+            self.completed = true;
+        }
+        self.waiting.push_back_reserved(Waiting { at, event });
+    }
+}
+
+fn is_ended(event: &Event) -> bool
+    ensures { result ≡ is_ended event.now }
+{
+    match event {
+        Event::Ended(_) => true,
+        _ => false,
+    }
+}
+
+fn is_tick(event: &Event) -> bool
+    ensures { result ≡ is_tick event.now }
+{
+    match event {
+        Event::Tick(_) => true,
+        _ => false,
+    }
+}
