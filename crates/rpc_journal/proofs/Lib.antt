@@ -6,9 +6,11 @@ pub mod Examples
 pub mod ItemLemmas
 pub mod KnownLemmas
 pub mod PacketLemmas
+pub mod KnownStates
 pub mod LegalLemmas
 pub mod PlaceLemmas
 pub mod Push
 pub mod RunLemmas
+pub mod StepLemmas
 pub mod TableLemmas
 pub mod TellLemmas

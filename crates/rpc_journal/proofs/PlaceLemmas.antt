@@ -31,6 +31,11 @@ module _ {A : Type 0} where
   get_some (x ∷ xs) zero within = (x, refl)
   get_some (x ∷ xs) (suc k) within = get_some xs k (omega arith)
 
+  pub get_none : (xs : List A) (k : ℕ) → slice_get xs k ≡ None → length xs ≤ k
+  get_none [] k none = omega arith
+  get_none (x ∷ xs) zero none = absurd cc
+  get_none (x ∷ xs) (suc k) none = omega (arith, get_none xs k none)
+
   -- the element that an index reads
   pub get_read : (xs : List A) (k : ℕ) (x : A) → k < length xs → x ≡ get_or xs k x → slice_get xs k ≡ Some x
   get_read xs k x within is = slice_get-get_or xs k x within ∙ ap Some (sym is)

@@ -1,13 +1,21 @@
 //! What a history says of all its calls: a plain table.
-ghost use Rattle.std.specs.Prelude.{◌≡◌, ℕ, ◌<◌, ◌+◌, List, [], ◌∷◌, length, slice_get, Some, None, IfSome, IfNone, IfOk};
+ghost use Rattle.std.specs.Prelude.{◌≡◌, ℕ, ◌<◌, ◌+◌, List, [], ◌∷◌, length, slice_get, Some, None, nat_le, IfSome, option_copied, if◌then◌else◌};
 ghost use Rattle.rpc_packet.specs.declared.call_name.CallName.{CallName};
-ghost use Rattle.rpc_journal.specs.Calls.{live_call, same_name as names_agree};
+ghost use Rattle.rpc_journal.specs.Calls.{call_at, call_count, has_end, is_cancelled, live_call, runner_of, same_name as names_agree};
+ghost use Rattle.rpc_journal.specs.Items.{is_ready};
+ghost use Rattle.rpc_journal.specs.Lawful.{full_among, has_stream};
+ghost use Rattle.rpc_journal.specs.Marks.{streams_down};
+ghost use Rattle.rpc_journal.specs.Moves.{row_of};
+ghost use Rattle.rpc_ids.specs.declared.method.Role.TheVariants.{Server};
+ghost use Rattle.rpc_packet.specs.declared.owned.Packet.{Packet};
 ghost use Rattle.rpc_journal.specs.Effect.{Deed};
-ghost use Rattle.rpc_journal.specs.Queues.{is_completed};
+ghost use Rattle.rpc_journal.specs.Queues.{is_completed, messages_waiting};
 ghost use Rattle.rpc_journal.specs.Tells.{IsOpenAt, Tells};
 
-use crate::call_state::CallState;
+use crate::arrival_move::Move;
+use crate::call_state::{CallState, MAX_WAITING};
 use link_io::Why;
+use rpc_ids::Kind;
 use rpc_packet::CallName;
 use std::alloc::Global;
 
@@ -53,6 +61,95 @@ impl CallStates {
         None
     }
 
+    /// The state of this call.
+    pub fn state(&self, call: u32) -> Option<&CallState>
+        ensures { option_copied result ≡ slice_get self.now.calls.items call }
+    {
+        self.state_at(call as usize)
+    }
+
+    fn state_at(&self, call: usize) -> Option<&CallState>
+        ensures { option_copied result ≡ slice_get self.now.calls.items call }
+    {
+        self.calls.get(call)
+    }
+
+    /// Whether a run of this call can begin.
+    pub fn is_ready(&self, call: u32) -> bool
+        ensures { (ds : List Deed) → Tells ds self.now → result ≡ is_ready ds call }
+    {
+        match self.state(call) {
+            Some(state) => state.is_ready(self.unflushed, self.halted.is_some()),
+            None => false,
+        }
+    }
+
+    /// The seat that runs this call.
+    pub fn runner(&self, call: u32) -> Option<u32>
+        ensures { (ds : List Deed) → Tells ds self.now → result ≡ runner_of ds call }
+    {
+        match self.state(call) {
+            Some(state) => state.run,
+            None => None,
+        }
+    }
+
+    /// Whether this call has an end.
+    pub fn has_end(&self, call: u32) -> bool
+        ensures { (ds : List Deed) → Tells ds self.now → result ≡ has_end ds call }
+    {
+        match self.state(call) {
+            Some(state) => state.status.is_some(),
+            None => false,
+        }
+    }
+
+    /// Whether this call was cancelled.
+    pub fn is_cancelled(&self, call: u32) -> bool
+        ensures { (ds : List Deed) → Tells ds self.now → result ≡ is_cancelled ds call }
+    {
+        match self.state(call) {
+            Some(state) => state.cancelled,
+            None => false,
+        }
+    }
+
+    /// Whether the method of this call has a stream from the server.
+    pub fn has_stream(&self, call: u32) -> bool
+        ensures { (ds : List Deed) → Tells ds self.now → result ≡ has_stream Server (call_at ds call) }
+    {
+        match self.state(call) {
+            Some(state) => streams_down(state.method.kind),
+            None => false,
+        }
+    }
+
+    /// The call for which an arrival would wait, and which has no place for it.
+    pub fn full_queue(&self, arrival: Move) -> Option<usize>
+        ensures { (ds : List Deed) (p : Packet) → Tells ds self.now → result ≡ full_among ds (row_of arrival p (call_count ds)).does.puts }
+    {
+        match arrival {
+            Move::Queue(c) | Move::Complete(c) => self.full_at(c),
+            _ => None,
+        }
+    }
+
+    // This call, where it has no place for a message.
+    fn full_at(&self, call: usize) -> Option<usize>
+        ensures { (ds : List Deed) → Tells ds self.now → result ≡ (if nat_le 64 (messages_waiting ds call) then Some call else None) }
+    {
+        match self.state_at(call) {
+            Some(state) => {
+                if state.messages() >= MAX_WAITING {
+                    Some(call)
+                } else {
+                    None
+                }
+            }
+            None => None,
+        }
+    }
+
     /// Whether the client's stream of this call, where there is one, was completed.
     pub fn is_completed(&self, call: Option<usize>) -> bool
         requires { IfSome call (λ c. IsOpenAt self.now.calls.items c) }
@@ -62,6 +159,15 @@ impl CallStates {
             None => false,
             Some(c) => self.calls[c].completed,
         }
+    }
+}
+
+fn streams_down(kind: Kind) -> bool
+    ensures { result ≡ streams_down kind }
+{
+    match kind {
+        Kind::ServerStream | Kind::Bidi => true,
+        Kind::Unary | Kind::ClientStream => false,
     }
 }
 

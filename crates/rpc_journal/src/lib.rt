@@ -12,6 +12,7 @@ mod entry;
 mod fault;
 mod item;
 mod journal;
+mod judge;
 pub mod laws;
 
 mod setting;
@@ -27,6 +28,7 @@ pub use entry::{Entry, EntryKind, MAX_ENTRIES};
 pub use fault::{Broken, Fault};
 pub use item::{Act, Item};
 pub use journal::Journal;
+pub use judge::{broken_rule, is_past_limits};
 pub use arrival_move::{Move, server_move};
 pub use setting::Setting;
 pub use waiting::Waiting;
