@@ -1,8 +1,10 @@
 pub mod Allowed
 pub mod ChangeLemmas
+pub mod DeedLemmas
 pub mod DemoTable
 pub mod EndLemmas
 pub mod Examples
+pub mod FinishLemmas
 pub mod ItemLemmas
 pub mod KnownLemmas
 pub mod PacketLemmas
@@ -13,4 +15,5 @@ pub mod Push
 pub mod RunLemmas
 pub mod StepLemmas
 pub mod TableLemmas
+pub mod TableSteps
 pub mod TellLemmas

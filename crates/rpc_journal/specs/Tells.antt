@@ -1,11 +1,14 @@
 -- What a plain table of calls tells of a history.
-use Rattle.std.specs.Prelude.{◌≡◌, ℕ, ◌+◌, ◌<◌, ◌≤◌, false, List, [], length, slice_get, Option, Some, None, option_to_list}
+use Rattle.std.specs.Prelude.{◌≡◌, ℕ, ◌+◌, ◌^◌, ◌<◌, ◌≤◌, false, List, [], length, slice_get, Option, Some, None, option_to_list}
+use Rattle.rpc_handlers.specs.declared.answer.Answer.{Answer}
+use Rattle.rpc_journal.specs.Touch.{items_given}
 use Rattle.rpc_journal.specs.declared.call_state.CallState.{CallState}
 use Rattle.rpc_journal.specs.declared.call_states.CallStates.{CallStates}
 use Rattle.rpc_journal.specs.Calls.{call_count, call_at, ends_of, is_cancelled, runner_of}
 use Rattle.rpc_journal.specs.Effect.{Opening, Deed}
 use Rattle.rpc_journal.specs.Entries.{was_ended}
 use Rattle.rpc_journal.specs.Items.{flush_count, halt_reason, input_ended, is_done, items_sent}
+use Rattle.rpc_journal.specs.Marks.{is_empty}
 use Rattle.rpc_journal.specs.Queues.{waiting_of, taken_event, puts_since, starts_since, is_completed}
 
 -- the state is of a call that opened so
@@ -54,3 +57,18 @@ pub record Tells (ds : List Deed) (t : CallStates) : Type 0 where
 pub record IsOpenAt (states : List CallState) (c : ℕ) : Type 0 where
   pub within : c < length states
   pub unended : (r : CallState) → slice_get states c ≡ Some r → r.status ≡ None
+
+-- call c is there, and an event waits for it
+pub record CanStart (states : List CallState) (c : ℕ) : Type 0 where
+  pub within : c < length states
+  pub waits : (r : CallState) → slice_get states c ≡ Some r → is_empty r.waiting.items ≡ false
+
+-- call c is there, and its table can count the items of this answer
+pub record CanFinish (t : CallStates) (c : ℕ) (a : Answer) : Type 0 where
+  pub within : c < length t.calls.items
+  pub room : (r : CallState) → slice_get t.calls.items c ≡ Some r → t.unflushed + items_given r a < 2 ^ 64
+
+-- call c is there, and its table can count two more items
+pub record CanCancel (t : CallStates) (c : ℕ) : Type 0 where
+  pub within : c < length t.calls.items
+  pub room : t.unflushed + 2 < 2 ^ 64

@@ -1,8 +1,11 @@
 -- What one entry does to one call, and to what a plain table keeps of it.
-use Rattle.std.specs.Prelude.{◌≡◌, ℕ, Bool, true, false, not, ◌&&◌, ◌||◌, nat_lt, List, [], ◌∷◌, ◌++◌, length, map, drop, slice_get, Option, Some, None, is_some, is_none, option_to_list, if◌then◌else◌}
+use Rattle.std.specs.Prelude.{◌≡◌, ℕ, Bool, true, false, not, ◌&&◌, ◌||◌, nat_lt, List, [], ◌∷◌, ◌++◌, length, map, drop, slice_get, Option, Some, None, is_some, is_none, option_to_list, option_map, count_by, ◌+◌, if◌then◌else◌}
 use Rattle.std.specs.List.{list_any}
 use Rattle.rpc_ids.specs.declared.status.Status.{Status}
 use Rattle.rpc_ids.specs.declared.status.Status.TheVariants.{Cancelled}
+use Rattle.rpc_handlers.specs.declared.answer.Answer.{Answer}
+use Rattle.rpc_handlers.specs.declared.answer.Out.{Out}
+use Rattle.rpc_handlers.specs.declared.answer.Out.TheVariants.{Say}
 use Rattle.rpc_handlers.specs.declared.event.Event.{Event}
 use Rattle.rpc_handlers.specs.declared.event.Event.TheVariants.{Ended}
 use Rattle.rpc_journal.specs.declared.waiting.Waiting.{Waiting}
@@ -11,7 +14,7 @@ use Rattle.rpc_journal.specs.Calls.{of_call, is_start_of, is_finish_of, is_cance
 use Rattle.rpc_journal.specs.Effect.{Deed}
 use Rattle.rpc_journal.specs.Entries.{was_ended}
 use Rattle.rpc_journal.specs.Items.{is_for, sends_completion}
-use Rattle.rpc_journal.specs.Marks.{is_empty, or_else}
+use Rattle.rpc_journal.specs.Marks.{is_empty, or_else, streams_down}
 use Rattle.rpc_journal.specs.Queues.{is_completion, is_tick, drops_of}
 
 -- what one entry does to one call: the seat that starts it, whether its run ends, whether it is cancelled, whether this
@@ -85,3 +88,29 @@ is_startable r unflushed halted =
 abbrev pub wants_time : CallState → Bool
 wants_time r =
     r.method.ticks && is_none r.status && not (list_any (λ w. is_tick w.event) r.waiting.items) && nat_lt (length r.waiting.items) 64
+
+-- the answer of the call's run is heard: the call has no end, and the run didn't take an Ended
+abbrev pub hears_answer : CallState → Bool
+hears_answer r = is_none r.status && not r.took_end
+
+-- the messages of the answer go out from a server
+abbrev pub says_messages : CallState → Bool
+says_messages r = hears_answer r && streams_down r.method.kind
+
+-- the end that the answer of the call's run gives it
+abbrev pub end_given : CallState → Answer → Option Status
+end_given r a = if not r.cancelled && hears_answer r then option_map (λ end. end.status) a.end else None
+
+abbrev pub is_message : Out → Bool
+is_message (Say payload) = true
+is_message _ = false
+
+-- how many items the answer of the call's run adds, at a server
+abbrev pub items_given : CallState → Answer → ℕ
+items_given r a =
+    if r.cancelled then 1
+    else count_by (λ out. not (is_message out) || says_messages r) a.items + (if hears_answer r && is_some a.end then 1 else 0)
+
+-- how many items a cancel of the call adds
+abbrev pub items_of_cancel : CallState → ℕ
+items_of_cancel r = (if is_some r.status then 0 else 1) + (if is_some r.run then 0 else 1)

@@ -1,15 +1,15 @@
 //! What a history says of one call.
-ghost use Rattle.std.specs.Prelude.{◌≡◌, ◌≢◌, ◌+◌, ◌<◌, ◌≤◌, count_by, not, length, IsTrue, Some, None, false, true, is_some};
+ghost use Rattle.std.specs.Prelude.{◌≡◌, ◌≢◌, ◌+◌, ◌^◌, ◌||◌, ◌<◌, ◌≤◌, count_by, not, length, IsTrue, Some, None, false, true, is_some, ◌∷◌};
 ghost use Rattle.std.specs.List.{list_any};
 ghost use Rattle.std.specs.VecDeque.{deque_len, deque_capacity};
 ghost use Rattle.rpc_handlers.specs.declared.event.Event.{Event};
-ghost use Rattle.rpc_journal.specs.Marks.{is_empty};
+ghost use Rattle.rpc_journal.specs.Marks.{is_empty, streams_down};
 ghost use Rattle.rpc_journal.specs.Queues.{is_ended, is_tick};
-ghost use Rattle.rpc_journal.specs.Touch.{IsTouched, untouched, starting, finishing, cancelling, closing, putting, is_startable, wants_time};
+ghost use Rattle.rpc_journal.specs.Touch.{IsTouched, untouched, starting, finishing, cancelling, closing, putting, is_startable, wants_time, hears_answer, end_given, items_given, items_of_cancel, is_message};
 
 use crate::waiting::Waiting;
-use rpc_handlers::Event;
-use rpc_ids::{MethodRef, Status};
+use rpc_handlers::{Answer, Event, Out};
+use rpc_ids::{Kind, MethodRef, Status};
 use rpc_packet::CallName;
 use std::collections::VecDeque;
 
@@ -76,10 +76,57 @@ impl CallState {
         self.waiting.iter().any(|w| is_tick(&w.event))
     }
 
+    /// Whether the answer of the call's run is heard: the call has no end, and the run didn't take an `Ended`.
+    pub fn hears_answer(&self) -> bool
+        ensures { result ≡ hears_answer self.now }
+    {
+        self.status.is_none() && !self.took_end
+    }
+
+    /// The end that this answer of the call's run gives it.
+    pub fn end_given(&self, a: &Answer) -> Option<Status>
+        ensures { result ≡ end_given self.now a.now }
+    {
+        if self.cancelled || !self.hears_answer() {
+            return None;
+        }
+        match &a.end {
+            Some(end) => Some(end.status),
+            None => None,
+        }
+    }
+
+    /// How many items this answer of the call's run adds, at a server.
+    pub fn items_given(&self, a: &Answer) -> u64
+        ensures { result ≡ items_given self.now a.now }
+    {
+        if self.cancelled {
+            return 1;
+        }
+        let heard = self.hears_answer();
+        let says = heard && streams_down(self.method.kind);
+        let items = items_of(a, says);
+        if heard && a.end.is_some() {
+            items + 1
+        } else {
+            items
+        }
+    }
+
+    /// How many items a cancel of the call adds.
+    pub fn items_of_cancel(&self) -> u64
+        ensures { result ≡ items_of_cancel self.now }
+    {
+        let told = if self.status.is_some() { 0u64 } else { 1 };
+        let left = if self.run.is_some() { 0u64 } else { 1 };
+        told + left
+    }
+
     /// A run of this seat begins, with the oldest event that waits.
     pub fn start(&mut self, seat: u32) -> Waiting
         requires { is_empty self.old.waiting.items ≡ false }
         ensures state { (at : _) → IsTouched at (starting seat) self.old self.new }
+        ensures oldest { self.old.waiting.items ≡ result ∷ self.new.waiting.items }
     {
         let oldest = self.waiting.pop_front().unwrap();
         self.took_end = is_ended(&oldest.event);
@@ -133,6 +180,37 @@ impl CallState {
             self.completed = true;
         }
         self.waiting.push_back_reserved(Waiting { at, event });
+    }
+}
+
+// How many items of an answer go out, where its messages do or don't.
+fn items_of(a: &Answer, says: bool) -> u64
+    ensures items { result ≡ count_by (λ out. not (is_message out) || says) a.now.items }
+    ensures bound { result < 2 ^ 63 }
+{
+    a.items
+        .as_slice()
+        .iter()
+        .filter(|out| !is_message(out) || says)
+        .count() as u64
+}
+
+fn is_message(out: &Out) -> bool
+    ensures { result ≡ is_message out.now }
+{
+    match out {
+        Out::Say(_) => true,
+        _ => false,
+    }
+}
+
+/// Whether the server sends a stream of messages.
+pub fn streams_down(kind: Kind) -> bool
+    ensures { result ≡ streams_down kind }
+{
+    match kind {
+        Kind::ServerStream | Kind::Bidi => true,
+        Kind::Unary | Kind::ClientStream => false,
     }
 }
 

@@ -4,7 +4,6 @@ ghost use Rattle.rpc_packet.specs.declared.call_name.CallName.{CallName};
 ghost use Rattle.rpc_journal.specs.Calls.{call_at, call_count, has_end, is_cancelled, live_call, runner_of, same_name as names_agree};
 ghost use Rattle.rpc_journal.specs.Items.{is_ready};
 ghost use Rattle.rpc_journal.specs.Lawful.{full_among, has_stream};
-ghost use Rattle.rpc_journal.specs.Marks.{streams_down};
 ghost use Rattle.rpc_journal.specs.Moves.{row_of};
 ghost use Rattle.rpc_ids.specs.declared.method.Role.TheVariants.{Server};
 ghost use Rattle.rpc_packet.specs.declared.owned.Packet.{Packet};
@@ -13,9 +12,8 @@ ghost use Rattle.rpc_journal.specs.Queues.{is_completed, messages_waiting};
 ghost use Rattle.rpc_journal.specs.Tells.{IsOpenAt, Tells};
 
 use crate::arrival_move::Move;
-use crate::call_state::{CallState, MAX_WAITING};
+use crate::call_state::{CallState, MAX_WAITING, streams_down};
 use link_io::Why;
-use rpc_ids::Kind;
 use rpc_packet::CallName;
 use std::alloc::Global;
 
@@ -159,15 +157,6 @@ impl CallStates {
             None => false,
             Some(c) => self.calls[c].completed,
         }
-    }
-}
-
-fn streams_down(kind: Kind) -> bool
-    ensures { result ≡ streams_down kind }
-{
-    match kind {
-        Kind::ServerStream | Kind::Bidi => true,
-        Kind::Unary | Kind::ClientStream => false,
     }
 }
 

@@ -16,6 +16,7 @@ mod judge;
 pub mod laws;
 
 mod setting;
+mod state_changes;
 mod waiting;
 
 pub use answers::{
