@@ -12,15 +12,10 @@ use Rattle.rpc_journal.specs.declared.entry.EntryKind.{EntryKind}
 use Rattle.rpc_journal.specs.declared.entry.EntryKind.TheVariants.{Arrive, Start, Finish, Cancel}
 use Rattle.rpc_journal.specs.Calls.{of_call, is_start_of, is_finish_of, is_cancel_of}
 use Rattle.rpc_journal.specs.Effect.{Effect, Deed}
-use Rattle.rpc_journal.specs.History.{entry_by}
 use Rattle.rpc_journal.specs.Items.{is_for, sends_completion}
 use Rattle.rpc_journal.specs.Queues.{drops_of}
 use Rattle.rpc_journal.specs.Rows.{both, ends_and_clears, no_effect, opens_served, puts_event}
-use Rattle.rpc_journal.specs.Touch.{Touch, Touches, untouched, starting, closing, putting}
-
--- the deed of this seat's entry
-abbrev pub deed_by : ℕ → EntryKind → Effect → Deed
-deed_by seat kind does = record { entry = entry_by seat kind; does = does }
+use Rattle.rpc_journal.specs.Touch.{Touch, Touches, deed_by, untouched, starting, closing, putting}
 
 pub never : {A : Type 0} → false ≡ true → A
 never h = absurd (false≢true h)

@@ -28,7 +28,8 @@ use Rattle.rpc_journal.specs.Queues.{taken_event}
 use Rattle.rpc_journal.specs.Rows.{no_effect, says_item, sends, status_packet}
 use Rattle.rpc_journal.specs.Tells.{TellsOf}
 use Rattle.rpc_journal.specs.Touch.{Touch, Touches, untouched, finishing, cancelling, hears_answer, says_messages, end_given, is_message, items_given, items_of_cancel}
-use Rattle.rpc_journal.proofs.DeedLemmas.{IsIdle, deed_by, never}
+use Rattle.rpc_journal.specs.Touch.{deed_by}
+use Rattle.rpc_journal.proofs.DeedLemmas.{IsIdle, never}
 use Rattle.rpc_journal.proofs.TableLemmas.{ended_is, opening_is}
 use Rattle.rpc_journal.proofs.TableSteps.{TouchesOne}
 

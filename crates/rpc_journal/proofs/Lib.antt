@@ -12,6 +12,7 @@ pub mod KnownStates
 pub mod LegalLemmas
 pub mod PlaceLemmas
 pub mod Push
+pub mod RoomLemmas
 pub mod RunLemmas
 pub mod StepLemmas
 pub mod TableLemmas

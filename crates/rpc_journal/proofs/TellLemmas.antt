@@ -18,7 +18,7 @@ use Rattle.rpc_journal.specs.Queues.{drops_of, is_completion, is_completed, puts
 use Rattle.rpc_journal.specs.Tells.{IsOpening, TellsOf, IsSilentOn}
 use Rattle.rpc_journal.specs.Touch.{Touch, Touches, IsTouched, untouched, put_at, begins_with_end}
 
-opening_same : (r x : CallState) (o : Option Opening) → x.name ≡ r.name → x.method ≡ r.method → IsOpening r o → IsOpening x o
+pub opening_same : (r x : CallState) (o : Option Opening) → x.name ≡ r.name → x.method ≡ r.method → IsOpening r o → IsOpening x o
 opening_same r x None name method is = is
 opening_same r x (Some o) name method is = (is.0 ∙ sym name, is.1 ∙ sym method)
 
@@ -29,7 +29,7 @@ one_end None before after is once = append-nil (option_to_list before) ∙ ap op
 one_end (Some s) before after is once = rw (once refl, is) refl
 
 -- whether a seat starts the call
-starts_is : (b : Bool) (seat : ℕ) (o : Option ℕ) → (if b then Some seat else None) ≡ o → is_some o ≡ b
+pub starts_is : (b : Bool) (seat : ℕ) (o : Option ℕ) → (if b then Some seat else None) ≡ o → is_some o ≡ b
 starts_is true seat o is = ap is_some (sym is)
 starts_is false seat o is = ap is_some (sym is)
 

@@ -8,6 +8,8 @@ use Rattle.rpc_packet.specs.declared.packet_type.PacketType.TheVariants.{ServerE
 use Rattle.rpc_handlers.specs.declared.event.Event.TheVariants.{Message, Completion}
 use Rattle.rpc_journal.specs.declared.arrival_move.Move.{Move}
 use Rattle.rpc_journal.specs.declared.arrival_move.Move.TheVariants.{Drop, Reply, Close, Open, OpenAnew, Queue, Complete}
+use Rattle.rpc_journal.specs.declared.call_state.CallState.{CallState}
+use Rattle.rpc_journal.specs.Tells.{IsOpenAt}
 use Rattle.rpc_journal.specs.declared.setting.Setting.{Setting}
 use Rattle.rpc_journal.specs.Rows.{Row, both, ends_and_clears, opens_served, dropped, replied, queued, closed, opened}
 
@@ -26,3 +28,11 @@ row_of (Open m) p n = opened n (opens_served p m n)
 row_of (OpenAnew m c) p n = opened n (both (ends_and_clears c Cancelled) (opens_served p m n))
 row_of (Queue c) p n = queued c (Message p.payload)
 row_of (Complete c) p n = queued c Completion
+
+-- the call that a move names is there, and has no end
+abbrev pub IsOpenMove : List CallState → Move → Type 0
+IsOpenMove states (Close c s) = IsOpenAt states c
+IsOpenMove states (OpenAnew m c) = IsOpenAt states c
+IsOpenMove states (Queue c) = IsOpenAt states c
+IsOpenMove states (Complete c) = IsOpenAt states c
+IsOpenMove states _ = Unit {0}

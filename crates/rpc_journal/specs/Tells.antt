@@ -1,7 +1,8 @@
 -- What a plain table of calls tells of a history.
 use Rattle.std.specs.Prelude.{◌≡◌, ℕ, ◌+◌, ◌^◌, ◌<◌, ◌≤◌, false, List, [], length, slice_get, Option, Some, None, option_to_list}
+use Rattle.std.specs.VecDeque.{deque_len, deque_capacity}
 use Rattle.rpc_handlers.specs.declared.answer.Answer.{Answer}
-use Rattle.rpc_journal.specs.Touch.{items_given}
+use Rattle.rpc_journal.specs.Touch.{IsSame, items_given}
 use Rattle.rpc_journal.specs.declared.call_state.CallState.{CallState}
 use Rattle.rpc_journal.specs.declared.call_states.CallStates.{CallStates}
 use Rattle.rpc_journal.specs.Calls.{call_count, call_at, ends_of, is_cancelled, runner_of}
@@ -72,3 +73,16 @@ pub record CanFinish (t : CallStates) (c : ℕ) (a : Answer) : Type 0 where
 pub record CanCancel (t : CallStates) (c : ℕ) : Type 0 where
   pub within : c < length t.calls.items
   pub room : t.unflushed + 2 < 2 ^ 64
+
+-- call c is there, and there is room for one more event that waits for it
+pub record HasRoomAt (states : List CallState) (c : ℕ) : Type 0 where
+  pub within : c < length states
+  pub room : (r : CallState) → slice_get states c ≡ Some r → deque_len r.waiting < deque_capacity r.waiting
+
+-- the table is as before, but for the room of its queues
+pub record IsSameTable (before after : CallStates) : Type 0 where
+  pub many : length after.calls.items ≡ length before.calls.items
+  pub each : (c : ℕ) (r x : CallState) → slice_get before.calls.items c ≡ Some r → slice_get after.calls.items c ≡ Some x → IsSame r x
+  pub unflushed : after.unflushed ≡ before.unflushed
+  pub input : after.input_ended ≡ before.input_ended
+  pub halt : after.halted ≡ before.halted

@@ -7,11 +7,15 @@ use Rattle.rpc_handlers.specs.declared.answer.Answer.{Answer}
 use Rattle.rpc_handlers.specs.declared.answer.Out.{Out}
 use Rattle.rpc_handlers.specs.declared.answer.Out.TheVariants.{Say}
 use Rattle.rpc_handlers.specs.declared.event.Event.{Event}
-use Rattle.rpc_handlers.specs.declared.event.Event.TheVariants.{Ended}
+use Rattle.rpc_handlers.specs.declared.event.Event.TheVariants.{Ended, Request}
 use Rattle.rpc_journal.specs.declared.waiting.Waiting.{Waiting}
 use Rattle.rpc_journal.specs.declared.call_state.CallState.{CallState}
 use Rattle.rpc_journal.specs.Calls.{of_call, is_start_of, is_finish_of, is_cancel_of}
-use Rattle.rpc_journal.specs.Effect.{Deed}
+use Rattle.rpc_ids.specs.declared.method.MethodRef.{MethodRef}
+use Rattle.rpc_packet.specs.declared.owned.Packet.{Packet}
+use Rattle.rpc_journal.specs.declared.entry.EntryKind.{EntryKind}
+use Rattle.rpc_journal.specs.History.{entry_by}
+use Rattle.rpc_journal.specs.Effect.{Effect, Deed}
 use Rattle.rpc_journal.specs.Entries.{was_ended}
 use Rattle.rpc_journal.specs.Items.{is_for, sends_completion}
 use Rattle.rpc_journal.specs.Marks.{is_empty, or_else, streams_down}
@@ -114,3 +118,31 @@ items_given r a =
 -- how many items a cancel of the call adds
 abbrev pub items_of_cancel : CallState → ℕ
 items_of_cancel r = (if is_some r.status then 0 else 1) + (if is_some r.run then 0 else 1)
+
+-- the state is as before, but for the room of its queue
+pub record IsSame (before after : CallState) : Type 0 where
+  pub name : after.name ≡ before.name
+  pub method : after.method ≡ before.method
+  pub status : after.status ≡ before.status
+  pub cancelled : after.cancelled ≡ before.cancelled
+  pub completed : after.completed ≡ before.completed
+  pub done : after.done ≡ before.done
+  pub run : after.run ≡ before.run
+  pub took_end : after.took_end ≡ before.took_end
+  pub waiting : after.waiting.items ≡ before.waiting.items
+
+-- the state of a call that the packet opens at a server: its request waits
+pub record IsServed (at : ℕ) (p : Packet) (method : MethodRef) (r : CallState) : Type 0 where
+  pub name : r.name ≡ p.name
+  pub of_method : r.method ≡ method
+  pub unended : r.status ≡ None
+  pub uncancelled : r.cancelled ≡ false
+  pub uncompleted : r.completed ≡ false
+  pub undone : r.done ≡ false
+  pub idle : r.run ≡ None
+  pub took_none : r.took_end ≡ false
+  pub waiting : r.waiting.items ≡ put_at at (Some (Request p.payload))
+
+-- the deed of this seat's entry
+abbrev pub deed_by : ℕ → EntryKind → Effect → Deed
+deed_by seat kind does = record { entry = entry_by seat kind; does = does }

@@ -1,15 +1,16 @@
 //! What a server makes of a packet, by its type and the state of the call of its name.
 ghost use Rattle.std.specs.Prelude.{◌≡◌, ℕ, ◌<◌, List, length, IfSome};
 ghost use Rattle.rpc_ids.specs.declared.method.MethodRef.{MethodRef};
+ghost use Rattle.rpc_journal.specs.declared.call_state.CallState.{CallState};
 ghost use Rattle.rpc_journal.specs.declared.setting.Setting.{Setting};
 ghost use Rattle.rpc_journal.specs.Calls.{call_count};
 ghost use Rattle.rpc_journal.specs.Effect.{Deed};
 ghost use Rattle.rpc_journal.specs.Entries.{arrive_row};
 ghost use Rattle.rpc_journal.specs.Marks.{streams_up, is_unary};
-ghost use Rattle.rpc_journal.specs.Moves.{IsServerOf, row_of};
+ghost use Rattle.rpc_journal.specs.Moves.{IsOpenMove, IsServerOf, row_of};
 ghost use Rattle.rpc_journal.specs.Queues.{is_completed};
 ghost use Rattle.rpc_journal.specs.ServerTable.{client_error_row, request_row, client_stream_row, completion_row, known_row, unknown_row};
-ghost use Rattle.rpc_journal.specs.Tells.{Tells};
+ghost use Rattle.rpc_journal.specs.Tells.{IsOpenAt, Tells};
 
 use crate::call_states::CallStates;
 use rpc_channel::Channels;
@@ -44,6 +45,7 @@ pub fn server_move(
     registry: &Registry,
 ) -> Move
     ensures row { (set : Setting) (ds : List Deed) → IsServerOf set channels.now registry.now → Tells ds states.now → arrive_row set ds p.now ≡ row_of result p.now (call_count ds) }
+    ensures call { IsOpenMove states.now.calls.items result }
 {
     if !channels.is_in(p.name.channel) {
         return unknown_move(p.ptype, Status::Unavailable);
@@ -60,7 +62,8 @@ pub fn server_move(
 
 // There is no such channel or method.
 fn unknown_move(ptype: PacketType, status: Status) -> Move
-    ensures { (p : _) (n : ℕ) → unknown_row ptype p status ≡ row_of result p n }
+    ensures row { (p : _) (n : ℕ) → unknown_row ptype p status ≡ row_of result p n }
+    ensures call { (states : List CallState) → IsOpenMove states result }
 {
     match ptype {
         PacketType::ClientError => Move::Drop,
@@ -70,7 +73,8 @@ fn unknown_move(ptype: PacketType, status: Status) -> Move
 
 // The method is known, and `live` is the live call of the packet's name.
 fn known_move(p: &Packet, method: MethodRef, live: Option<usize>, completed: bool) -> Move
-    ensures { (ds : List Deed) → IfSome live (λ c. is_completed ds c ≡ completed) → known_row p.now.ptype p.now method ds live ≡ row_of result p.now (call_count ds) }
+    ensures row { (ds : List Deed) → IfSome live (λ c. is_completed ds c ≡ completed) → known_row p.now.ptype p.now method ds live ≡ row_of result p.now (call_count ds) }
+    ensures call { (states : List CallState) → IfSome live (λ c. IsOpenAt states c) → IsOpenMove states result }
 {
     match p.ptype {
         PacketType::ClientError => client_error_move(p, live),
@@ -82,7 +86,8 @@ fn known_move(p: &Packet, method: MethodRef, live: Option<usize>, completed: boo
 }
 
 fn client_error_move(p: &Packet, live: Option<usize>) -> Move
-    ensures { (n : ℕ) → client_error_row p.now live ≡ row_of result p.now n }
+    ensures row { (n : ℕ) → client_error_row p.now live ≡ row_of result p.now n }
+    ensures call { (states : List CallState) → IfSome live (λ c. IsOpenAt states c) → IsOpenMove states result }
 {
     match live {
         None => Move::Drop,
@@ -91,7 +96,8 @@ fn client_error_move(p: &Packet, live: Option<usize>) -> Move
 }
 
 fn request_move(method: MethodRef, live: Option<usize>) -> Move
-    ensures { (p : _) (n : ℕ) → request_row p method n live ≡ row_of result p n }
+    ensures row { (p : _) (n : ℕ) → request_row p method n live ≡ row_of result p n }
+    ensures call { (states : List CallState) → IfSome live (λ c. IsOpenAt states c) → IsOpenMove states result }
 {
     match live {
         None => Move::Open(method),
@@ -100,7 +106,8 @@ fn request_move(method: MethodRef, live: Option<usize>) -> Move
 }
 
 fn client_stream_move(kind: Kind, live: Option<usize>, completed: bool) -> Move
-    ensures { (p : _) (m : MethodRef) (ds : List Deed) → m.kind ≡ kind → IfSome live (λ c. is_completed ds c ≡ completed) → client_stream_row p m ds live ≡ row_of result p (call_count ds) }
+    ensures row { (p : _) (m : MethodRef) (ds : List Deed) → m.kind ≡ kind → IfSome live (λ c. is_completed ds c ≡ completed) → client_stream_row p m ds live ≡ row_of result p (call_count ds) }
+    ensures call { (states : List CallState) → IfSome live (λ c. IsOpenAt states c) → IsOpenMove states result }
 {
     match live {
         None => Move::Reply(Status::FailedPrecondition),
@@ -117,7 +124,8 @@ fn client_stream_move(kind: Kind, live: Option<usize>, completed: bool) -> Move
 }
 
 fn completion_move(kind: Kind, live: Option<usize>, completed: bool) -> Move
-    ensures { (p : _) (m : MethodRef) (ds : List Deed) → m.kind ≡ kind → IfSome live (λ c. is_completed ds c ≡ completed) → completion_row p m ds live ≡ row_of result p (call_count ds) }
+    ensures row { (p : _) (m : MethodRef) (ds : List Deed) → m.kind ≡ kind → IfSome live (λ c. is_completed ds c ≡ completed) → completion_row p m ds live ≡ row_of result p (call_count ds) }
+    ensures call { (states : List CallState) → IfSome live (λ c. IsOpenAt states c) → IsOpenMove states result }
 {
     match live {
         None => Move::Reply(Status::FailedPrecondition),

@@ -1,16 +1,17 @@
 //! What a history says of one call.
-ghost use Rattle.std.specs.Prelude.{◌≡◌, ◌≢◌, ◌+◌, ◌^◌, ◌||◌, ◌<◌, ◌≤◌, count_by, not, length, IsTrue, Some, None, false, true, is_some, ◌∷◌};
+ghost use Rattle.std.specs.Prelude.{◌≡◌, ◌≢◌, ◌+◌, ◌^◌, ◌||◌, ◌<◌, ◌≤◌, count_by, not, length, IsTrue, Some, None, false, true, is_some, ◌∷◌, IfOk, OnOk};
 ghost use Rattle.std.specs.List.{list_any};
 ghost use Rattle.std.specs.VecDeque.{deque_len, deque_capacity};
 ghost use Rattle.rpc_handlers.specs.declared.event.Event.{Event};
 ghost use Rattle.rpc_journal.specs.Marks.{is_empty, streams_down};
 ghost use Rattle.rpc_journal.specs.Queues.{is_ended, is_tick};
-ghost use Rattle.rpc_journal.specs.Touch.{IsTouched, untouched, starting, finishing, cancelling, closing, putting, is_startable, wants_time, hears_answer, end_given, items_given, items_of_cancel, is_message};
+ghost use Rattle.rpc_journal.specs.Touch.{IsTouched, untouched, starting, finishing, cancelling, closing, putting, is_startable, wants_time, hears_answer, end_given, items_given, items_of_cancel, is_message, IsSame, IsServed};
 
 use crate::waiting::Waiting;
 use rpc_handlers::{Answer, Event, Out};
 use rpc_ids::{Kind, MethodRef, Status};
-use rpc_packet::CallName;
+use rpc_packet::{CallName, Packet};
+use std::alloc::{AllocError, Global};
 use std::collections::VecDeque;
 
 /// How many messages can wait for a call.
@@ -41,6 +42,42 @@ pub struct CallState {
 }
 
 impl CallState {
+    /// A call that a packet opens at a server: its request waits.
+    pub fn served(
+        alloc: Global,
+        p: &Packet,
+        method: MethodRef,
+        at: u64,
+    ) -> Result<CallState, AllocError>
+        ensures { IfOk result (λ r. IsServed at p.now method r) }
+    {
+        let payload = p.payload.clone()?;
+        let mut waiting = VecDeque::new(alloc);
+        waiting.push_back(Waiting {
+            at,
+            event: Event::Request(payload),
+        })?;
+        Ok(CallState {
+            name: p.name,
+            method,
+            status: None,
+            cancelled: false,
+            completed: false,
+            done: false,
+            run: None,
+            took_end: false,
+            waiting,
+        })
+    }
+
+    /// Makes room for one more event that waits.
+    pub fn make_room(&mut self) -> Result<(), AllocError>
+        ensures same { IsSame self.old self.new }
+        ensures room { OnOk result (deque_len self.new.waiting < deque_capacity self.new.waiting) }
+    {
+        self.waiting.reserve(1)
+    }
+
     /// Whether a run can begin, where so many items wait to be flushed.
     pub fn is_ready(&self, unflushed: u64, halted: bool) -> bool
         ensures { result ≡ is_startable self.now unflushed halted }

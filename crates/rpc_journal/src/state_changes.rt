@@ -5,14 +5,26 @@ ghost use Rattle.rpc_journal.specs.declared.setting.Setting.{Setting};
 ghost use Rattle.rpc_journal.specs.Effect.{Deed};
 ghost use Rattle.rpc_journal.specs.History.{tell, entry_by};
 ghost use Rattle.rpc_journal.specs.Queues.{waiting_of};
-ghost use Rattle.rpc_journal.specs.Tells.{CanCancel, CanFinish, CanStart, Tells};
+ghost use Rattle.std.specs.Prelude.{vec_len, vec_capacity, OnErr};
+ghost use Rattle.rpc_ids.specs.declared.method.MethodRef.{MethodRef};
+ghost use Rattle.rpc_packet.specs.declared.owned.Packet.{Packet};
+ghost use Rattle.rpc_packet.specs.declared.packet_type.PacketType.TheVariants.{ServerError};
+ghost use Rattle.rpc_ids.specs.declared.status.Status.{Status};
+ghost use Rattle.rpc_journal.specs.Calls.{call_count};
+ghost use Rattle.rpc_journal.specs.Rows.{both, ends_and_clears, opens_served, puts_event, replied};
+ghost use Rattle.rpc_journal.specs.Touch.{IsServed, deed_by};
+ghost use Rattle.rpc_journal.specs.Tells.{CanCancel, CanFinish, CanStart, HasRoomAt, IsOpenAt, IsSameTable, Tells};
 ghost use Rattle.rpc_ids.specs.declared.method.Role.TheVariants.{Server};
 
+use crate::call_state::CallState;
 use crate::call_states::CallStates;
 use crate::entry::EntryKind;
 use crate::waiting::Waiting;
 use link_io::Why;
-use rpc_handlers::Answer;
+use rpc_handlers::{Answer, Event};
+use rpc_ids::{MethodRef, Status};
+use rpc_packet::Packet;
+use std::alloc::AllocError;
 
 impl CallStates {
     /// A run of this seat begins, with the oldest event that waits for the call.
@@ -55,6 +67,69 @@ impl CallStates {
         ensures tells { (set : Setting) (ds : List Deed) (seat : ℕ) (out : _) → set.role ≡ Server → Tells ds self.old → Tells (tell set ds (entry_by seat (EntryKind.Say call out))) self.new }
     {
         self.unflushed += 1;
+    }
+
+    /// Makes room for one more event that waits for the call. The table tells of what it told before.
+    pub fn make_room(&mut self, call: usize) -> Result<(), AllocError>
+        requires { call < length self.old.calls.items }
+        ensures same { IsSameTable self.old self.new }
+        ensures room { OnOk result (HasRoomAt self.new.calls.items call) }
+    {
+        self.calls[call].make_room()
+    }
+
+    /// An arrival puts this event to the call.
+    pub fn put(&mut self, at: u64, call: usize, event: Event)
+        requires { HasRoomAt self.old.calls.items call }
+        ensures tells { (ds : List Deed) (seat : ℕ) (p : _) → at ≡ length ds → Tells ds self.old → Tells (deed_by seat (EntryKind.Arrive p) (puts_event call event) ∷ ds) self.new }
+    {
+        let state = &mut self.calls[call];
+        state.put(at, event);
+    }
+
+    /// An arrival ends the call with this status.
+    pub fn close(&mut self, at: u64, call: usize, status: Status)
+        requires room { HasRoomAt self.old.calls.items call }
+        requires live { IsOpenAt self.old.calls.items call }
+        ensures tells { (ds : List Deed) (seat : ℕ) (p : _) → at ≡ length ds → Tells ds self.old → Tells (deed_by seat (EntryKind.Arrive p) (ends_and_clears call status) ∷ ds) self.new }
+    {
+        let state = &mut self.calls[call];
+        state.close(at, status);
+    }
+
+    /// An arrival opens this call.
+    pub fn open(&mut self, state: CallState) -> Result<(), AllocError>
+        ensures tells { OnOk result ((ds : List Deed) (seat : ℕ) (p : Packet) (m : MethodRef) → Tells ds self.old → IsServed (length ds) p m state → Tells (deed_by seat (EntryKind.Arrive p) (opens_served p m (call_count ds)) ∷ ds) self.new) }
+        ensures err { OnErr result (IsSameTable self.old self.new) }
+    {
+        self.calls.push(state)?;
+        Ok(())
+    }
+
+    /// An arrival ends a call with `CANCELLED`, and opens this one of the same name.
+    pub fn open_anew(&mut self, at: u64, call: usize, state: CallState)
+        requires room { HasRoomAt self.old.calls.items call }
+        requires live { IsOpenAt self.old.calls.items call }
+        requires place { vec_len self.old.calls < vec_capacity self.old.calls }
+        ensures tells { (ds : List Deed) (seat : ℕ) (p : Packet) (m : MethodRef) → at ≡ length ds → Tells ds self.old → IsServed at p m state → Tells (deed_by seat (EntryKind.Arrive p) (both (ends_and_clears call Status.Cancelled) (opens_served p m (call_count ds))) ∷ ds) self.new }
+    {
+        let old = &mut self.calls[call];
+        old.close(at, Status::Cancelled);
+        self.calls.push_reserved(state);
+    }
+
+    /// An arrival is answered with a reply of no call.
+    pub fn reply(&mut self) -> Result<(), AllocError>
+        ensures tells { OnOk result ((ds : List Deed) (seat : ℕ) (p : Packet) (status : Status) → Tells ds self.old → Tells (deed_by seat (EntryKind.Arrive p) (replied ServerError p status).does ∷ ds) self.new) }
+        ensures err { OnErr result (self.new ≡ self.old) }
+    {
+        match self.unflushed.checked_add(1) {
+            Some(unflushed) => {
+                self.unflushed = unflushed;
+                Ok(())
+            }
+            None => Err(AllocError),
+        }
     }
 
     /// The oldest item that waits is flushed.

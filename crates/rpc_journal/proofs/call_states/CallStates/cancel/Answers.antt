@@ -2,7 +2,7 @@ use Rattle.std.proofs.Common.{◌≡◌, ◌+◌, ℕ, length, refl, ap, sym, �
 use Rattle.rpc_journal.specs.declared.entry.EntryKind.TheVariants.{Cancel}
 use Rattle.rpc_journal.specs.Calls.{call_at}
 use Rattle.rpc_journal.specs.Entries.{cancel_effect}
-use Rattle.rpc_journal.proofs.DeedLemmas.{deed_by}
+use Rattle.rpc_journal.specs.Touch.{deed_by}
 use Rattle.rpc_journal.proofs.FinishLemmas.{cancel_many, cancel_one}
 use Rattle.rpc_journal.proofs.PlaceLemmas.{get_read}
 use Rattle.rpc_journal.proofs.TableSteps.{table_one}

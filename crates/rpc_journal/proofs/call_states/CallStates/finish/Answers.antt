@@ -3,7 +3,7 @@ use Rattle.rpc_journal.specs.declared.entry.EntryKind.TheVariants.{Finish}
 use Rattle.rpc_journal.specs.Calls.{call_at}
 use Rattle.rpc_journal.specs.Entries.{finish_effect}
 use Rattle.rpc_journal.specs.Touch.{IsTouched, end_given, finishing}
-use Rattle.rpc_journal.proofs.DeedLemmas.{deed_by}
+use Rattle.rpc_journal.specs.Touch.{deed_by}
 use Rattle.rpc_journal.proofs.FinishLemmas.{finish_so, finish_touches}
 use Rattle.rpc_journal.proofs.PlaceLemmas.{get_read}
 use Rattle.rpc_journal.proofs.TableSteps.{table_one}

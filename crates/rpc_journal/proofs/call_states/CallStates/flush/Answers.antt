@@ -2,7 +2,7 @@ use Rattle.std.proofs.Common.{◌≡◌, [], length, refl, arith, length-append}
 use Rattle.rpc_journal.specs.declared.entry.EntryKind.TheVariants.{Flush}
 use Rattle.rpc_journal.specs.Items.{items_sent}
 use Rattle.rpc_journal.specs.Rows.{no_effect}
-use Rattle.rpc_journal.proofs.DeedLemmas.{deed_by}
+use Rattle.rpc_journal.specs.Touch.{deed_by}
 use Rattle.rpc_journal.proofs.TableSteps.{step_idle}
 use Rattle.rpc_journal.proofs.call_states.CallStates.flush.Goals as goal
 

@@ -1,6 +1,6 @@
 use Rattle.std.proofs.Common.{◌≡◌, ◌+◌, ℕ, refl, ap, sym}
 use Rattle.rpc_journal.specs.declared.entry.EntryKind.TheVariants.{Say}
-use Rattle.rpc_journal.proofs.DeedLemmas.{deed_by}
+use Rattle.rpc_journal.specs.Touch.{deed_by}
 use Rattle.rpc_journal.proofs.FinishLemmas.{say_effect, say_one}
 use Rattle.rpc_journal.proofs.PlaceLemmas.{get_some}
 use Rattle.rpc_journal.proofs.TableSteps.{table_idle}

@@ -2,7 +2,8 @@ use Rattle.std.proofs.Common.{◌≡◌, ◌∷◌, [], Some, slice_get, map, le
 use Rattle.rpc_journal.specs.declared.entry.EntryKind.TheVariants.{Start}
 use Rattle.rpc_journal.specs.Rows.{no_effect}
 use Rattle.rpc_journal.specs.Touch.{starting}
-use Rattle.rpc_journal.proofs.DeedLemmas.{deed_by, start_touches}
+use Rattle.rpc_journal.specs.Touch.{deed_by}
+use Rattle.rpc_journal.proofs.DeedLemmas.{start_touches}
 use Rattle.rpc_journal.proofs.PlaceLemmas.{get_read}
 use Rattle.rpc_journal.proofs.TableSteps.{table_one}
 use Rattle.rpc_journal.proofs.call_states.CallStates.start.Goals as goal
