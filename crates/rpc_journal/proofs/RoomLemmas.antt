@@ -1,5 +1,6 @@
 -- A table with more room in its queues tells of the same history.
-use Rattle.std.proofs.Common.{◌≡◌, ◌≢◌, ◌⊎◌, ℕ, false, ◌+◌, ◌<◌, ◌≤◌, List, [], ◌∷◌, ◌++◌, length, set, slice_get, Option, Some, None, refl, ap, sym, ◌∙◌, subst, inl, inr, arith, length-set}
+use Rattle.std.proofs.Common.{◌≡◌, ◌≢◌, ◌⊎◌, ℕ, false, ◌+◌, ◌<◌, ◌≤◌, List, [], ◌∷◌, ◌++◌, length, set, slice_get, Option, Some, None, Result, Ok, Err, OnOk, OnErr, refl, ap, sym, ◌∙◌, subst, inl, inr, arith, length-set}
+use Rattle.std.specs.VecDeque.{deque_len, deque_capacity}
 use Rattle.std.proofs.lemmas.Option.{slice_get_within}
 use Rattle.rpc_journal.specs.declared.call_state.CallState.{CallState}
 use Rattle.rpc_journal.specs.declared.call_states.CallStates.{CallStates}
@@ -11,7 +12,7 @@ use Rattle.rpc_journal.specs.Effect.{Opening, Deed}
 use Rattle.rpc_journal.specs.Marks.{is_empty}
 use Rattle.rpc_journal.specs.Items.{items_sent}
 use Rattle.rpc_journal.specs.Queues.{waiting_of}
-use Rattle.rpc_journal.specs.Tells.{IsOpening, IsOpenAt, IsSilentOn, TellsOf, TellsCalls, Tells, IsSameTable}
+use Rattle.rpc_journal.specs.Tells.{HasRoomAt, IsOpening, IsOpenAt, IsSilentOn, TellsOf, TellsCalls, Tells, IsSameTable}
 use Rattle.rpc_journal.specs.Touch.{IsSame, IsServed, Touch, Touches, putting, untouched, put_at}
 use Rattle.rpc_journal.proofs.PlaceLemmas.{get_some}
 use Rattle.rpc_journal.proofs.StepLemmas.{get_set, get_other, same_or_not}
@@ -87,3 +88,55 @@ served_tells ds d n p m x silent does there is =
       waiting = rw (does.clears, start, silent.unstarted, silent.empty, does.puts, is.waiting) refl;
       put = rw (does.clears, start, silent.unstarted) (omega arith);
     }
+
+pub on_ok : {A E P Q : Type 0} (r : Result A E) → (P → Q) → OnOk r P → OnOk r Q
+on_ok (Ok a) f p = f p
+on_ok (Err e) f p = tt
+
+pub has_room : (states : List CallState) (c : ℕ) (x : CallState) → c < length states → deque_len x.waiting < deque_capacity x.waiting
+    → HasRoomAt (set states c x) c
+has_room states c x within room = record {
+  within = omega (arith, within, length-set states c x);
+  room = λ r there. subst (λ z. deque_len z.waiting < deque_capacity z.waiting) (some_same x r (sym (get_set states c x within) ∙ there)) room;
+}
+
+pub on_err_of : {A E P : Type 0} (r : Result A E) → P → OnErr r P
+on_err_of (Ok a) p = tt
+on_err_of (Err e) p = p
+
+-- a table whose calls are the same
+pub items_same : (t u : CallStates) → u.calls.items ≡ t.calls.items → u.unflushed ≡ t.unflushed → u.input_ended ≡ t.input_ended → u.halted ≡ t.halted
+    → IsSameTable t u
+items_same t u items unflushed input halt = record {
+  many = ap length items;
+  each = λ c r x before after.
+      subst (λ z. IsSame r z) (some_same r x (sym before ∙ (ap (λ xs. slice_get xs c) (sym items) ∙ after))) (is_same r);
+  unflushed = unflushed;
+  input = input;
+  halt = halt;
+}
+
+pub same_trans : (r x y : CallState) → IsSame r x → IsSame x y → IsSame r y
+same_trans r x y first second = record {
+  name = second.name ∙ first.name;
+  method = second.method ∙ first.method;
+  status = second.status ∙ first.status;
+  cancelled = second.cancelled ∙ first.cancelled;
+  completed = second.completed ∙ first.completed;
+  done = second.done ∙ first.done;
+  run = second.run ∙ first.run;
+  took_end = second.took_end ∙ first.took_end;
+  waiting = second.waiting ∙ first.waiting;
+}
+
+pub same_table_trans : (t u v : CallStates) → IsSameTable t u → IsSameTable u v → IsSameTable t v
+same_table_trans t u v first second = record {
+  many = second.many ∙ first.many;
+  each = λ c r y before after.
+      let within : c < length t.calls.items = slice_get_within _ _ _ before in
+      let found = get_some u.calls.items c (omega (arith, within, first.many)) in
+      same_trans r found.0 y (first.each c r found.0 before found.1) (second.each c found.0 y found.1 after);
+  unflushed = second.unflushed ∙ first.unflushed;
+  input = second.input ∙ first.input;
+  halt = second.halt ∙ first.halt;
+}

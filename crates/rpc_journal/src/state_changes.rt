@@ -3,6 +3,8 @@
 ghost use Rattle.std.specs.Prelude.{◌≡◌, ℕ, ◌+◌, ◌<◌, ◌^◌, List, [], ◌∷◌, length, slice_get, Some, None, IfSome, IfOk, OnOk};
 ghost use Rattle.rpc_journal.specs.declared.setting.Setting.{Setting};
 ghost use Rattle.rpc_journal.specs.Effect.{Deed};
+ghost use Rattle.rpc_journal.specs.Entries.{arrive_row};
+ghost use Rattle.rpc_journal.specs.Moves.{IsOpenMove, row_of};
 ghost use Rattle.rpc_journal.specs.History.{tell, entry_by};
 ghost use Rattle.rpc_journal.specs.Queues.{waiting_of};
 ghost use Rattle.std.specs.Prelude.{vec_len, vec_capacity, OnErr};
@@ -16,6 +18,7 @@ ghost use Rattle.rpc_journal.specs.Touch.{IsServed, deed_by};
 ghost use Rattle.rpc_journal.specs.Tells.{CanCancel, CanFinish, CanStart, HasRoomAt, IsOpenAt, IsSameTable, Tells};
 ghost use Rattle.rpc_ids.specs.declared.method.Role.TheVariants.{Server};
 
+use crate::arrival_move::Move;
 use crate::call_state::CallState;
 use crate::call_states::CallStates;
 use crate::entry::EntryKind;
@@ -24,7 +27,7 @@ use link_io::Why;
 use rpc_handlers::{Answer, Event};
 use rpc_ids::{MethodRef, Status};
 use rpc_packet::Packet;
-use std::alloc::AllocError;
+use std::alloc::{AllocError, Global};
 
 impl CallStates {
     /// A run of this seat begins, with the oldest event that waits for the call.
@@ -129,6 +132,51 @@ impl CallStates {
                 Ok(())
             }
             None => Err(AllocError),
+        }
+    }
+
+    /// A packet arrives, of which a server makes this. Where memory runs out, the table tells of what it told before.
+    pub fn arrive(
+        &mut self,
+        alloc: Global,
+        at: u64,
+        p: &Packet,
+        arrival: Move,
+    ) -> Result<(), AllocError>
+        requires { IsOpenMove self.old.calls.items arrival }
+        ensures tells { OnOk result ((set : Setting) (ds : List Deed) (seat : ℕ) → at ≡ length ds → arrive_row set ds p.now ≡ row_of arrival p.now (call_count ds) → Tells ds self.old → Tells (tell set ds (entry_by seat (EntryKind.Arrive p.now))) self.new) }
+        ensures err { OnErr result (IsSameTable self.old self.new) }
+    {
+        match arrival {
+            Move::Drop => Ok(()),
+            Move::Reply(_) => self.reply(),
+            Move::Close(call, status) => {
+                self.make_room(call)?;
+                self.close(at, call, status);
+                Ok(())
+            }
+            Move::Open(method) => {
+                let state = CallState::served(alloc, p, method, at)?;
+                self.open(state)
+            }
+            Move::OpenAnew(method, call) => {
+                let state = CallState::served(alloc, p, method, at)?;
+                self.make_room(call)?;
+                self.calls.reserve(1)?;
+                self.open_anew(at, call, state);
+                Ok(())
+            }
+            Move::Queue(call) => {
+                let payload = p.payload.clone()?;
+                self.make_room(call)?;
+                self.put(at, call, Event::Message(payload));
+                Ok(())
+            }
+            Move::Complete(call) => {
+                self.make_room(call)?;
+                self.put(at, call, Event::Completion);
+                Ok(())
+            }
         }
     }
 
