@@ -7,6 +7,7 @@ pub mod Examples
 pub mod FinishLemmas
 pub mod ItemLemmas
 pub mod KnownLemmas
+pub mod NoticeLemmas
 pub mod OpenLemmas
 pub mod PacketLemmas
 pub mod KnownStates

@@ -1,9 +1,10 @@
 -- What a plain table of calls tells of a history.
-use Rattle.std.specs.Prelude.{◌≡◌, ℕ, ◌+◌, ◌^◌, ◌<◌, ◌≤◌, false, List, [], length, slice_get, Option, Some, None, option_to_list}
+use Rattle.std.specs.Prelude.{◌≡◌, ℕ, true, ◌+◌, ◌^◌, ◌<◌, ◌≤◌, false, List, [], length, slice_get, Option, Some, None, option_to_list}
 use Rattle.std.specs.VecDeque.{deque_len, deque_capacity}
 use Rattle.rpc_handlers.specs.declared.answer.Answer.{Answer}
-use Rattle.rpc_journal.specs.Touch.{IsSame, items_given}
+use Rattle.rpc_journal.specs.Touch.{IsSame, IsTouched, is_told, items_given, telling}
 use Rattle.rpc_journal.specs.declared.call_state.CallState.{CallState}
+use Rattle.rpc_journal.specs.declared.notice.Notice.{Notice}
 use Rattle.rpc_journal.specs.declared.call_states.CallStates.{CallStates}
 use Rattle.rpc_journal.specs.Calls.{call_count, call_at, ends_of, is_cancelled, runner_of}
 use Rattle.rpc_journal.specs.Effect.{Opening, Deed}
@@ -86,3 +87,12 @@ pub record IsSameTable (before after : CallStates) : Type 0 where
   pub unflushed : after.unflushed ≡ before.unflushed
   pub input : after.input_ended ≡ before.input_ended
   pub halt : after.halted ≡ before.halted
+
+-- each call that is told of this has room for one more event that waits
+pub record HasRoomFor (notice : Notice) (states : List CallState) : Type 0 where
+  pub room : (c : ℕ) (r : CallState) → slice_get states c ≡ Some r → is_told notice r ≡ true → deque_len r.waiting < deque_capacity r.waiting
+
+-- each call was told of this, at this place
+pub record IsToldAll (at : ℕ) (notice : Notice) (before after : List CallState) : Type 0 where
+  pub many : length after ≡ length before
+  pub each : (c : ℕ) (r x : CallState) → slice_get before c ≡ Some r → slice_get after c ≡ Some x → IsTouched at (telling notice r) r x

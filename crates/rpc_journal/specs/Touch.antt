@@ -2,12 +2,14 @@
 use Rattle.std.specs.Prelude.{◌≡◌, ℕ, Bool, true, false, not, ◌&&◌, ◌||◌, nat_lt, List, [], ◌∷◌, ◌++◌, length, map, drop, slice_get, Option, Some, None, is_some, is_none, option_to_list, option_map, count_by, ◌+◌, if◌then◌else◌}
 use Rattle.std.specs.List.{list_any}
 use Rattle.rpc_ids.specs.declared.status.Status.{Status}
-use Rattle.rpc_ids.specs.declared.status.Status.TheVariants.{Cancelled}
+use Rattle.rpc_ids.specs.declared.status.Status.TheVariants.{Cancelled, Unavailable}
 use Rattle.rpc_handlers.specs.declared.answer.Answer.{Answer}
 use Rattle.rpc_handlers.specs.declared.answer.Out.{Out}
 use Rattle.rpc_handlers.specs.declared.answer.Out.TheVariants.{Say}
 use Rattle.rpc_handlers.specs.declared.event.Event.{Event}
-use Rattle.rpc_handlers.specs.declared.event.Event.TheVariants.{Ended, Request}
+use Rattle.rpc_handlers.specs.declared.event.Event.TheVariants.{Ended, Request, Tick}
+use Rattle.rpc_journal.specs.declared.notice.Notice.{Notice}
+use Rattle.rpc_journal.specs.declared.notice.Notice.TheVariants.{Time, InputEnded}
 use Rattle.rpc_journal.specs.declared.waiting.Waiting.{Waiting}
 use Rattle.rpc_journal.specs.declared.call_state.CallState.{CallState}
 use Rattle.rpc_journal.specs.Calls.{of_call, is_start_of, is_finish_of, is_cancel_of}
@@ -146,3 +148,15 @@ pub record IsServed (at : ℕ) (p : Packet) (method : MethodRef) (r : CallState)
 -- the deed of this seat's entry
 abbrev pub deed_by : ℕ → EntryKind → Effect → Deed
 deed_by seat kind does = record { entry = entry_by seat kind; does = does }
+
+-- the call is told of this
+abbrev pub is_told : Notice → CallState → Bool
+is_told (Time now) r = wants_time r
+is_told InputEnded r = is_none r.status
+
+abbrev pub told_event : Notice → Event
+told_event (Time now) = Tick now
+told_event InputEnded = Ended Unavailable
+
+abbrev pub telling : Notice → CallState → Touch
+telling notice r = if is_told notice r then putting (told_event notice) else untouched

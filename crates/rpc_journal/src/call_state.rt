@@ -5,8 +5,9 @@ ghost use Rattle.std.specs.VecDeque.{deque_len, deque_capacity};
 ghost use Rattle.rpc_handlers.specs.declared.event.Event.{Event};
 ghost use Rattle.rpc_journal.specs.Marks.{is_empty, streams_down};
 ghost use Rattle.rpc_journal.specs.Queues.{is_ended, is_tick};
-ghost use Rattle.rpc_journal.specs.Touch.{IsTouched, untouched, starting, finishing, cancelling, closing, putting, is_startable, wants_time, hears_answer, end_given, items_given, items_of_cancel, is_message, IsSame, IsServed};
+ghost use Rattle.rpc_journal.specs.Touch.{IsTouched, untouched, starting, finishing, cancelling, closing, putting, is_startable, wants_time, hears_answer, end_given, items_given, items_of_cancel, is_message, IsSame, IsServed, is_told, telling};
 
+use crate::notice::Notice;
 use crate::waiting::Waiting;
 use rpc_handlers::{Answer, Event, Out};
 use rpc_ids::{Kind, MethodRef, Status};
@@ -70,9 +71,30 @@ impl CallState {
         })
     }
 
+    /// Whether the call is told of this.
+    pub fn is_told(&self, notice: Notice) -> bool
+        ensures { result ≡ is_told notice self.now }
+    {
+        match notice {
+            Notice::Time(_) => self.wants_tick(),
+            Notice::InputEnded => self.status.is_none(),
+        }
+    }
+
+    /// The call is told of this, where it is to be. There must be room for the event.
+    pub fn tell(&mut self, at: u64, notice: Notice)
+        requires { is_told notice self.old ≡ true → deque_len self.old.waiting < deque_capacity self.old.waiting }
+        ensures state { IsTouched at (telling notice self.old) self.old self.new }
+    {
+        if self.is_told(notice) {
+            self.put(at, notice.event());
+        }
+    }
+
     /// Makes room for one more event that waits.
     pub fn make_room(&mut self) -> Result<(), AllocError>
         ensures same { IsSame self.old self.new }
+        ensures kept { deque_len self.old.waiting < deque_capacity self.old.waiting → deque_len self.new.waiting < deque_capacity self.new.waiting }
         ensures room { OnOk result (deque_len self.new.waiting < deque_capacity self.new.waiting) }
     {
         self.waiting.reserve(1)

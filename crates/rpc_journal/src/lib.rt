@@ -15,6 +15,7 @@ mod journal;
 mod judge;
 pub mod laws;
 
+mod notice;
 mod setting;
 mod state_changes;
 mod waiting;
@@ -31,6 +32,7 @@ pub use item::{Act, Item};
 pub use journal::Journal;
 pub use judge::{broken_rule, is_past_limits};
 pub use arrival_move::{Move, server_move};
+pub use notice::Notice;
 pub use setting::Setting;
 pub use waiting::Waiting;
 

@@ -15,13 +15,14 @@ ghost use Rattle.rpc_ids.specs.declared.status.Status.{Status};
 ghost use Rattle.rpc_journal.specs.Calls.{call_count};
 ghost use Rattle.rpc_journal.specs.Rows.{both, ends_and_clears, opens_served, puts_event, replied};
 ghost use Rattle.rpc_journal.specs.Touch.{IsServed, deed_by};
-ghost use Rattle.rpc_journal.specs.Tells.{CanCancel, CanFinish, CanStart, HasRoomAt, IsOpenAt, IsSameTable, Tells};
+ghost use Rattle.rpc_journal.specs.Tells.{CanCancel, CanFinish, CanStart, HasRoomAt, HasRoomFor, IsOpenAt, IsSameTable, IsToldAll, Tells};
 ghost use Rattle.rpc_ids.specs.declared.method.Role.TheVariants.{Server};
 
 use crate::arrival_move::Move;
 use crate::call_state::CallState;
 use crate::call_states::CallStates;
 use crate::entry::EntryKind;
+use crate::notice::Notice;
 use crate::waiting::Waiting;
 use link_io::Why;
 use rpc_handlers::{Answer, Event};
@@ -77,6 +78,7 @@ impl CallStates {
         requires { call < length self.old.calls.items }
         ensures same { IsSameTable self.old self.new }
         ensures room { OnOk result (HasRoomAt self.new.calls.items call) }
+        ensures others { (k : ℕ) → HasRoomAt self.old.calls.items k → HasRoomAt self.new.calls.items k }
     {
         self.calls[call].make_room()
     }
@@ -178,6 +180,50 @@ impl CallStates {
                 Ok(())
             }
         }
+    }
+
+    /// Makes room for one more event that waits for each call. The table tells of what it told before.
+    pub fn make_room_for_all(&mut self) -> Result<(), AllocError>
+        ensures same { IsSameTable self.old self.new }
+        ensures room { OnOk result ((call : ℕ) → call < length self.new.calls.items → HasRoomAt self.new.calls.items call) }
+    {
+        let count = self.calls.len();
+        for call in 0..count {
+            self.make_room(call)?;
+        }
+        Ok(())
+    }
+
+    // All calls are told of this.
+    fn tell_all(&mut self, at: u64, notice: Notice)
+        requires { HasRoomFor notice self.old.calls.items }
+        ensures calls { IsToldAll at notice self.old.calls.items self.new.calls.items }
+        ensures unflushed { self.new.unflushed ≡ self.old.unflushed }
+        ensures input { self.new.input_ended ≡ self.old.input_ended }
+        ensures halt { self.new.halted ≡ self.old.halted }
+    {
+        let count = self.calls.len();
+        for call in 0..count {
+            let state = &mut self.calls[call];
+            state.tell(at, notice);
+        }
+    }
+
+    /// The time has come to this moment, in milliseconds.
+    pub fn tick(&mut self, at: u64, now: u64)
+        requires { HasRoomFor (Notice.Time now) self.old.calls.items }
+        ensures tells { (set : Setting) (ds : List Deed) (seat : ℕ) → at ≡ length ds → Tells ds self.old → Tells (tell set ds (entry_by seat (EntryKind.Tick now))) self.new }
+    {
+        self.tell_all(at, Notice::Time(now));
+    }
+
+    /// The input ends, for the first time.
+    pub fn end_in(&mut self, at: u64)
+        requires { HasRoomFor Notice.InputEnded self.old.calls.items }
+        ensures tells { (set : Setting) (ds : List Deed) (seat : ℕ) → at ≡ length ds → Tells ds self.old → Tells (tell set ds (entry_by seat EntryKind.EndIn)) self.new }
+    {
+        self.tell_all(at, Notice::InputEnded);
+        self.input_ended = true;
     }
 
     /// The oldest item that waits is flushed.
