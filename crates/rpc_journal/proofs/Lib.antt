@@ -5,6 +5,7 @@ pub mod DemoTable
 pub mod EndLemmas
 pub mod Examples
 pub mod FinishLemmas
+pub mod FollowLemmas
 pub mod ItemLemmas
 pub mod KnownLemmas
 pub mod NoticeLemmas
@@ -14,6 +15,7 @@ pub mod KnownStates
 pub mod LegalLemmas
 pub mod PlaceLemmas
 pub mod Push
+pub mod VerdictLemmas
 pub mod RoomLemmas
 pub mod RunLemmas
 pub mod StepLemmas

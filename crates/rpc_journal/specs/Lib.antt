@@ -6,6 +6,7 @@ pub mod ClientTable
 pub mod Conditions
 pub mod Effect
 pub mod Entries
+pub mod Faults
 pub mod History
 pub mod Items
 pub mod Lawful

@@ -18,6 +18,7 @@ pub mod laws;
 mod notice;
 mod setting;
 mod state_changes;
+mod verdict;
 mod waiting;
 
 pub use answers::{
@@ -34,6 +35,7 @@ pub use judge::{broken_rule, is_past_limits};
 pub use arrival_move::{Move, server_move};
 pub use notice::Notice;
 pub use setting::Setting;
+pub use verdict::{check, follow};
 pub use waiting::Waiting;
 
 #[cfg(test)]

@@ -73,6 +73,16 @@ impl CallStates {
         self.unflushed += 1;
     }
 
+    /// Whether so many further items can be counted.
+    pub fn room_for(&self, items: u64) -> Result<(), AllocError>
+        ensures { OnOk result (self.now.unflushed + items < 2 ^ 64) }
+    {
+        match self.unflushed.checked_add(items) {
+            Some(_) => Ok(()),
+            None => Err(AllocError),
+        }
+    }
+
     /// Makes room for one more event that waits for the call. The table tells of what it told before.
     pub fn make_room(&mut self, call: usize) -> Result<(), AllocError>
         requires { call < length self.old.calls.items }
