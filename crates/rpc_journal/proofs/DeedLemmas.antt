@@ -1,21 +1,19 @@
 -- What each kind of entry does to each call.
-use Rattle.std.proofs.Common.{◌≡◌, ◌≢◌, ℕ, zero, suc, ◌+◌, ◌<◌, ◌≤◌, Bool, true, false, not, ◌&&◌, ◌||◌, ◌==◌, List, [], ◌∷◌, ◌++◌, length, slice_get, Option, Some, None, is_some, option_to_list, if◌then◌else◌, refl, ap, sym, ◌∙◌, subst, eq-eqb, arith}
-use Rattle.std.proofs.lemmas.Bool.{true≢false, false≢true}
+use Rattle.std.proofs.Common.{◌≡◌, ℕ, Bool, true, false, ◌&&◌, ◌==◌, [], if◌then◌else◌, refl, ◌∙◌}
+use Rattle.std.proofs.lemmas.Bool.{false≢true}
 use Rattle.std.specs.List.{list_any}
 use Rattle.rpc_ids.specs.declared.status.Status.{Status}
 use Rattle.rpc_ids.specs.declared.status.Status.TheVariants.{Cancelled}
 use Rattle.rpc_ids.specs.declared.method.MethodRef.{MethodRef}
 use Rattle.rpc_packet.specs.declared.owned.Packet.{Packet}
 use Rattle.rpc_handlers.specs.declared.event.Event.{Event}
-use Rattle.rpc_handlers.specs.declared.event.Event.TheVariants.{Ended, Request}
-use Rattle.rpc_journal.specs.declared.entry.EntryKind.{EntryKind}
-use Rattle.rpc_journal.specs.declared.entry.EntryKind.TheVariants.{Arrive, Start, Finish, Cancel}
-use Rattle.rpc_journal.specs.Calls.{of_call, is_start_of, is_finish_of, is_cancel_of}
-use Rattle.rpc_journal.specs.Effect.{Effect, Deed}
+use Rattle.rpc_handlers.specs.declared.event.Event.TheVariants.{Request}
+use Rattle.rpc_journal.specs.declared.entry.EntryKind.TheVariants.{Arrive, Start}
+use Rattle.rpc_journal.specs.Calls.{is_start_of, is_finish_of, is_cancel_of}
+use Rattle.rpc_journal.specs.Effect.{Deed}
 use Rattle.rpc_journal.specs.Items.{is_for, sends_completion}
-use Rattle.rpc_journal.specs.Queues.{drops_of}
 use Rattle.rpc_journal.specs.Rows.{both, ends_and_clears, no_effect, opens_served, puts_event}
-use Rattle.rpc_journal.specs.Touch.{Touch, Touches, deed_by, untouched, starting, closing, putting}
+use Rattle.rpc_journal.specs.Touch.{Touches, deed_by, untouched, starting, closing, putting}
 
 pub never : {A : Type 0} → false ≡ true → A
 never h = absurd (false≢true h)

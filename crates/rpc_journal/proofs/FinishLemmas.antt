@@ -1,7 +1,5 @@
 -- What the end of a run does at a server, and what a cancel does.
-use Rattle.std.proofs.Common.{◌≡◌, ◌≢◌, ℕ, zero, suc, ◌+◌, ◌<◌, ◌≤◌, Bool, true, false, not, ◌&&◌, ◌||◌, ◌==◌, List, [], ◌∷◌, ◌++◌, length, map, flat_map, count_by, slice_get, Option, Some, None, is_some, is_none, cond, option_map, option_to_list, if◌then◌else◌, refl, ap, sym, ◌∙◌, subst, arith, length-append}
-use Rattle.std.proofs.lemmas.Bool.{true≢false, false≢true}
-use Rattle.std.proofs.lemmas.List.{append-nil}
+use Rattle.std.proofs.Common.{◌≡◌, ℕ, ◌+◌, Bool, true, false, not, ◌&&◌, ◌||◌, ◌==◌, List, [], ◌∷◌, ◌++◌, length, map, flat_map, count_by, Option, Some, None, is_some, is_none, cond, option_map, option_to_list, if◌then◌else◌, refl, ap, sym, ◌∙◌, subst, arith, length-append}
 use Rattle.std.proofs.lemmas.List.Folds.{list_any-append}
 use Rattle.std.proofs.Math.Bool.{and-true}
 use Rattle.std.proofs.lemmas.List.Sums.{sum_by-cons}
@@ -19,15 +17,14 @@ use Rattle.rpc_journal.specs.declared.call_state.CallState.{CallState}
 use Rattle.rpc_journal.specs.declared.entry.EntryKind.TheVariants.{Finish, Cancel, Say as SaysOut}
 use Rattle.rpc_journal.specs.declared.item.Item.{Item}
 use Rattle.rpc_journal.specs.declared.setting.Setting.{Setting}
-use Rattle.rpc_journal.specs.Calls.{of_call, call_at, has_end, is_cancelled, runner_of}
+use Rattle.rpc_journal.specs.Calls.{of_call, call_at}
 use Rattle.rpc_journal.specs.Effect.{Effect, Opening, Deed}
-use Rattle.rpc_journal.specs.Entries.{answer_item, answered, cancel_effect, end_effect, finish_effect, is_heard, leaves, messages_go, out_item, was_ended, with_call}
+use Rattle.rpc_journal.specs.Entries.{answer_item, answered, cancel_effect, end_effect, finish_effect, is_heard, leaves, messages_go, out_item, with_call}
 use Rattle.rpc_journal.specs.Items.{is_done, is_for, sends_completion}
 use Rattle.rpc_journal.specs.Marks.{streams_down}
-use Rattle.rpc_journal.specs.Queues.{taken_event}
 use Rattle.rpc_journal.specs.Rows.{no_effect, says_item, sends, status_packet}
 use Rattle.rpc_journal.specs.Tells.{TellsOf}
-use Rattle.rpc_journal.specs.Touch.{Touch, Touches, untouched, finishing, cancelling, hears_answer, says_messages, end_given, is_message, items_given, items_of_cancel}
+use Rattle.rpc_journal.specs.Touch.{Touches, untouched, finishing, cancelling, hears_answer, end_given, is_message, items_given, items_of_cancel}
 use Rattle.rpc_journal.specs.Touch.{deed_by}
 use Rattle.rpc_journal.proofs.DeedLemmas.{IsIdle, never}
 use Rattle.rpc_journal.proofs.TableLemmas.{ended_is, opening_is}

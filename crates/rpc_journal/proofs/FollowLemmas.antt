@@ -1,6 +1,6 @@
 -- What it takes to let a plain table follow an entry that is allowed.
-use Rattle.std.proofs.Common.{◌≡◌, ℕ, ◌+◌, ◌^◌, ◌<◌, ◌≤◌, Bool, true, false, not, ◌&&◌, ◌||◌, nat_le, nat_lt, List, [], ◌∷◌, length, slice_get, count_by, Option, Some, None, is_some, if◌then◌else◌, refl, ap, sym, ◌∙◌, subst, arith}
-use Rattle.std.proofs.lemmas.Bool.{true≢false, false≢true, leb-false, and_parts, not-true, not-false, ltb-false}
+use Rattle.std.proofs.Common.{◌≡◌, ℕ, ◌+◌, ◌^◌, ◌<◌, ◌≤◌, Bool, true, false, not, ◌&&◌, ◌||◌, nat_le, List, ◌∷◌, length, count_by, Some, None, is_some, if◌then◌else◌, refl, ap, sym, ◌∙◌, subst, arith}
+use Rattle.std.proofs.lemmas.Bool.{true≢false, leb-false, and_parts, not-true, not-false, ltb-false}
 use Rattle.std.proofs.lemmas.List.Sums.{count_by-le-length}
 use Rattle.std.proofs.lemmas.Option.{slice_get_within}
 use Rattle.rpc_ids.specs.declared.method.MethodRef.{MethodRef}
@@ -20,12 +20,11 @@ use Rattle.rpc_journal.specs.Effect.{Deed}
 use Rattle.rpc_journal.specs.History.{entry_by, tell}
 use Rattle.rpc_journal.specs.Items.{flush_count, halt_reason, is_ready, items_sent}
 use Rattle.rpc_journal.specs.Lawful.{broken, call_named, flushes_nothing, is_refused, is_unknown, starts_unready}
-use Rattle.rpc_journal.specs.Marks.{is_empty}
 use Rattle.rpc_journal.specs.Moves.{IsServerOf}
 use Rattle.rpc_journal.specs.Rows.{no_effect}
-use Rattle.rpc_journal.specs.Tells.{CanCancel, CanFinish, CanStart, HasRoomAt, HasRoomFor, Tells}
+use Rattle.rpc_journal.specs.Tells.{CanFinish, CanStart, HasRoomAt, HasRoomFor, Tells}
 use Rattle.rpc_journal.specs.Touch.{deed_by, hears_answer, is_startable, items_given, says_messages, is_message}
-use Rattle.rpc_journal.proofs.Allowed.{Allowed, allowed}
+use Rattle.rpc_journal.proofs.Allowed.{allowed}
 use Rattle.rpc_journal.proofs.KnownStates.{ready_known}
 use Rattle.rpc_journal.proofs.TableSteps.{table_idle}
 

@@ -1,18 +1,18 @@
 -- What the history says of a call, by the state that a plain table has of it, where it has one.
-use Rattle.std.proofs.Common.{◌≡◌, ℕ, ◌≤◌, Bool, true, false, not, ◌&&◌, nat_lt, nat_le, List, [], ◌∷◌, length, drop, slice_get, count_by, Option, Some, None, is_some, is_none, if◌then◌else◌, refl, ap, sym, ◌∙◌, subst, arith}
+use Rattle.std.proofs.Common.{◌≡◌, ℕ, false, not, List, [], drop, slice_get, count_by, Option, Some, None, is_some, is_none, refl, ap, sym, ◌∙◌, arith}
 use Rattle.std.proofs.Math.Seq.{drop-nil}
 use Rattle.rpc_ids.specs.declared.method.Role.TheVariants.{Server}
 use Rattle.rpc_journal.specs.declared.call_state.CallState.{CallState}
 use Rattle.rpc_journal.specs.declared.call_states.CallStates.{CallStates}
-use Rattle.rpc_journal.specs.Calls.{call_count, call_at, calls, has_end, is_cancelled, runner_of}
-use Rattle.rpc_journal.specs.Effect.{Opening, Deed}
-use Rattle.rpc_journal.specs.Items.{flush_count, items_sent, items_waiting, is_ready, halt_reason}
+use Rattle.rpc_journal.specs.Calls.{call_at, calls, has_end, is_cancelled, runner_of}
+use Rattle.rpc_journal.specs.Effect.{Deed}
+use Rattle.rpc_journal.specs.Items.{items_waiting, is_ready, halt_reason}
 use Rattle.rpc_journal.specs.Lawful.{has_stream}
 use Rattle.rpc_journal.specs.Marks.{is_empty, streams_down}
 use Rattle.rpc_journal.specs.Queues.{is_ended, messages_waiting, starts_since, waiting_of}
 use Rattle.rpc_journal.specs.Tells.{TellsOf, IsSilentOn, TellsCalls, Tells}
 use Rattle.rpc_journal.specs.Touch.{is_startable}
-use Rattle.rpc_journal.proofs.PlaceLemmas.{get_none, get_some}
+use Rattle.rpc_journal.proofs.PlaceLemmas.{get_none}
 use Rattle.rpc_journal.proofs.TableLemmas.{ended_is, opening_is}
 use Rattle.std.proofs.lemmas.Option.{slice_get_past}
 

@@ -1,25 +1,21 @@
 -- How a plain table follows its history over an entry that puts an event to many calls.
-use Rattle.std.proofs.Common.{◌≡◌, ◌≢◌, ◌⊎◌, ℕ, zero, suc, ◌+◌, ◌<◌, ◌≤◌, Bool, true, false, not, ◌&&◌, ◌||◌, ◌==◌, List, [], ◌∷◌, ◌++◌, length, set, slice_get, Option, Some, None, is_some, is_none, option_to_list, if◌then◌else◌, refl, ap, sym, ◌∙◌, subst, inl, inr, eq-eqb, ne_eqb, arith, length-set}
-use Rattle.std.proofs.lemmas.Bool.{true≢false, false≢true}
+use Rattle.std.proofs.Common.{◌≡◌, ◌≢◌, ◌⊎◌, ℕ, zero, suc, ◌+◌, ◌<◌, ◌≤◌, Bool, true, false, not, List, [], ◌∷◌, length, set, slice_get, Option, Some, None, is_some, is_none, if◌then◌else◌, refl, ap, sym, ◌∙◌, subst, inl, inr, eq-eqb, ne_eqb, arith}
 use Rattle.std.proofs.Math.Arith.{lt_of_le-ne}
 use Rattle.std.proofs.lemmas.Option.{slice_get_within}
 use Rattle.rpc_handlers.specs.declared.event.Event.{Event}
-use Rattle.rpc_handlers.specs.declared.event.Event.TheVariants.{Ended, Tick as Ticked}
-use Rattle.rpc_ids.specs.declared.status.Status.TheVariants.{Unavailable}
 use Rattle.rpc_journal.specs.declared.call_state.CallState.{CallState}
 use Rattle.rpc_journal.specs.declared.entry.EntryKind.{EntryKind}
-use Rattle.rpc_journal.specs.declared.entry.EntryKind.TheVariants.{Tick, EndIn}
 use Rattle.rpc_journal.specs.declared.notice.Notice.{Notice}
 use Rattle.rpc_journal.specs.declared.notice.Notice.TheVariants.{Time, InputEnded}
-use Rattle.rpc_journal.specs.Calls.{of_call, calls, call_count, call_at, has_end, is_start_of, is_finish_of, is_cancel_of}
+use Rattle.rpc_journal.specs.Calls.{of_call, calls, call_count, is_start_of, is_finish_of, is_cancel_of}
 use Rattle.rpc_journal.specs.Effect.{Effect, Opening, Deed}
 use Rattle.rpc_journal.specs.Entries.{each_from, is_live, wants_tick}
 use Rattle.rpc_journal.specs.Rows.{no_effect}
 use Rattle.rpc_journal.specs.Tells.{TellsOf, TellsCalls, IsToldAll}
-use Rattle.rpc_journal.specs.Touch.{IsTouched, Touches, deed_by, is_told, putting, telling, told_event, untouched, wants_time}
+use Rattle.rpc_journal.specs.Touch.{IsTouched, Touches, deed_by, is_told, putting, telling, told_event, untouched}
 use Rattle.rpc_journal.proofs.DeedLemmas.{never}
 use Rattle.rpc_journal.proofs.PlaceLemmas.{get_some}
-use Rattle.rpc_journal.proofs.StepLemmas.{TellsOlder, get_other, get_set, none_opens, same_at, same_or_not}
+use Rattle.rpc_journal.proofs.StepLemmas.{get_other, get_set, none_opens, same_at, same_or_not}
 use Rattle.rpc_journal.proofs.TableLemmas.{ended_is, opening_is, some_same}
 use Rattle.rpc_journal.proofs.TellLemmas.{tells_touched}
 

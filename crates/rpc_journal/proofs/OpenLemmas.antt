@@ -1,5 +1,5 @@
 -- How a plain table follows its history over an arrival that opens a call.
-use Rattle.std.proofs.Common.{◌≡◌, ◌≢◌, ℕ, ◌+◌, ◌<◌, ◌≤◌, Bool, true, false, ◌==◌, List, [], ◌∷◌, ◌++◌, length, set, slice_get, Option, Some, None, refl, ap, sym, ◌∙◌, subst, eq-eqb, ne_eqb, arith}
+use Rattle.std.proofs.Common.{◌≡◌, ℕ, ◌<◌, true, false, ◌==◌, List, [], ◌∷◌, ◌++◌, length, set, slice_get, Some, None, refl, sym, subst, eq-eqb, ne_eqb, arith}
 use Rattle.std.proofs.lemmas.Option.{slice_get_within}
 use Rattle.rpc_ids.specs.declared.method.MethodRef.{MethodRef}
 use Rattle.rpc_ids.specs.declared.status.Status.TheVariants.{Cancelled}

@@ -1,10 +1,9 @@
 -- Elements of lists by their places, and the last call of a name by the places of the calls.
-use Rattle.std.proofs.Common.{◌≡◌, ◌⊎◌, ℕ, zero, suc, ◌+◌, ◌<◌, ◌≤◌, Bool, true, false, not, List, [], ◌∷◌, ◌++◌, length, slice_get, get_or, Option, Some, None, option_to_list, option_and_then, if◌then◌else◌, refl, ap, sym, ◌∙◌, subst, inl, inr, arith, length-append}
-use Rattle.std.proofs.lemmas.Bool.{true≢false, false≢true}
+use Rattle.std.proofs.Common.{◌≡◌, ◌⊎◌, ℕ, zero, suc, ◌+◌, ◌<◌, ◌≤◌, true, false, List, [], ◌∷◌, ◌++◌, length, slice_get, get_or, Option, Some, None, option_to_list, if◌then◌else◌, refl, ap, sym, ◌∙◌, subst, inl, inr, arith, length-append}
 use Rattle.std.proofs.lemmas.List.{append-nil}
 use Rattle.std.proofs.lemmas.Option.{slice_get_within, slice_get-get_or}
 use Rattle.rpc_packet.specs.declared.call_name.CallName.{CallName}
-use Rattle.rpc_journal.specs.Calls.{calls, call_count, call_at, has_end, last_call, live_call, opens_named, same_name}
+use Rattle.rpc_journal.specs.Calls.{calls, call_count, call_at, last_call, opens_named, same_name}
 use Rattle.rpc_journal.specs.Effect.{Opening, Deed}
 
 pub below_or_not : (n m : ℕ) → (n < m) ⊎ (m ≤ n)

@@ -1,5 +1,5 @@
 -- A table with more room in its queues tells of the same history.
-use Rattle.std.proofs.Common.{◌≡◌, ◌≢◌, ◌⊎◌, ℕ, false, ◌+◌, ◌<◌, ◌≤◌, List, [], ◌∷◌, ◌++◌, length, set, slice_get, Option, Some, None, Result, Ok, Err, OnOk, OnErr, refl, ap, sym, ◌∙◌, subst, inl, inr, arith, length-set}
+use Rattle.std.proofs.Common.{◌≡◌, ◌≢◌, ◌⊎◌, ℕ, false, ◌<◌, List, ◌∷◌, length, set, slice_get, Some, None, Result, Ok, Err, OnOk, OnErr, refl, ap, sym, ◌∙◌, subst, inl, inr, arith, length-set}
 use Rattle.std.specs.VecDeque.{deque_len, deque_capacity}
 use Rattle.std.proofs.lemmas.Option.{slice_get_within}
 use Rattle.rpc_journal.specs.declared.call_state.CallState.{CallState}
@@ -7,13 +7,11 @@ use Rattle.rpc_journal.specs.declared.call_states.CallStates.{CallStates}
 use Rattle.rpc_ids.specs.declared.method.MethodRef.{MethodRef}
 use Rattle.rpc_packet.specs.declared.owned.Packet.{Packet}
 use Rattle.rpc_handlers.specs.declared.event.Event.TheVariants.{Request}
-use Rattle.rpc_journal.specs.Calls.{call_at, call_count, is_start_of}
-use Rattle.rpc_journal.specs.Effect.{Opening, Deed}
-use Rattle.rpc_journal.specs.Marks.{is_empty}
+use Rattle.rpc_journal.specs.Calls.{call_at, is_start_of}
+use Rattle.rpc_journal.specs.Effect.{Deed}
 use Rattle.rpc_journal.specs.Items.{items_sent}
-use Rattle.rpc_journal.specs.Queues.{waiting_of}
-use Rattle.rpc_journal.specs.Tells.{HasRoomAt, IsOpening, IsOpenAt, IsSilentOn, TellsOf, TellsCalls, Tells, IsSameTable}
-use Rattle.rpc_journal.specs.Touch.{IsSame, IsServed, Touch, Touches, putting, untouched, put_at}
+use Rattle.rpc_journal.specs.Tells.{HasRoomAt, IsOpening, IsOpenAt, IsSilentOn, TellsOf, Tells, IsSameTable}
+use Rattle.rpc_journal.specs.Touch.{IsSame, IsServed, Touches, putting}
 use Rattle.rpc_journal.proofs.PlaceLemmas.{get_some}
 use Rattle.rpc_journal.proofs.StepLemmas.{get_set, get_other, same_or_not}
 use Rattle.rpc_journal.proofs.TableLemmas.{some_same}

@@ -1,14 +1,13 @@
 -- How a plain table follows its history over one more entry.
-use Rattle.std.proofs.Common.{◌≡◌, ◌≢◌, ◌⊎◌, ℕ, zero, suc, ◌+◌, ◌<◌, ◌≤◌, Bool, true, false, List, [], ◌∷◌, ◌++◌, length, set, slice_get, Option, Some, None, option_to_list, if◌then◌else◌, refl, ap, sym, ◌∙◌, subst, inl, inr, arith, length-append, length-set}
-use Rattle.std.proofs.lemmas.Bool.{true≢false, false≢true}
+use Rattle.std.proofs.Common.{◌≡◌, ◌≢◌, ◌⊎◌, ℕ, zero, suc, ◌+◌, ◌<◌, ◌≤◌, List, [], ◌∷◌, ◌++◌, length, set, slice_get, Some, None, option_to_list, refl, ap, sym, ◌∙◌, subst, inl, inr, arith, length-append, length-set}
 use Rattle.std.proofs.lemmas.List.{append-nil}
 use Rattle.std.proofs.lemmas.Option.{slice_get_within}
 use Rattle.rpc_journal.specs.declared.call_state.CallState.{CallState}
 use Rattle.rpc_journal.specs.Calls.{calls, call_count, call_at}
 use Rattle.rpc_journal.specs.Effect.{Opening, Deed}
-use Rattle.rpc_journal.specs.Tells.{TellsOf, IsSilentOn, TellsCalls}
+use Rattle.rpc_journal.specs.Tells.{TellsOf, TellsCalls}
 use Rattle.rpc_journal.specs.Touch.{Touch, Touches, IsTouched, untouched}
-use Rattle.rpc_journal.proofs.PlaceLemmas.{get_front, get_last, get_some, below_or_not}
+use Rattle.rpc_journal.proofs.PlaceLemmas.{get_front, get_last, below_or_not}
 use Rattle.rpc_journal.proofs.TableLemmas.{some_same}
 use Rattle.rpc_journal.proofs.TellLemmas.{tells_touched, is_untouched, still_silent}
 

@@ -1,14 +1,13 @@
 -- What a plain table knows of the calls of its history.
-use Rattle.std.proofs.Common.{◌≡◌, ◌⊎◌, ℕ, ◌+◌, ◌-◌, ◌<◌, ◌≤◌, Bool, true, false, not, List, [], ◌∷◌, length, slice_get, Option, Some, None, is_some, option_to_list, option_and_then, if◌then◌else◌, refl, ap, sym, ◌∙◌, subst, inl, inr, arith}
-use Rattle.std.proofs.lemmas.Bool.{true≢false, false≢true}
+use Rattle.std.proofs.Common.{◌≡◌, ◌⊎◌, ℕ, ◌+◌, ◌<◌, ◌≤◌, true, false, not, List, length, slice_get, Option, Some, None, is_some, option_to_list, option_and_then, if◌then◌else◌, refl, ap, sym, ◌∙◌, inl, inr, arith}
+use Rattle.std.proofs.lemmas.Bool.{true≢false}
 use Rattle.rpc_ids.specs.declared.status.Status.{Status}
 use Rattle.rpc_packet.specs.declared.call_name.CallName.{CallName}
 use Rattle.rpc_journal.specs.declared.call_state.CallState.{CallState}
-use Rattle.rpc_journal.specs.declared.call_states.CallStates.{CallStates}
-use Rattle.rpc_journal.specs.Calls.{call_count, call_at, ends_of, has_end, last_call, live_call, same_name}
+use Rattle.rpc_journal.specs.Calls.{call_count, call_at, has_end, last_call, live_call, same_name}
 use Rattle.rpc_journal.specs.Effect.{Opening, Deed}
 use Rattle.rpc_journal.specs.Marks.{is_empty}
-use Rattle.rpc_journal.specs.Tells.{IsOpening, TellsOf, TellsCalls, Tells}
+use Rattle.rpc_journal.specs.Tells.{IsOpening, TellsOf, TellsCalls}
 use Rattle.rpc_journal.proofs.PlaceLemmas.{NoneNamed, last_named, none_named, get_some, below_or_not}
 use Rattle.std.proofs.lemmas.Option.{slice_get_within}
 

@@ -1,16 +1,15 @@
 -- How a plain table follows its history over an entry of each kind.
-use Rattle.std.proofs.Common.{◌≡◌, ◌≢◌, ℕ, zero, suc, ◌+◌, ◌<◌, ◌≤◌, Bool, true, false, not, ◌&&◌, ◌||◌, ◌==◌, List, [], ◌∷◌, ◌++◌, length, set, slice_get, Option, Some, None, is_some, option_to_list, if◌then◌else◌, refl, ap, sym, ◌∙◌, subst, eq-eqb, ne_eqb, arith, length-append}
+use Rattle.std.proofs.Common.{◌≡◌, ◌≢◌, ℕ, ◌+◌, ◌<◌, Bool, true, false, ◌==◌, List, ◌∷◌, length, set, slice_get, Some, None, if◌then◌else◌, refl, sym, ◌∙◌, subst, eq-eqb, ne_eqb, arith, length-append}
 use Rattle.std.proofs.lemmas.Option.{slice_get_within}
 use Rattle.rpc_journal.specs.declared.call_state.CallState.{CallState}
 use Rattle.rpc_journal.specs.declared.call_states.CallStates.{CallStates}
 use Rattle.rpc_journal.specs.declared.entry.EntryKind.{EntryKind}
-use Rattle.rpc_journal.specs.Calls.{calls, call_count, call_at}
-use Rattle.rpc_journal.specs.Effect.{Opening, Effect, Deed}
-use Rattle.rpc_journal.specs.Items.{flush_count, halt_reason, input_ended, is_end_in, is_flush, items_sent, reason_of}
-use Rattle.rpc_journal.specs.Marks.{or_else}
-use Rattle.rpc_journal.specs.Tells.{TellsOf, TellsCalls, Tells}
+use Rattle.rpc_journal.specs.Calls.{calls}
+use Rattle.rpc_journal.specs.Effect.{Deed}
+use Rattle.rpc_journal.specs.Items.{is_end_in, is_flush, items_sent, reason_of}
+use Rattle.rpc_journal.specs.Tells.{TellsCalls, Tells}
 use Rattle.rpc_journal.specs.Touch.{Touch, Touches, IsTouched, untouched}
-use Rattle.rpc_journal.proofs.StepLemmas.{TellsOlder, one_changes, none_changes, none_opens, one_opens}
+use Rattle.rpc_journal.proofs.StepLemmas.{one_changes, none_changes, none_opens}
 use Rattle.rpc_journal.proofs.DeedLemmas.{IsIdle, idle_touches}
 
 -- the deed does this to call c, and nothing to any other

@@ -1,20 +1,19 @@
 -- How the state of a call follows its history: one lemma for an entry of any kind.
-use Rattle.std.proofs.Common.{◌≡◌, ℕ, zero, suc, ◌+◌, ◌-◌, ◌<◌, ◌≤◌, Bool, true, false, not, ◌&&◌, ◌||◌, List, [], ◌∷◌, ◌++◌, length, map, drop, slice_get, Option, Some, None, is_some, option_to_list, if◌then◌else◌, refl, ap, sym, ◌∙◌, subst, arith, length-append, length-drop}
+use Rattle.std.proofs.Common.{◌≡◌, ℕ, ◌+◌, ◌≤◌, Bool, true, false, List, [], ◌∷◌, ◌++◌, length, map, drop, slice_get, Option, Some, None, is_some, option_to_list, if◌then◌else◌, refl, ap, sym, ◌∙◌, subst, arith, length-append, length-drop}
 use Rattle.std.proofs.lemmas.Bool.{true≢false, false≢true}
 use Rattle.std.proofs.lemmas.List.{append-nil, drop-append-le, drop-drop}
 use Rattle.std.proofs.lemmas.List.Folds.{list_any-append}
 use Rattle.std.proofs.Math.Bool.{or-false}
-use Rattle.std.specs.List.{list_any}
 use Rattle.rpc_ids.specs.declared.status.Status.{Status}
 use Rattle.rpc_handlers.specs.declared.event.Event.{Event}
 use Rattle.rpc_journal.specs.declared.call_state.CallState.{CallState}
 use Rattle.rpc_journal.specs.declared.waiting.Waiting.{Waiting}
-use Rattle.rpc_journal.specs.Calls.{of_call, call_count, call_at, ends_of, is_cancelled, runner_of, is_start_of, is_finish_of}
+use Rattle.rpc_journal.specs.Calls.{of_call, call_at, is_start_of}
 use Rattle.rpc_journal.specs.Effect.{Opening, Deed}
 use Rattle.rpc_journal.specs.Entries.{was_ended}
-use Rattle.rpc_journal.specs.Items.{is_done, is_for, sends_completion, items_sent}
+use Rattle.rpc_journal.specs.Items.{items_sent}
 use Rattle.rpc_journal.specs.Marks.{is_empty, or_else}
-use Rattle.rpc_journal.specs.Queues.{drops_of, is_completion, is_completed, puts_since, starts_since, waiting_of, taken_event}
+use Rattle.rpc_journal.specs.Queues.{drops_of, puts_since, starts_since, waiting_of, taken_event}
 use Rattle.rpc_journal.specs.Tells.{IsOpening, TellsOf, IsSilentOn}
 use Rattle.rpc_journal.specs.Touch.{Touch, Touches, IsTouched, untouched, put_at, begins_with_end}
 

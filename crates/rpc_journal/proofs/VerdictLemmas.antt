@@ -1,5 +1,5 @@
 -- How a judge walks a journal.
-use Rattle.std.proofs.Common.{◌≡◌, ℕ, zero, suc, ◌+◌, ◌<◌, ◌≤◌, List, [], ◌∷◌, ◌++◌, length, take, drop, reverse, slice_get, Option, Some, None, refl, ap, sym, ◌∙◌, subst, add-one, arith, length-take}
+use Rattle.std.proofs.Common.{◌≡◌, ℕ, zero, suc, ◌+◌, ◌≤◌, List, [], ◌∷◌, ◌++◌, length, take, drop, reverse, slice_get, Some, None, refl, ap, sym, ◌∙◌, subst, add-one, arith, length-take}
 use Rattle.rpc_ids.specs.declared.method.MethodRef.{MethodRef}
 use Rattle.rpc_ids.specs.declared.method.Role.{Role}
 use Rattle.rpc_ids.specs.declared.method.Role.TheVariants.{Server}
@@ -12,7 +12,6 @@ use Rattle.rpc_journal.specs.Faults.{IsFirstFault, IsSettingOf}
 use Rattle.rpc_journal.specs.History.{history, tell, told}
 use Rattle.rpc_journal.specs.Lawful.{AllowedAll, IsLawful, broken}
 use Rattle.rpc_journal.proofs.Push.{history-push, lawful-front, lawful-push}
-use Rattle.rpc_journal.proofs.PlaceLemmas.{get_last}
 
 take_suc : {A : Type 0} (xs : List A) (k : ℕ) (x : A) → slice_get xs k ≡ Some x → take (suc k) xs ≡ take k xs ++ x ∷ []
 take_suc [] k x there = absurd cc

@@ -1,5 +1,5 @@
 -- The walk goes on over allowed entries, and stops at the first other one.
-use Rattle.std.proofs.Common.{◌≡◌, ◌<◌, ◌≤◌, List, length, take, slice_get, Some, option_copied, refl, ap, sym, ◌∙◌, subst, arith}
+use Rattle.std.proofs.Common.{◌≡◌, List, take, slice_get, Some, option_copied, refl, ap, sym, ◌∙◌, subst, arith}
 use Rattle.std.proofs.lemmas.Bool.{true≢false}
 use Rattle.rpc_handlers.specs.HandlerRule.{empty_memo}
 use Rattle.rpc_ids.specs.declared.method.Role.TheVariants.{Server}

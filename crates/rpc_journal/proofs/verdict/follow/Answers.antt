@@ -1,4 +1,4 @@
-use Rattle.std.proofs.Common.{◌≡◌, ◌∷◌, ℕ, length, refl, ap, sym, ◌∙◌, arith}
+use Rattle.std.proofs.Common.{ap}
 use Rattle.rpc_journal.specs.Lawful.{call_named}
 use Rattle.rpc_journal.specs.declared.entry.EntryKind.TheVariants.{Arrive, Say, Start, Finish, Cancel, Tick, EndIn, Flush, Halt, Replace}
 use Rattle.rpc_journal.specs.declared.notice.Notice.TheVariants.{Time, InputEnded}

@@ -1,14 +1,12 @@
 -- Each move is made as its row says, over a table with more room.
-use Rattle.std.proofs.Common.{◌≡◌, ◌∷◌, ℕ, List, length, Ok, refl, ap, sym, ◌∙◌, subst, arith}
-use Rattle.rpc_ids.specs.declared.method.MethodRef.{MethodRef}
+use Rattle.std.proofs.Common.{◌∷◌, length, refl, ap, sym, ◌∙◌, subst, arith}
 use Rattle.rpc_journal.specs.declared.arrival_move.Move.TheVariants.{Drop, Reply, Close, Open, OpenAnew, Queue, Complete}
 use Rattle.rpc_handlers.specs.declared.event.Event.TheVariants.{Message}
 use Rattle.rpc_journal.specs.Rows.{no_effect, puts_event}
 use Rattle.rpc_journal.specs.Calls.{call_count}
 use Rattle.rpc_journal.specs.Moves.{row_of}
-use Rattle.rpc_journal.specs.declared.call_states.CallStates.{CallStates}
 use Rattle.rpc_journal.specs.declared.entry.EntryKind.TheVariants.{Arrive}
-use Rattle.rpc_journal.specs.Tells.{IsOpenAt, IsSameTable, Tells}
+use Rattle.rpc_journal.specs.Tells.{IsOpenAt, Tells}
 use Rattle.rpc_journal.specs.Touch.{IsServed, deed_by}
 use Rattle.rpc_journal.proofs.OpenLemmas.{arrived}
 use Rattle.rpc_journal.proofs.RoomLemmas.{items_same, on_err_of, on_ok, same_table_open, same_table_tells, same_table_trans}

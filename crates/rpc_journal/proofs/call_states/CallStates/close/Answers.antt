@@ -1,4 +1,4 @@
-use Rattle.std.proofs.Common.{◌≡◌, ◌+◌, ℕ, length, refl, subst, arith}
+use Rattle.std.proofs.Common.{length, refl, subst, arith}
 use Rattle.rpc_journal.specs.declared.entry.EntryKind.TheVariants.{Arrive}
 use Rattle.rpc_journal.specs.Rows.{ends_and_clears}
 use Rattle.rpc_journal.specs.Touch.{IsTouched, deed_by, closing}

@@ -1,4 +1,4 @@
-use Rattle.std.proofs.Common.{◌≡◌, ◌+◌, ◌∙◌, [], length, length-append, refl, subst, arith}
+use Rattle.std.proofs.Common.{◌∙◌, [], length, length-append, refl, subst, arith}
 use Rattle.rpc_journal.specs.declared.entry.EntryKind.TheVariants.{EndIn}
 use Rattle.rpc_journal.specs.declared.notice.Notice.TheVariants.{InputEnded}
 use Rattle.rpc_journal.specs.Items.{items_sent}

@@ -1,4 +1,4 @@
-use Rattle.std.proofs.Common.{◌≡◌, [], length, refl, arith, length-append}
+use Rattle.std.proofs.Common.{[], refl, arith, length-append}
 use Rattle.rpc_journal.specs.declared.entry.EntryKind.TheVariants.{Flush}
 use Rattle.rpc_journal.specs.Items.{items_sent}
 use Rattle.rpc_journal.specs.Rows.{no_effect}

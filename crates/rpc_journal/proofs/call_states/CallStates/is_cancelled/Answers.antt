@@ -1,4 +1,4 @@
-use Rattle.std.proofs.Common.{Some, None, sym, ◌∙◌}
+use Rattle.std.proofs.Common.{Some, None, sym}
 use Rattle.rpc_journal.proofs.KnownStates.{cancel_known}
 use Rattle.rpc_journal.proofs.call_states.CallStates.is_cancelled.Goals as goal
 

@@ -1,4 +1,3 @@
-use Rattle.std.proofs.Common.{◌≡◌, refl}
 use Rattle.rpc_journal.proofs.PlaceLemmas.{get_read}
 use Rattle.rpc_journal.specs.Tells.{IsOpenAt}
 use Rattle.rpc_journal.proofs.call_states.CallStates.is_completed.Goals as goal

@@ -1,5 +1,5 @@
 -- The last state of the name is at c, where the loop stops; where it never stops, no state has the name.
-use Rattle.std.proofs.Common.{◌≡◌, ◌+◌, ◌-◌, ◌≤◌, ◌<◌, ℕ, false, length, slice_get, Some, is_some, refl, ap, sym, ◌∙◌, arith}
+use Rattle.std.proofs.Common.{◌≡◌, ◌+◌, ◌-◌, false, is_some, refl, ap, sym, ◌∙◌, arith}
 use Rattle.rpc_journal.proofs.PlaceLemmas.{get_read}
 use Rattle.rpc_journal.proofs.TableLemmas.{NoneKnown, live_at, no_live, no_status, none_more, some_same}
 use Rattle.rpc_journal.proofs.call_states.CallStates.live.Goals as goal

@@ -1,10 +1,6 @@
-use Rattle.std.proofs.Common.{◌≡◌, ◌<◌, length, length-set, set, slice_get, Some, Ok, Err, refl, ap, sym, ◌∙◌, subst, arith}
-use Rattle.std.specs.VecDeque.{deque_len, deque_capacity}
-use Rattle.rpc_journal.specs.declared.call_state.CallState.{CallState}
+use Rattle.std.proofs.Common.{length-set, refl}
 use Rattle.rpc_journal.proofs.PlaceLemmas.{get_read}
 use Rattle.rpc_journal.proofs.RoomLemmas.{has_room, on_ok, one_same}
-use Rattle.rpc_journal.proofs.StepLemmas.{get_set}
-use Rattle.rpc_journal.proofs.TableLemmas.{some_same}
 use Rattle.rpc_journal.proofs.call_states.CallStates.make_room.Goals as goal
 
 pub returns-clause-same : goal.returns-clause-same

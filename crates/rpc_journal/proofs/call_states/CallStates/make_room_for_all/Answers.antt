@@ -1,4 +1,4 @@
-use Rattle.std.proofs.Common.{◌≡◌, ◌<◌, ℕ, length, sym, ◌∙◌, below_more, arith}
+use Rattle.std.proofs.Common.{sym, ◌∙◌, below_more, arith}
 use Rattle.rpc_journal.specs.Tells.{HasRoomAt}
 use Rattle.rpc_journal.proofs.RoomLemmas.{same_table_trans}
 use Rattle.rpc_journal.proofs.call_states.CallStates.make_room_for_all.Goals as goal

@@ -1,4 +1,4 @@
-use Rattle.std.proofs.Common.{◌≡◌, ◌+◌, ◌∷◌, ℕ, refl, sym, subst, arith}
+use Rattle.std.proofs.Common.{◌∷◌, refl, sym, subst, arith}
 use Rattle.rpc_journal.specs.declared.entry.EntryKind.TheVariants.{Arrive}
 use Rattle.rpc_journal.specs.Calls.{call_count}
 use Rattle.rpc_journal.specs.Rows.{opens_served}

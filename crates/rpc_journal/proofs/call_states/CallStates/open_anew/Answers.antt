@@ -1,4 +1,4 @@
-use Rattle.std.proofs.Common.{◌≡◌, ◌+◌, ◌∷◌, ℕ, length, refl, sym, subst, arith}
+use Rattle.std.proofs.Common.{◌∷◌, length, refl, sym, subst, arith}
 use Rattle.rpc_ids.specs.declared.status.Status.TheVariants.{Cancelled}
 use Rattle.rpc_journal.specs.declared.entry.EntryKind.TheVariants.{Arrive}
 use Rattle.rpc_journal.specs.Calls.{call_count}

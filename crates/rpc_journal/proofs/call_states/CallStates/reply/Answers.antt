@@ -1,4 +1,4 @@
-use Rattle.std.proofs.Common.{◌≡◌, ◌+◌, Some, refl, sym}
+use Rattle.std.proofs.Common.{refl}
 use Rattle.rpc_packet.specs.declared.packet_type.PacketType.TheVariants.{ServerError}
 use Rattle.rpc_journal.specs.declared.entry.EntryKind.TheVariants.{Arrive}
 use Rattle.rpc_journal.specs.Rows.{replied}

@@ -1,4 +1,4 @@
-use Rattle.std.proofs.Common.{◌≡◌, ◌∷◌, [], Some, slice_get, map, length, refl, ap, sym, ◌∙◌, arith}
+use Rattle.std.proofs.Common.{slice_get, length, refl, ap, ◌∙◌, arith}
 use Rattle.rpc_journal.specs.declared.entry.EntryKind.TheVariants.{Start}
 use Rattle.rpc_journal.specs.Rows.{no_effect}
 use Rattle.rpc_journal.specs.Touch.{starting}

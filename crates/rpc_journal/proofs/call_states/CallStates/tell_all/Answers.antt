@@ -1,7 +1,5 @@
-use Rattle.std.proofs.Common.{◌≡◌, ◌≢◌, ◌⊎◌, ◌<◌, ◌≤◌, ◌+◌, ℕ, length, length-set, set, slice_get, Some, ap, sym, ◌∙◌, subst, inl, inr, arith}
+use Rattle.std.proofs.Common.{◌<◌, length, length-set, ◌∙◌, arith}
 use Rattle.std.proofs.lemmas.Option.{slice_get_within}
-use Rattle.rpc_journal.specs.declared.call_state.CallState.{CallState}
-use Rattle.rpc_journal.specs.Touch.{IsTouched, telling}
 use Rattle.rpc_journal.proofs.PlaceLemmas.{get_read}
 use Rattle.rpc_journal.proofs.NoticeLemmas.{told_more}
 use Rattle.rpc_journal.proofs.StepLemmas.{get_other}
