@@ -70,7 +70,7 @@ open_touches seat n k p m false is =
 -- a call opens in the place of another one of its name
 pub anew_touches : (seat n c k : ℕ) (p : Packet) (m : MethodRef) (b q : Bool) → (c == k) ≡ b → (n == k) ≡ q → (b ≡ true → q ≡ false)
     → Touches (deed_by seat (Arrive p) (both (ends_and_clears c Cancelled) (opens_served p m n))) k
-        (if b then closing Cancelled else if q then putting (Request p.payload) else untouched)
+    (if b then closing Cancelled else if q then putting (Request p.payload) else untouched)
 anew_touches seat n c k p m true q is at apart =
     let other : (n == k) ≡ false = at ∙ apart refl in
     record { starts = refl; finishes = refl; cancels = refl; completes = refl; ends = rw is refl; clears = rw is refl; puts = rw (is, other) refl; alone = never }

@@ -79,13 +79,13 @@ how_many c name says [] = refl
 how_many c name says (out ∷ outs) =
     length-append (answer_item Server c name says out) (flat_map (answer_item Server c name says) outs)
     ∙ (ap (λ n. n + length (flat_map (answer_item Server c name says) outs)) (one_item c name says out)
-        ∙ (ap (λ n. (if not (is_message out) || says then 1 else 0) + n) (how_many c name says outs)
-            ∙ sym (sum_by-cons (λ x. cond (not (is_message x) || says) 1 0) out outs)))
+    ∙ (ap (λ n. (if not (is_message out) || says then 1 else 0) + n) (how_many c name says outs)
+    ∙ sym (sum_by-cons (λ x. cond (not (is_message x) || says) 1 0) out outs)))
 
 -- the end of an answer
 end_so : (c : ℕ) (name : CallName) (says done : Bool) (outs : List Out) (o : Opening) (end : Option End)
     → EndsSo c (option_map (λ x. x.status) end) (count_by (λ out. not (is_message out) || says) outs + (if is_some end then 1 else 0))
-        (record (end_effect Server c name o.method.kind done end) { says = flat_map (answer_item Server c name says) outs ++ (end_effect Server c name o.method.kind done end).says })
+    (record (end_effect Server c name o.method.kind done end) { says = flat_map (answer_item Server c name says) outs ++ (end_effect Server c name o.method.kind done end).says })
 end_so c name says done outs o None = record {
   opens = refl;
   ends = refl;
@@ -106,15 +106,15 @@ end_so c name says done outs o (Some end) = record {
 -- the whole end of a run, where the call is `cut`, or its answer is `heard`
 run_ends_so : (c : ℕ) (o : Opening) (cut heard done : Bool) (a : Answer)
     → EndsSo c (if not cut && heard then option_map (λ x. x.status) a.end else None)
-        (if cut then 1
-        else count_by (λ out. not (is_message out) || (heard && streams_down o.method.kind)) a.items + (if heard && is_some a.end then 1 else 0))
-        (if cut then says_item (leaves c) else answered Server c o heard done a)
+    (if cut then 1
+    else count_by (λ out. not (is_message out) || (heard && streams_down o.method.kind)) a.items + (if heard && is_some a.end then 1 else 0))
+    (if cut then says_item (leaves c) else answered Server c o heard done a)
 run_ends_so c o true heard done a =
     record { opens = refl; ends = refl; drops = refl; puts = refl; many = refl; quiet = λ k. none_and (c == k) }
 run_ends_so c o false true done a =
     subst
     (λ says. EndsSo c (option_map (λ x. x.status) a.end)
-        (count_by (λ out. not (is_message out) || says) a.items + (if is_some a.end then 1 else 0)) (answered Server c o true done a))
+    (count_by (λ out. not (is_message out) || says) a.items + (if is_some a.end then 1 else 0)) (answered Server c o true done a))
     (and-true (streams_down o.method.kind)) (end_so c o.name (messages_go Server o.method.kind true done) done a.items o a.end)
 run_ends_so c o false false done a = record {
   opens = refl;
@@ -139,9 +139,9 @@ finish_so set ds c r a tells role =
     rw (opening.1, role, tells.cancelled, heard_is ds c r tells)
     (subst
     (λ m. EndsSo c (end_given r a)
-        (if r.cancelled then 1
-        else count_by (λ out. not (is_message out) || (hears_answer r && streams_down m.kind)) a.items + (if hears_answer r && is_some a.end then 1 else 0))
-        (if r.cancelled then says_item (leaves c) else answered Server c opening.0 (hears_answer r) (is_done ds c) a))
+    (if r.cancelled then 1
+    else count_by (λ out. not (is_message out) || (hears_answer r && streams_down m.kind)) a.items + (if hears_answer r && is_some a.end then 1 else 0))
+    (if r.cancelled then says_item (leaves c) else answered Server c opening.0 (hears_answer r) (is_done ds c) a))
     opening.3 (run_ends_so c opening.0 r.cancelled (hears_answer r) (is_done ds c) a))
 
 ends_here : (c k : ℕ) (end : Option Status) → (c == k) ≡ true → of_call k (map (λ s. (c, s)) (option_to_list end)) ≡ option_to_list end

@@ -5,6 +5,7 @@ pub mod DemoTable
 pub mod EndLemmas
 pub mod Examples
 pub mod FinishLemmas
+pub mod FirstLemmas
 pub mod FollowLemmas
 pub mod ItemLemmas
 pub mod KnownLemmas

@@ -90,7 +90,7 @@ notice_touches ds seat kind notice k r quiet tells =
     let opening = opening_is ds k r tells in
     at (is_told notice r)
     (one_put (notice_test ds notice) (told_event notice) (calls ds) 0 k k opening.0 opening.1 (omega arith)
-        ∙ ap (λ b. if b then told_event notice ∷ [] else []) (test_is ds notice k opening.0 r tells opening.3))
+    ∙ ap (λ b. if b then told_event notice ∷ [] else []) (test_is ds notice k opening.0 r tells opening.3))
   where
     at : (b : Bool) → of_call k (each_from 0 (notice_test ds notice) (told_event notice) (calls ds)) ≡ (if b then told_event notice ∷ [] else [])
         → Touches (deed_by seat kind (notice_effect ds notice)) k (if b then putting (told_event notice) else untouched)

@@ -47,13 +47,13 @@ step_anew ds seat p m states c r y x tells there touched is =
     let within : c < length states = slice_get_within _ _ _ there in
     one_opens ds d states _ o x tells
     (one_changes ds d states c (closing Cancelled) r y tells there
-        (anew_touches seat n c c p m true false (eq-eqb c c refl) (not_one n c (λ same. omega (arith, same, within, tells.many))) (λ h. refl))
-        (λ k below apart. anew_touches seat n c k p m false false (not_one c k (λ same. apart (sym same))) (not_one n k (λ same. omega (arith, same, below))) never)
-        touched)
+    (anew_touches seat n c c p m true false (eq-eqb c c refl) (not_one n c (λ same. omega (arith, same, within, tells.many))) (λ h. refl))
+    (λ k below apart. anew_touches seat n c k p m false false (not_one c k (λ same. apart (sym same))) (not_one n k (λ same. omega (arith, same, below))) never)
+    touched)
     refl
     (served_tells ds d n p m x (tells.beyond n (omega arith))
-        (anew_touches seat n c n p m false true (not_one c n (λ same. omega (arith, same, within, tells.many))) (eq-eqb n n refl) never)
-        (get_last (calls ds) o) is)
+    (anew_touches seat n c n p m false true (not_one c n (λ same. omega (arith, same, within, tells.many))) (eq-eqb n n refl) never)
+    (get_last (calls ds) o) is)
     (λ k past. anew_touches seat n c k p m false false (not_one c k (λ same. omega (arith, same, past, within, tells.many))) (not_one n k (λ same. omega (arith, same, past))) never)
 
 -- an arrival does what its row says

@@ -3,6 +3,7 @@ ghost use Rattle.std.specs.Prelude.{◌≡◌, ◌≢◌, ◌+◌, ◌^◌, ◌|
 ghost use Rattle.std.specs.List.{list_any};
 ghost use Rattle.std.specs.VecDeque.{deque_len, deque_capacity};
 ghost use Rattle.rpc_handlers.specs.declared.event.Event.{Event};
+ghost use Rattle.rpc_journal.specs.Choice.{first_place};
 ghost use Rattle.rpc_journal.specs.Marks.{is_empty, streams_down};
 ghost use Rattle.rpc_journal.specs.Queues.{is_ended, is_tick};
 ghost use Rattle.rpc_journal.specs.Touch.{IsTouched, untouched, starting, finishing, cancelling, closing, putting, is_startable, wants_time, hears_answer, end_given, items_given, items_of_cancel, is_message, IsSame, IsServed, is_told, telling};
@@ -109,6 +110,16 @@ impl CallState {
             && !self.cancelled
             && unflushed < MAX_UNFLUSHED
             && !halted
+    }
+
+    /// The place of the entry that put the oldest event that waits; 0 where none waits.
+    pub fn oldest_place(&self) -> u64
+        ensures { result ≡ first_place self.now.waiting.items }
+    {
+        match self.waiting.front() {
+            Some(oldest) => oldest.at,
+            None => 0,
+        }
     }
 
     /// How many events other than `Ended` wait.

@@ -1,5 +1,5 @@
 //! What a history says of all its calls: a plain table.
-ghost use Rattle.std.specs.Prelude.{◌≡◌, ℕ, ◌<◌, ◌+◌, List, [], ◌∷◌, length, slice_get, Some, None, nat_le, IfSome, option_copied, if◌then◌else◌};
+ghost use Rattle.std.specs.Prelude.{◌≡◌, ℕ, ◌<◌, ◌+◌, List, [], ◌∷◌, length, slice_get, Some, None, nat_le, IfSome, IfNone, option_copied, if◌then◌else◌};
 ghost use Rattle.rpc_packet.specs.declared.call_name.CallName.{CallName};
 ghost use Rattle.rpc_journal.specs.Calls.{call_at, call_count, has_end, is_cancelled, live_call, runner_of, same_name as names_agree};
 ghost use Rattle.rpc_journal.specs.Items.{is_ready};
@@ -7,9 +7,11 @@ ghost use Rattle.rpc_journal.specs.Lawful.{full_among, has_stream};
 ghost use Rattle.rpc_journal.specs.Moves.{row_of};
 ghost use Rattle.rpc_ids.specs.declared.method.Role.TheVariants.{Server};
 ghost use Rattle.rpc_packet.specs.declared.owned.Packet.{Packet};
+ghost use Rattle.rpc_journal.specs.Choice.{IsFirstReady, NoneReady};
 ghost use Rattle.rpc_journal.specs.Effect.{Deed};
 ghost use Rattle.rpc_journal.specs.Queues.{is_completed, messages_waiting};
 ghost use Rattle.rpc_journal.specs.Tells.{IsOpenAt, Tells};
+ghost use Rattle.rpc_journal.specs.Touch.{IsSooner};
 
 use crate::arrival_move::Move;
 use crate::call_state::{CallState, MAX_WAITING, streams_down};
@@ -53,7 +55,11 @@ impl CallStates {
             c -= 1;
             let state = &self.calls[c];
             if same_name(state.name, name) {
-                return if state.status.is_none() { Some(c) } else { None };
+                return if state.status.is_none() {
+                    Some(c)
+                } else {
+                    None
+                };
             }
         }
         None
@@ -79,6 +85,26 @@ impl CallStates {
         match self.state(call) {
             Some(state) => state.is_ready(self.unflushed, self.halted.is_some()),
             None => false,
+        }
+    }
+
+    /// The ready call whose oldest waiting event was put first, the one of the lower number at a tie.
+    pub fn first_ready(&self) -> Option<usize>
+        ensures first { IfSome result (λ c. (ds : List Deed) → Tells ds self.now → IsFirstReady ds c) }
+        ensures none { IfNone result ((ds : List Deed) → Tells ds self.now → NoneReady ds) }
+    {
+        let halted = self.halted.is_some();
+        let count = self.calls.len();
+        let mut found: Option<(usize, u64)> = None;
+        for call in 0..count {
+            let state = &self.calls[call];
+            if state.is_ready(self.unflushed, halted) {
+                found = sooner(found, call, state.oldest_place());
+            }
+        }
+        match found {
+            Some((call, _)) => Some(call),
+            None => None,
         }
     }
 
@@ -157,6 +183,17 @@ impl CallStates {
             None => false,
             Some(c) => self.calls[c].completed,
         }
+    }
+}
+
+// Of the call found so far and a later one that waits since this place, the one that goes first.
+fn sooner(found: Option<(usize, u64)>, call: usize, place: u64) -> Option<(usize, u64)>
+    ensures new { IsSooner place found → result ≡ Some (call, place) }
+    ensures old { (¬ IsSooner place found) → result ≡ found }
+{
+    match found {
+        Some((_, since)) if since <= place => found,
+        _ => Some((call, place)),
     }
 }
 

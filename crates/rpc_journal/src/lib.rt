@@ -14,7 +14,6 @@ mod item;
 mod journal;
 mod judge;
 pub mod laws;
-
 mod notice;
 mod setting;
 mod state_changes;
@@ -25,6 +24,7 @@ pub use answers::{
     ArriveRefused, Arrived, Cancelled, InvokeRefused, ReplaceRefused, SayRefused, StartOfRefused,
     StartRefused,
 };
+pub use arrival_move::{Move, server_move};
 pub use call_state::{CallState, MAX_UNFLUSHED, MAX_WAITING};
 pub use call_states::CallStates;
 pub use entry::{Entry, EntryKind, MAX_ENTRIES};
@@ -32,11 +32,12 @@ pub use fault::{Broken, Fault};
 pub use item::{Act, Item};
 pub use journal::Journal;
 pub use judge::{broken_rule, is_past_limits};
-pub use arrival_move::{Move, server_move};
 pub use notice::Notice;
 pub use setting::Setting;
 pub use verdict::{check, follow};
 pub use waiting::Waiting;
 
+#[cfg(test)]
+mod judge_tests;
 #[cfg(test)]
 mod tests;

@@ -16,11 +16,12 @@ use crate::fault::Fault;
 use crate::journal::Journal;
 use crate::judge::broken_rule;
 use rpc_channel::Channels;
+use rpc_handlers::MAX_ANSWER_ITEMS;
 use rpc_ids::{Registry, Role};
 use std::alloc::{AllocError, Global};
 
 /// How many items an answer can add: its own, and the packet of its end.
-const MAX_ITEMS_GIVEN: u64 = 513;
+const MAX_ITEMS_GIVEN: u64 = MAX_ANSWER_ITEMS as u64 + 1;
 
 /// How many items a cancel can add.
 const MAX_ITEMS_OF_CANCEL: u64 = 2;

@@ -60,9 +60,9 @@ loop-at-preserved c =
       tells = λ set server.
           subst (λ ds. Tells ds c.follow.new.states) (sym (history_next set c.args.journal.now.entries c.loop-at.at c.unwrap-entry.result.now there))
           (c.in_ok-follow.ensures set (history set (take c.loop-at.at c.args.journal.now.entries)) server
-              (its_place set c.args.journal.now.entries c.loop-at.at (omega (arith, c.loop-at.invariant.count)))
-              (sym (c.in_default.ensures set _ server (c.loop-at.invariant.tells set server)))
-              (c.loop-at.invariant.tells set server));
+          (its_place set c.args.journal.now.entries c.loop-at.at (omega (arith, c.loop-at.invariant.count)))
+          (sym (c.in_default.ensures set _ server (c.loop-at.invariant.tells set server)))
+          (c.loop-at.invariant.tells set server));
     }
 
 pub returns-clause-lawful : goal.returns-clause-lawful

@@ -37,8 +37,8 @@ pub returns-in-Arrive : goal.returns-in-Arrive
 returns-in-Arrive c =
     on_ok c.arrive.result
     (λ inner set ds server place fits tells.
-        of_kind set ds c.args.entry.now (Arrive c.in-Arrive.p) c.arrive.new.self c.in-Arrive.is
-        (inner set ds c.args.entry.now.seat place (c.server_move-arrival.ensures.row set ds server tells) tells))
+    of_kind set ds c.args.entry.now (Arrive c.in-Arrive.p) c.arrive.new.self c.in-Arrive.is
+    (inner set ds c.args.entry.now.seat place (c.server_move-arrival.ensures.row set ds server tells) tells))
     c.arrive.ensures.tells
 
 pub returns-in_ok-room_for-in-Say : goal.returns-in_ok-room_for-in-Say

@@ -16,7 +16,7 @@ use Rattle.rpc_journal.proofs.call_states.CallStates.arrive.Goals as goal
 pub returns-in_err-reserve-in-OpenAnew-clause-err : goal.returns-in_err-reserve-in-OpenAnew-clause-err
 returns-in_err-reserve-in-OpenAnew-clause-err c =
     on_err_of _ (same_table_trans c.args.self.now c.make_room-in-OpenAnew.new.self _ c.make_room-in-OpenAnew.ensures.same
-        (items_same c.make_room-in-OpenAnew.new.self _ c.reserve.ensures.items refl refl refl))
+    (items_same c.make_room-in-OpenAnew.new.self _ c.reserve.ensures.items refl refl refl))
 
 pub open_anew-requires-clause-live : goal.open_anew-requires-clause-live
 open_anew-requires-clause-live c =
@@ -28,15 +28,15 @@ pub returns-in-Drop-clause-tells : goal.returns-in-Drop-clause-tells
 returns-in-Drop-clause-tells c = λ set ds seat place row tells.
     arrived set ds seat c.args.p.now Drop c.args.self.now (row ∙ ap (λ m. row_of m c.args.p.now (call_count ds)) c.in-Drop.is)
     (table_idle ds (deed_by seat (Arrive c.args.p.now) no_effect) c.args.self.now c.args.self.now tells
-        (record { start = λ k. refl; finish = λ k. refl; cancel = λ k. refl; ends = refl; drops = refl; puts = refl; says = λ k. refl })
-        refl (record { unflushing = refl; going_on = refl; running = refl }) refl (omega arith) refl refl)
+    (record { start = λ k. refl; finish = λ k. refl; cancel = λ k. refl; ends = refl; drops = refl; puts = refl; says = λ k. refl })
+    refl (record { unflushing = refl; going_on = refl; running = refl }) refl (omega arith) refl refl)
 
 pub returns-in-Reply-clause-tells : goal.returns-in-Reply-clause-tells
 returns-in-Reply-clause-tells c =
     on_ok c.reply.result
     (λ inner set ds seat place row tells.
-        arrived set ds seat c.args.p.now (Reply c.in-Reply.field-0) c.reply.new.self (row ∙ ap (λ m. row_of m c.args.p.now (call_count ds)) c.in-Reply.is)
-        (inner ds seat c.args.p.now c.in-Reply.field-0 tells))
+    arrived set ds seat c.args.p.now (Reply c.in-Reply.field-0) c.reply.new.self (row ∙ ap (λ m. row_of m c.args.p.now (call_count ds)) c.in-Reply.is)
+    (inner ds seat c.args.p.now c.in-Reply.field-0 tells))
     c.reply.ensures.tells
 
 pub returns-in_ok-make_room-in-Close-clause-tells : goal.returns-in_ok-make_room-in-Close-clause-tells
@@ -48,25 +48,25 @@ pub returns-in_ok-state-in-Open-clause-tells : goal.returns-in_ok-state-in-Open-
 returns-in_ok-state-in-Open-clause-tells c =
     on_ok c.open.result
     (λ inner set ds seat place row tells.
-        let served : IsServed (length ds) c.args.p.now c.in-Open.method c.in_ok-state-in-Open.state =
-        subst (λ n. IsServed n c.args.p.now c.in-Open.method c.in_ok-state-in-Open.state) place c.in_ok-state-in-Open.ensures in
-        arrived set ds seat c.args.p.now (Open c.in-Open.method) c.open.new.self (row ∙ ap (λ m. row_of m c.args.p.now (call_count ds)) c.in-Open.is)
-        (inner ds seat c.args.p.now c.in-Open.method tells served))
+    let served : IsServed (length ds) c.args.p.now c.in-Open.method c.in_ok-state-in-Open.state =
+    subst (λ n. IsServed n c.args.p.now c.in-Open.method c.in_ok-state-in-Open.state) place c.in_ok-state-in-Open.ensures in
+    arrived set ds seat c.args.p.now (Open c.in-Open.method) c.open.new.self (row ∙ ap (λ m. row_of m c.args.p.now (call_count ds)) c.in-Open.is)
+    (inner ds seat c.args.p.now c.in-Open.method tells served))
     c.open.ensures.tells
 
 pub returns-in_ok-reserve-in-OpenAnew-clause-tells : goal.returns-in_ok-reserve-in-OpenAnew-clause-tells
 returns-in_ok-reserve-in-OpenAnew-clause-tells c = λ set ds seat place row tells.
     arrived set ds seat c.args.p.now (OpenAnew c.in-OpenAnew.method c.in-OpenAnew.call) c.open_anew.new.self (row ∙ ap (λ m. row_of m c.args.p.now (call_count ds)) c.in-OpenAnew.is)
     (c.open_anew.ensures.tells ds seat c.args.p.now c.in-OpenAnew.method place
-        (same_table_tells ds c.make_room-in-OpenAnew.new.self _ (items_same c.make_room-in-OpenAnew.new.self _ c.reserve.ensures.items refl refl refl)
-            (same_table_tells ds _ _ c.make_room-in-OpenAnew.ensures.same tells))
-        c.in_ok-state-in-OpenAnew.ensures)
+    (same_table_tells ds c.make_room-in-OpenAnew.new.self _ (items_same c.make_room-in-OpenAnew.new.self _ c.reserve.ensures.items refl refl refl)
+    (same_table_tells ds _ _ c.make_room-in-OpenAnew.ensures.same tells))
+    c.in_ok-state-in-OpenAnew.ensures)
 
 pub returns-in_ok-make_room-in-Queue-clause-tells : goal.returns-in_ok-make_room-in-Queue-clause-tells
 returns-in_ok-make_room-in-Queue-clause-tells c = λ set ds seat place row tells.
     arrived set ds seat c.args.p.now (Queue c.in-Queue.call) c.put.new.self (row ∙ ap (λ m. row_of m c.args.p.now (call_count ds)) c.in-Queue.is)
     (subst (λ b. Tells (deed_by seat (Arrive c.args.p.now) (puts_event c.in-Queue.call (Message b)) ∷ ds) c.put.new.self) c.in_ok-payload-in-Queue.ensures.cases
-        (c.put.ensures.tells ds seat c.args.p.now place (same_table_tells ds _ _ c.make_room-in-Queue.ensures.same tells)))
+    (c.put.ensures.tells ds seat c.args.p.now place (same_table_tells ds _ _ c.make_room-in-Queue.ensures.same tells)))
 
 pub returns-in_ok-make_room-in-Complete-clause-tells : goal.returns-in_ok-make_room-in-Complete-clause-tells
 returns-in_ok-make_room-in-Complete-clause-tells c = λ set ds seat place row tells.

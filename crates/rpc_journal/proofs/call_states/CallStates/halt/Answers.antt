@@ -7,10 +7,12 @@ use Rattle.rpc_journal.proofs.TableSteps.{step_idle}
 use Rattle.rpc_journal.proofs.call_states.CallStates.halt.Goals as goal
 
 pub returns : goal.returns
-returns c = record { tells = λ set ds seat tells. record {
-  calls = step_idle ds (deed_by seat (Halt c.args.why) no_effect) _ tells.calls
-      (record { start = λ k. refl; finish = λ k. refl; cancel = λ k. refl; ends = refl; drops = refl; puts = refl; says = λ k. refl }) refl;
-  items = omega (arith, tells.items, length-append (items_sent ds) []);
-  input = tells.input;
-  halt = refl;
-} }
+returns c = record {
+  tells = λ set ds seat tells. record {
+    calls = step_idle ds (deed_by seat (Halt c.args.why) no_effect) _ tells.calls
+        (record { start = λ k. refl; finish = λ k. refl; cancel = λ k. refl; ends = refl; drops = refl; puts = refl; says = λ k. refl }) refl;
+    items = omega (arith, tells.items, length-append (items_sent ds) []);
+    input = tells.input;
+    halt = refl;
+  };
+}

@@ -11,12 +11,14 @@ use Rattle.rpc_journal.proofs.TableSteps.{tells_with}
 use Rattle.rpc_journal.proofs.call_states.CallStates.open_anew.Goals as goal
 
 pub returns : goal.returns
-returns c = record { tells = λ ds seat p m place tells is.
-    let there = get_read c.args.self.now.calls.items c.args.call c.index_mut-old.result.now c.requires.live.within c.index_mut-old.ensures.value in
-    let touched : IsTouched (length ds) (closing Cancelled) c.index_mut-old.result.now c.close.new.self =
-    subst (λ n. IsTouched n (closing Cancelled) c.index_mut-old.result.now c.close.new.self) place c.close.ensures.state in
-    let served : IsServed (length ds) p m c.args.state = subst (λ n. IsServed n p m c.args.state) place is in
-    tells_with ds (deed_by seat (Arrive p) (both (ends_and_clears c.args.call Cancelled) (opens_served p m (call_count ds)))) c.args.self.now _ tells
-    (subst (TellsCalls (deed_by seat (Arrive p) (both (ends_and_clears c.args.call Cancelled) (opens_served p m (call_count ds))) ∷ ds)) (sym c.push_reserved.ensures.items)
-        (step_anew ds seat p m _ c.args.call c.index_mut-old.result.now c.close.new.self c.args.state tells.calls there touched served))
-    (record { unflushing = refl; going_on = refl; running = refl }) (omega arith) refl refl }
+returns c = record {
+  tells = λ ds seat p m place tells is.
+      let there = get_read c.args.self.now.calls.items c.args.call c.index_mut-old.result.now c.requires.live.within c.index_mut-old.ensures.value in
+      let touched : IsTouched (length ds) (closing Cancelled) c.index_mut-old.result.now c.close.new.self =
+      subst (λ n. IsTouched n (closing Cancelled) c.index_mut-old.result.now c.close.new.self) place c.close.ensures.state in
+      let served : IsServed (length ds) p m c.args.state = subst (λ n. IsServed n p m c.args.state) place is in
+      tells_with ds (deed_by seat (Arrive p) (both (ends_and_clears c.args.call Cancelled) (opens_served p m (call_count ds)))) c.args.self.now _ tells
+      (subst (TellsCalls (deed_by seat (Arrive p) (both (ends_and_clears c.args.call Cancelled) (opens_served p m (call_count ds))) ∷ ds)) (sym c.push_reserved.ensures.items)
+      (step_anew ds seat p m _ c.args.call c.index_mut-old.result.now c.close.new.self c.args.state tells.calls there touched served))
+      (record { unflushing = refl; going_on = refl; running = refl }) (omega arith) refl refl;
+}
