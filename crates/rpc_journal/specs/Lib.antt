@@ -6,11 +6,13 @@ pub mod ClientTable
 pub mod Conditions
 pub mod Effect
 pub mod Entries
+pub mod Faults
 pub mod History
 pub mod Items
 pub mod Lawful
 pub mod Laws
 pub mod Marks
+pub mod Moves
 pub mod Outside
 pub mod Queues
 pub mod Quiet
@@ -20,4 +22,6 @@ pub mod Rows
 pub mod Runs
 pub mod ServerTable
 pub mod States
+pub mod Tells
 pub mod Table
+pub mod Touch

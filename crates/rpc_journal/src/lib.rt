@@ -5,24 +5,39 @@
 #![tactic(auto)]
 
 mod answers;
+mod arrival_move;
+mod call_state;
+mod call_states;
 mod entry;
 mod fault;
 mod item;
 mod journal;
+mod judge;
 pub mod laws;
+mod notice;
 mod setting;
+mod state_changes;
+mod verdict;
 mod waiting;
 
 pub use answers::{
     ArriveRefused, Arrived, Cancelled, InvokeRefused, ReplaceRefused, SayRefused, StartOfRefused,
     StartRefused,
 };
+pub use arrival_move::{Move, server_move};
+pub use call_state::{CallState, MAX_UNFLUSHED, MAX_WAITING};
+pub use call_states::CallStates;
 pub use entry::{Entry, EntryKind, MAX_ENTRIES};
 pub use fault::{Broken, Fault};
 pub use item::{Act, Item};
 pub use journal::Journal;
+pub use judge::{broken_rule, is_past_limits};
+pub use notice::Notice;
 pub use setting::Setting;
+pub use verdict::{check, follow};
 pub use waiting::Waiting;
 
+#[cfg(test)]
+mod judge_tests;
 #[cfg(test)]
 mod tests;

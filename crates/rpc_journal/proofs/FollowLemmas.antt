@@ -1,0 +1,112 @@
+-- What it takes to let a plain table follow an entry that is allowed.
+use Rattle.std.proofs.Common.{◌≡◌, ℕ, ◌+◌, ◌^◌, ◌<◌, ◌≤◌, Bool, true, false, not, ◌&&◌, ◌||◌, nat_le, List, ◌∷◌, length, count_by, Some, None, is_some, if◌then◌else◌, refl, ap, sym, ◌∙◌, subst, arith}
+use Rattle.std.proofs.lemmas.Bool.{true≢false, leb-false, and_parts, not-true, not-false, ltb-false}
+use Rattle.std.proofs.lemmas.List.Sums.{count_by-le-length}
+use Rattle.std.proofs.lemmas.Option.{slice_get_within}
+use Rattle.rpc_ids.specs.declared.method.MethodRef.{MethodRef}
+use Rattle.rpc_packet.specs.declared.owned.Packet.{Packet}
+use Rattle.rpc_handlers.specs.declared.answer.Answer.{Answer}
+use Rattle.rpc_handlers.specs.declared.event.Memo.{Memo}
+use Rattle.rpc_handlers.specs.Limits.{is_past_limits}
+use Rattle.rpc_journal.specs.declared.call_state.CallState.{CallState}
+use Rattle.rpc_journal.specs.declared.call_states.CallStates.{CallStates}
+use Rattle.rpc_journal.specs.declared.entry.Entry.{Entry}
+use Rattle.rpc_journal.specs.declared.entry.EntryKind.{EntryKind}
+use Rattle.rpc_journal.specs.declared.entry.EntryKind.TheVariants.{Invoke, Done, Start, Finish, Replace, Flush}
+use Rattle.rpc_journal.specs.declared.notice.Notice.{Notice}
+use Rattle.rpc_journal.specs.declared.setting.Setting.{Setting}
+use Rattle.rpc_journal.specs.Calls.{call_count}
+use Rattle.rpc_journal.specs.Effect.{Deed}
+use Rattle.rpc_journal.specs.History.{entry_by, tell}
+use Rattle.rpc_journal.specs.Items.{flush_count, halt_reason, is_ready, items_sent}
+use Rattle.rpc_journal.specs.Lawful.{broken, call_named, flushes_nothing, is_refused, is_unknown, starts_unready}
+use Rattle.rpc_journal.specs.Moves.{IsServerOf}
+use Rattle.rpc_journal.specs.Rows.{no_effect}
+use Rattle.rpc_journal.specs.Tells.{CanFinish, CanStart, HasRoomAt, HasRoomFor, Tells}
+use Rattle.rpc_journal.specs.Touch.{deed_by, hears_answer, is_startable, items_given, says_messages, is_message}
+use Rattle.rpc_journal.proofs.Allowed.{allowed}
+use Rattle.rpc_journal.proofs.KnownStates.{ready_known}
+use Rattle.rpc_journal.proofs.TableSteps.{table_idle}
+
+-- the call that an allowed entry names is there
+pub known_call : (set : Setting) (ds : List Deed) (t : CallStates) (e : Entry) (c : ℕ) → Tells ds t → broken set ds e ≡ None
+    → call_named e.kind ≡ Some c → c < length t.calls.items
+known_call set ds t e c tells fits names =
+    let known : is_unknown (call_count ds) (Some c) ≡ false = subst (λ o. is_unknown (call_count ds) o ≡ false) names (allowed set ds e fits).known in
+    let below : c < call_count ds = leb-false (call_count ds) c known in
+    omega (arith, below, tells.calls.many)
+
+pub can_start : (set : Setting) (ds : List Deed) (t : CallStates) (e : Entry) (c : ℕ) → Tells ds t → broken set ds e ≡ None
+    → e.kind ≡ Start c → CanStart t.calls.items c
+can_start set ds t e c tells fits is = record {
+  within = known_call set ds t e c tells fits (ap call_named is);
+  waits = λ r there.
+      let started : not (is_ready ds c) ≡ false = subst (λ kind. starts_unready ds kind ≡ false) is (allowed set ds e fits).started in
+      let ready : is_startable r t.unflushed (is_some t.halted) ≡ true = sym (ready_known ds t c (Some r) tells there) ∙ not-false _ started in
+      not-true _ (and_parts _ _ (and_parts _ _ (and_parts _ _ (and_parts _ _ ready).0).0).0).0;
+}
+
+first_false : (a b c : Bool) → (a || b || c) ≡ false → a ≡ false
+first_false true b c is = absurd (true≢false is)
+first_false false b c is = refl
+
+or_first : (a b : Bool) → (a || b) ≡ false → a ≡ false
+or_first true b is = absurd (true≢false is)
+or_first false b is = refl
+
+few_items : (a : Answer) → is_past_limits a ≡ false → length a.items ≤ 512
+few_items a fits = ltb-false 512 (length a.items) (or_first _ _ (or_first _ _ fits))
+
+few_given : (r : CallState) (a : Answer) → length a.items ≤ 512 → items_given r a ≤ 513
+few_given r a few = at r.cancelled (hears_answer r && is_some a.end) (count_by-le-length (λ out. not (is_message out) || says_messages r) a.items)
+  where
+    at : (cut ended : Bool) → count_by (λ out. not (is_message out) || says_messages r) a.items ≤ length a.items
+        → (if cut then 1 else count_by (λ out. not (is_message out) || says_messages r) a.items + (if ended then 1 else 0)) ≤ 513
+    at true ended bound = omega arith
+    at false true bound = omega (arith, bound, few)
+    at false false bound = omega (arith, bound, few)
+
+pub can_finish : (set : Setting) (ds : List Deed) (t : CallStates) (e : Entry) (c : ℕ) (a : Answer) → Tells ds t → broken set ds e ≡ None
+    → e.kind ≡ Finish c a → t.unflushed + 513 < 2 ^ 64 → CanFinish t c a
+can_finish set ds t e c a tells fits is room = record {
+  within = known_call set ds t e c tells fits (ap call_named is);
+  room = λ r there.
+      let few : items_given r a ≤ 513 = few_given r a (few_items a (subst (λ kind. is_refused set ds kind ≡ false) is (allowed set ds e fits).accepted)) in
+      omega (arith, few, room);
+}
+
+pub can_flush : (set : Setting) (ds : List Deed) (t : CallStates) (e : Entry) → Tells ds t → broken set ds e ≡ None → e.kind ≡ Flush
+    → 0 < t.unflushed
+can_flush set ds t e tells fits is =
+    let some : (nat_le (length (items_sent ds)) (flush_count ds) || is_some (halt_reason ds)) ≡ false =
+    subst (λ kind. flushes_nothing ds kind ≡ false) is (allowed set ds e fits).something in
+    let more : flush_count ds < length (items_sent ds) = leb-false _ _ (or_first _ _ some) in
+    omega (arith, more, tells.items)
+
+pub room_for_all : (t : CallStates) (notice : Notice) → ((c : ℕ) → c < length t.calls.items → HasRoomAt t.calls.items c) → HasRoomFor notice t.calls.items
+room_for_all t notice rooms = record { room = λ c r there told. (rooms c (slice_get_within _ _ _ there)).room r there }
+
+-- a server's allowed entry is neither an Invoke nor a Done
+pub no_invoke : {A : Type 0} (set : Setting) (ds : List Deed) (e : Entry) (p : Packet) (m : Memo) (ids : List ℕ) (methods : List MethodRef)
+    → IsServerOf set ids methods → broken set ds e ≡ None → e.kind ≡ Invoke p m → A
+no_invoke set ds e p m ids methods server fits is =
+    let accepted : is_refused set ds (Invoke p m) ≡ false = subst (λ kind. is_refused set ds kind ≡ false) is (allowed set ds e fits).accepted in
+    absurd (true≢false (rw (server.role) at accepted))
+
+pub no_done : {A : Type 0} (set : Setting) (ds : List Deed) (e : Entry) (c : ℕ) (ids : List ℕ) (methods : List MethodRef)
+    → IsServerOf set ids methods → broken set ds e ≡ None → e.kind ≡ Done c → A
+no_done set ds e c ids methods server fits is =
+    let accepted : is_refused set ds (Done c) ≡ false = subst (λ kind. is_refused set ds kind ≡ false) is (allowed set ds e fits).accepted in
+    absurd (true≢false (rw (server.role) at accepted))
+
+-- a Replace changes nothing that a plain table knows
+pub replace_tells : (ds : List Deed) (seat c : ℕ) (m : Memo) (t : CallStates) → Tells ds t → Tells (deed_by seat (Replace c m) no_effect ∷ ds) t
+replace_tells ds seat c m t tells =
+    table_idle ds (deed_by seat (Replace c m) no_effect) t t tells
+    (record { start = λ k. refl; finish = λ k. refl; cancel = λ k. refl; ends = refl; drops = refl; puts = refl; says = λ k. refl })
+    refl (record { unflushing = refl; going_on = refl; running = refl }) refl (omega arith) refl refl
+
+-- an entry of this kind
+pub of_kind : (set : Setting) (ds : List Deed) (e : Entry) (kind : EntryKind) (u : CallStates) → e.kind ≡ kind
+    → Tells (tell set ds (entry_by e.seat kind)) u → Tells (tell set ds e) u
+of_kind set ds e kind u is tells = subst (λ k. Tells (tell set ds (entry_by e.seat k)) u) (sym is) tells

@@ -1,0 +1,63 @@
+-- How a plain table follows its history over an arrival that opens a call.
+use Rattle.std.proofs.Common.{◌≡◌, ℕ, ◌<◌, true, false, ◌==◌, List, [], ◌∷◌, ◌++◌, length, set, slice_get, Some, None, refl, sym, subst, eq-eqb, ne_eqb, arith}
+use Rattle.std.proofs.lemmas.Option.{slice_get_within}
+use Rattle.rpc_ids.specs.declared.method.MethodRef.{MethodRef}
+use Rattle.rpc_ids.specs.declared.status.Status.TheVariants.{Cancelled}
+use Rattle.rpc_packet.specs.declared.owned.Packet.{Packet}
+use Rattle.rpc_journal.specs.declared.call_state.CallState.{CallState}
+use Rattle.rpc_journal.specs.declared.entry.EntryKind.TheVariants.{Arrive}
+use Rattle.rpc_journal.specs.declared.arrival_move.Move.{Move}
+use Rattle.rpc_journal.specs.declared.call_states.CallStates.{CallStates}
+use Rattle.rpc_journal.specs.declared.setting.Setting.{Setting}
+use Rattle.rpc_journal.specs.Entries.{arrive_row}
+use Rattle.rpc_journal.specs.History.{entry_by, tell}
+use Rattle.rpc_journal.specs.Moves.{row_of}
+use Rattle.rpc_journal.specs.Calls.{calls, call_count}
+use Rattle.rpc_journal.specs.Effect.{Opening, Deed}
+use Rattle.rpc_journal.specs.Rows.{Row, both, ends_and_clears, opens_served}
+use Rattle.rpc_journal.specs.Tells.{Tells, TellsCalls}
+use Rattle.rpc_journal.specs.Touch.{IsServed, IsTouched, closing, deed_by}
+use Rattle.rpc_journal.proofs.DeedLemmas.{anew_touches, never, open_touches}
+use Rattle.rpc_journal.proofs.PlaceLemmas.{get_last}
+use Rattle.rpc_journal.proofs.RoomLemmas.{served_tells}
+use Rattle.rpc_journal.proofs.StepLemmas.{none_changes, one_changes, one_opens}
+
+not_one : (a b : ℕ) → (a ≡ b → ⊥) → (a == b) ≡ false
+not_one a b apart = ne_eqb a b apart
+
+pub step_open : (ds : List Deed) (seat : ℕ) (p : Packet) (m : MethodRef) (states : List CallState) (x : CallState) → TellsCalls ds states
+    → IsServed (length ds) p m x → TellsCalls (deed_by seat (Arrive p) (opens_served p m (call_count ds)) ∷ ds) (states ++ x ∷ [])
+step_open ds seat p m states x tells is =
+    let n : ℕ = call_count ds in
+    let d : Deed = deed_by seat (Arrive p) (opens_served p m n) in
+    let o : Opening = record { name = p.name; method = m; given = None } in
+    one_opens ds d states states o x tells
+    (none_changes ds d states tells (λ k below. open_touches seat n k p m false (not_one n k (λ same. omega (arith, same, below)))))
+    refl
+    (served_tells ds d n p m x (tells.beyond n (omega arith)) (open_touches seat n n p m true (eq-eqb n n refl)) (get_last (calls ds) o) is)
+    (λ k past. open_touches seat n k p m false (not_one n k (λ same. omega (arith, same, past))))
+
+pub step_anew : (ds : List Deed) (seat : ℕ) (p : Packet) (m : MethodRef) (states : List CallState) (c : ℕ) (r y x : CallState) → TellsCalls ds states
+    → slice_get states c ≡ Some r → IsTouched (length ds) (closing Cancelled) r y → IsServed (length ds) p m x
+    → TellsCalls (deed_by seat (Arrive p) (both (ends_and_clears c Cancelled) (opens_served p m (call_count ds))) ∷ ds) (set states c y ++ x ∷ [])
+step_anew ds seat p m states c r y x tells there touched is =
+    let n : ℕ = call_count ds in
+    let d : Deed = deed_by seat (Arrive p) (both (ends_and_clears c Cancelled) (opens_served p m n)) in
+    let o : Opening = record { name = p.name; method = m; given = None } in
+    let within : c < length states = slice_get_within _ _ _ there in
+    one_opens ds d states _ o x tells
+    (one_changes ds d states c (closing Cancelled) r y tells there
+    (anew_touches seat n c c p m true false (eq-eqb c c refl) (not_one n c (λ same. omega (arith, same, within, tells.many))) (λ h. refl))
+    (λ k below apart. anew_touches seat n c k p m false false (not_one c k (λ same. apart (sym same))) (not_one n k (λ same. omega (arith, same, below))) never)
+    touched)
+    refl
+    (served_tells ds d n p m x (tells.beyond n (omega arith))
+    (anew_touches seat n c n p m false true (not_one c n (λ same. omega (arith, same, within, tells.many))) (eq-eqb n n refl) never)
+    (get_last (calls ds) o) is)
+    (λ k past. anew_touches seat n c k p m false false (not_one c k (λ same. omega (arith, same, past, within, tells.many))) (not_one n k (λ same. omega (arith, same, past))) never)
+
+-- an arrival does what its row says
+pub arrived : (set : Setting) (ds : List Deed) (seat : ℕ) (p : Packet) (move : Move) (u : CallStates)
+    → arrive_row set ds p ≡ row_of move p (call_count ds) → Tells (deed_by seat (Arrive p) (row_of move p (call_count ds)).does ∷ ds) u
+    → Tells (tell set ds (entry_by seat (Arrive p))) u
+arrived set ds seat p move u is tells = subst (λ (row : Row). Tells (deed_by seat (Arrive p) row.does ∷ ds) u) (sym is) tells

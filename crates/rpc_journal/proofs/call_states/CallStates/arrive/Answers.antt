@@ -1,0 +1,74 @@
+-- Each move is made as its row says, over a table with more room.
+use Rattle.std.proofs.Common.{◌∷◌, length, refl, ap, sym, ◌∙◌, subst, arith}
+use Rattle.rpc_journal.specs.declared.arrival_move.Move.TheVariants.{Drop, Reply, Close, Open, OpenAnew, Queue, Complete}
+use Rattle.rpc_handlers.specs.declared.event.Event.TheVariants.{Message}
+use Rattle.rpc_journal.specs.Rows.{no_effect, puts_event}
+use Rattle.rpc_journal.specs.Calls.{call_count}
+use Rattle.rpc_journal.specs.Moves.{row_of}
+use Rattle.rpc_journal.specs.declared.entry.EntryKind.TheVariants.{Arrive}
+use Rattle.rpc_journal.specs.Tells.{IsOpenAt, Tells}
+use Rattle.rpc_journal.specs.Touch.{IsServed, deed_by}
+use Rattle.rpc_journal.proofs.OpenLemmas.{arrived}
+use Rattle.rpc_journal.proofs.RoomLemmas.{items_same, on_err_of, on_ok, same_table_open, same_table_tells, same_table_trans}
+use Rattle.rpc_journal.proofs.TableSteps.{table_idle}
+use Rattle.rpc_journal.proofs.call_states.CallStates.arrive.Goals as goal
+
+pub returns-in_err-reserve-in-OpenAnew-clause-err : goal.returns-in_err-reserve-in-OpenAnew-clause-err
+returns-in_err-reserve-in-OpenAnew-clause-err c =
+    on_err_of _ (same_table_trans c.args.self.now c.make_room-in-OpenAnew.new.self _ c.make_room-in-OpenAnew.ensures.same
+    (items_same c.make_room-in-OpenAnew.new.self _ c.reserve.ensures.items refl refl refl))
+
+pub open_anew-requires-clause-live : goal.open_anew-requires-clause-live
+open_anew-requires-clause-live c =
+    let opened : IsOpenAt c.args.self.now.calls.items c.in-OpenAnew.call = rw c.in-OpenAnew.is at c.requires in
+    subst (λ xs. IsOpenAt xs c.in-OpenAnew.call) (sym c.reserve.ensures.items)
+    (same_table_open c.args.self.now c.make_room-in-OpenAnew.new.self c.in-OpenAnew.call c.make_room-in-OpenAnew.ensures.same opened)
+
+pub returns-in-Drop-clause-tells : goal.returns-in-Drop-clause-tells
+returns-in-Drop-clause-tells c = λ set ds seat place row tells.
+    arrived set ds seat c.args.p.now Drop c.args.self.now (row ∙ ap (λ m. row_of m c.args.p.now (call_count ds)) c.in-Drop.is)
+    (table_idle ds (deed_by seat (Arrive c.args.p.now) no_effect) c.args.self.now c.args.self.now tells
+    (record { start = λ k. refl; finish = λ k. refl; cancel = λ k. refl; ends = refl; drops = refl; puts = refl; says = λ k. refl })
+    refl (record { unflushing = refl; going_on = refl; running = refl }) refl (omega arith) refl refl)
+
+pub returns-in-Reply-clause-tells : goal.returns-in-Reply-clause-tells
+returns-in-Reply-clause-tells c =
+    on_ok c.reply.result
+    (λ inner set ds seat place row tells.
+    arrived set ds seat c.args.p.now (Reply c.in-Reply.field-0) c.reply.new.self (row ∙ ap (λ m. row_of m c.args.p.now (call_count ds)) c.in-Reply.is)
+    (inner ds seat c.args.p.now c.in-Reply.field-0 tells))
+    c.reply.ensures.tells
+
+pub returns-in_ok-make_room-in-Close-clause-tells : goal.returns-in_ok-make_room-in-Close-clause-tells
+returns-in_ok-make_room-in-Close-clause-tells c = λ set ds seat place row tells.
+    arrived set ds seat c.args.p.now (Close c.in-Close.call c.in-Close.status) c.close.new.self (row ∙ ap (λ m. row_of m c.args.p.now (call_count ds)) c.in-Close.is)
+    (c.close.ensures.tells ds seat c.args.p.now place (same_table_tells ds _ _ c.make_room.ensures.same tells))
+
+pub returns-in_ok-state-in-Open-clause-tells : goal.returns-in_ok-state-in-Open-clause-tells
+returns-in_ok-state-in-Open-clause-tells c =
+    on_ok c.open.result
+    (λ inner set ds seat place row tells.
+    let served : IsServed (length ds) c.args.p.now c.in-Open.method c.in_ok-state-in-Open.state =
+    subst (λ n. IsServed n c.args.p.now c.in-Open.method c.in_ok-state-in-Open.state) place c.in_ok-state-in-Open.ensures in
+    arrived set ds seat c.args.p.now (Open c.in-Open.method) c.open.new.self (row ∙ ap (λ m. row_of m c.args.p.now (call_count ds)) c.in-Open.is)
+    (inner ds seat c.args.p.now c.in-Open.method tells served))
+    c.open.ensures.tells
+
+pub returns-in_ok-reserve-in-OpenAnew-clause-tells : goal.returns-in_ok-reserve-in-OpenAnew-clause-tells
+returns-in_ok-reserve-in-OpenAnew-clause-tells c = λ set ds seat place row tells.
+    arrived set ds seat c.args.p.now (OpenAnew c.in-OpenAnew.method c.in-OpenAnew.call) c.open_anew.new.self (row ∙ ap (λ m. row_of m c.args.p.now (call_count ds)) c.in-OpenAnew.is)
+    (c.open_anew.ensures.tells ds seat c.args.p.now c.in-OpenAnew.method place
+    (same_table_tells ds c.make_room-in-OpenAnew.new.self _ (items_same c.make_room-in-OpenAnew.new.self _ c.reserve.ensures.items refl refl refl)
+    (same_table_tells ds _ _ c.make_room-in-OpenAnew.ensures.same tells))
+    c.in_ok-state-in-OpenAnew.ensures)
+
+pub returns-in_ok-make_room-in-Queue-clause-tells : goal.returns-in_ok-make_room-in-Queue-clause-tells
+returns-in_ok-make_room-in-Queue-clause-tells c = λ set ds seat place row tells.
+    arrived set ds seat c.args.p.now (Queue c.in-Queue.call) c.put.new.self (row ∙ ap (λ m. row_of m c.args.p.now (call_count ds)) c.in-Queue.is)
+    (subst (λ b. Tells (deed_by seat (Arrive c.args.p.now) (puts_event c.in-Queue.call (Message b)) ∷ ds) c.put.new.self) c.in_ok-payload-in-Queue.ensures.cases
+    (c.put.ensures.tells ds seat c.args.p.now place (same_table_tells ds _ _ c.make_room-in-Queue.ensures.same tells)))
+
+pub returns-in_ok-make_room-in-Complete-clause-tells : goal.returns-in_ok-make_room-in-Complete-clause-tells
+returns-in_ok-make_room-in-Complete-clause-tells c = λ set ds seat place row tells.
+    arrived set ds seat c.args.p.now (Complete c.in-Complete.call) c.put-in-Complete.new.self (row ∙ ap (λ m. row_of m c.args.p.now (call_count ds)) c.in-Complete.is)
+    (c.put-in-Complete.ensures.tells ds seat c.args.p.now place (same_table_tells ds _ _ c.make_room-in-Complete.ensures.same tells))

@@ -1,0 +1,18 @@
+use Rattle.std.proofs.Common.{[], refl, arith, length-append}
+use Rattle.rpc_journal.specs.declared.entry.EntryKind.TheVariants.{Flush}
+use Rattle.rpc_journal.specs.Items.{items_sent}
+use Rattle.rpc_journal.specs.Rows.{no_effect}
+use Rattle.rpc_journal.specs.Touch.{deed_by}
+use Rattle.rpc_journal.proofs.TableSteps.{step_idle}
+use Rattle.rpc_journal.proofs.call_states.CallStates.flush.Goals as goal
+
+pub returns : goal.returns
+returns c = record {
+  tells = λ set ds seat tells. record {
+    calls = step_idle ds (deed_by seat Flush no_effect) _ tells.calls
+        (record { start = λ k. refl; finish = λ k. refl; cancel = λ k. refl; ends = refl; drops = refl; puts = refl; says = λ k. refl }) refl;
+    items = omega (arith, c.requires, tells.items, length-append (items_sent ds) []);
+    input = tells.input;
+    halt = tells.halt;
+  };
+}

@@ -1,0 +1,16 @@
+use Rattle.std.proofs.Common.{◌+◌, refl, ap, sym}
+use Rattle.rpc_journal.specs.declared.entry.EntryKind.TheVariants.{Say}
+use Rattle.rpc_journal.specs.Touch.{deed_by}
+use Rattle.rpc_journal.proofs.FinishLemmas.{say_effect, say_one}
+use Rattle.rpc_journal.proofs.PlaceLemmas.{get_some}
+use Rattle.rpc_journal.proofs.TableSteps.{table_idle}
+use Rattle.rpc_journal.proofs.call_states.CallStates.say.Goals as goal
+
+pub returns : goal.returns
+returns c = record {
+  tells = λ set ds seat out role tells.
+      let found = get_some c.args.self.now.calls.items c.args.call c.requires.known in
+      let one = say_one set ds seat c.args.call out found.0 (tells.calls.each _ _ found.1) role in
+      table_idle ds (deed_by seat (Say c.args.call out) (say_effect set ds c.args.call out)) c.args.self.now _ tells one.idle one.opens
+      (record { unflushing = refl; going_on = refl; running = refl }) refl (ap (λ n. c.args.self.now.unflushed + n) (sym one.many)) refl refl;
+}

@@ -1,0 +1,204 @@
+//! What a history says of all its calls: a plain table.
+ghost use Rattle.std.specs.Prelude.{◌≡◌, ℕ, ◌<◌, ◌+◌, List, [], ◌∷◌, length, slice_get, Some, None, nat_le, IfSome, IfNone, option_copied, if◌then◌else◌};
+ghost use Rattle.rpc_packet.specs.declared.call_name.CallName.{CallName};
+ghost use Rattle.rpc_journal.specs.Calls.{call_at, call_count, has_end, is_cancelled, live_call, runner_of, same_name as names_agree};
+ghost use Rattle.rpc_journal.specs.Items.{is_ready};
+ghost use Rattle.rpc_journal.specs.Lawful.{full_among, has_stream};
+ghost use Rattle.rpc_journal.specs.Moves.{row_of};
+ghost use Rattle.rpc_ids.specs.declared.method.Role.TheVariants.{Server};
+ghost use Rattle.rpc_packet.specs.declared.owned.Packet.{Packet};
+ghost use Rattle.rpc_journal.specs.Choice.{IsFirstReady, NoneReady};
+ghost use Rattle.rpc_journal.specs.Effect.{Deed};
+ghost use Rattle.rpc_journal.specs.Queues.{is_completed, messages_waiting};
+ghost use Rattle.rpc_journal.specs.Tells.{IsOpenAt, Tells};
+ghost use Rattle.rpc_journal.specs.Touch.{IsSooner};
+
+use crate::arrival_move::Move;
+use crate::call_state::{CallState, MAX_WAITING, streams_down};
+use link_io::Why;
+use rpc_packet::CallName;
+use std::alloc::Global;
+
+/// What a history says of all its calls.
+#[derive(Debug, Drop)]
+pub struct CallStates {
+    /// The calls, each at its number.
+    pub calls: Vec<CallState>,
+    /// How many items wait to be flushed.
+    pub unflushed: u64,
+    /// An `EndIn` is there.
+    pub input_ended: bool,
+    /// The reason of the `Halt`.
+    pub halted: Option<Why>,
+}
+
+impl CallStates {
+    /// Before the first entry.
+    pub fn new(alloc: Global) -> CallStates
+        ensures { Tells [] result }
+    {
+        CallStates {
+            calls: Vec::new(alloc),
+            unflushed: 0,
+            input_ended: false,
+            halted: None,
+        }
+    }
+
+    /// The last call of this name, where it has no end.
+    pub fn live(&self, name: CallName) -> Option<usize>
+        ensures call { (ds : List Deed) → Tells ds self.now → result ≡ live_call ds name }
+        ensures there { IfSome result (λ c. IsOpenAt self.now.calls.items c) }
+    {
+        let mut c = self.calls.len();
+        while c > 0 {
+            c -= 1;
+            let state = &self.calls[c];
+            if same_name(state.name, name) {
+                return if state.status.is_none() {
+                    Some(c)
+                } else {
+                    None
+                };
+            }
+        }
+        None
+    }
+
+    /// The state of this call.
+    pub fn state(&self, call: u32) -> Option<&CallState>
+        ensures { option_copied result ≡ slice_get self.now.calls.items call }
+    {
+        self.state_at(call as usize)
+    }
+
+    fn state_at(&self, call: usize) -> Option<&CallState>
+        ensures { option_copied result ≡ slice_get self.now.calls.items call }
+    {
+        self.calls.get(call)
+    }
+
+    /// Whether a run of this call can begin.
+    pub fn is_ready(&self, call: u32) -> bool
+        ensures { (ds : List Deed) → Tells ds self.now → result ≡ is_ready ds call }
+    {
+        match self.state(call) {
+            Some(state) => state.is_ready(self.unflushed, self.halted.is_some()),
+            None => false,
+        }
+    }
+
+    /// The ready call whose oldest waiting event was put first, the one of the lower number at a tie.
+    pub fn first_ready(&self) -> Option<usize>
+        ensures first { IfSome result (λ c. (ds : List Deed) → Tells ds self.now → IsFirstReady ds c) }
+        ensures none { IfNone result ((ds : List Deed) → Tells ds self.now → NoneReady ds) }
+    {
+        let halted = self.halted.is_some();
+        let count = self.calls.len();
+        let mut found: Option<(usize, u64)> = None;
+        for call in 0..count {
+            let state = &self.calls[call];
+            if state.is_ready(self.unflushed, halted) {
+                found = sooner(found, call, state.oldest_place());
+            }
+        }
+        match found {
+            Some((call, _)) => Some(call),
+            None => None,
+        }
+    }
+
+    /// The seat that runs this call.
+    pub fn runner(&self, call: u32) -> Option<u32>
+        ensures { (ds : List Deed) → Tells ds self.now → result ≡ runner_of ds call }
+    {
+        match self.state(call) {
+            Some(state) => state.run,
+            None => None,
+        }
+    }
+
+    /// Whether this call has an end.
+    pub fn has_end(&self, call: u32) -> bool
+        ensures { (ds : List Deed) → Tells ds self.now → result ≡ has_end ds call }
+    {
+        match self.state(call) {
+            Some(state) => state.status.is_some(),
+            None => false,
+        }
+    }
+
+    /// Whether this call was cancelled.
+    pub fn is_cancelled(&self, call: u32) -> bool
+        ensures { (ds : List Deed) → Tells ds self.now → result ≡ is_cancelled ds call }
+    {
+        match self.state(call) {
+            Some(state) => state.cancelled,
+            None => false,
+        }
+    }
+
+    /// Whether the method of this call has a stream from the server.
+    pub fn has_stream(&self, call: u32) -> bool
+        ensures { (ds : List Deed) → Tells ds self.now → result ≡ has_stream Server (call_at ds call) }
+    {
+        match self.state(call) {
+            Some(state) => streams_down(state.method.kind),
+            None => false,
+        }
+    }
+
+    /// The call for which an arrival would wait, and which has no place for it.
+    pub fn full_queue(&self, arrival: Move) -> Option<usize>
+        ensures { (ds : List Deed) (p : Packet) → Tells ds self.now → result ≡ full_among ds (row_of arrival p (call_count ds)).does.puts }
+    {
+        match arrival {
+            Move::Queue(c) | Move::Complete(c) => self.full_at(c),
+            _ => None,
+        }
+    }
+
+    // This call, where it has no place for a message.
+    fn full_at(&self, call: usize) -> Option<usize>
+        ensures { (ds : List Deed) → Tells ds self.now → result ≡ (if nat_le 64 (messages_waiting ds call) then Some call else None) }
+    {
+        match self.state_at(call) {
+            Some(state) => {
+                if state.messages() >= MAX_WAITING {
+                    Some(call)
+                } else {
+                    None
+                }
+            }
+            None => None,
+        }
+    }
+
+    /// Whether the client's stream of this call, where there is one, was completed.
+    pub fn is_completed(&self, call: Option<usize>) -> bool
+        requires { IfSome call (λ c. IsOpenAt self.now.calls.items c) }
+        ensures { (ds : List Deed) → Tells ds self.now → IfSome call (λ c. is_completed ds c ≡ result) }
+    {
+        match call {
+            None => false,
+            Some(c) => self.calls[c].completed,
+        }
+    }
+}
+
+// Of the call found so far and a later one that waits since this place, the one that goes first.
+fn sooner(found: Option<(usize, u64)>, call: usize, place: u64) -> Option<(usize, u64)>
+    ensures new { IsSooner place found → result ≡ Some (call, place) }
+    ensures old { (¬ IsSooner place found) → result ≡ found }
+{
+    match found {
+        Some((_, since)) if since <= place => found,
+        _ => Some((call, place)),
+    }
+}
+
+fn same_name(a: CallName, b: CallName) -> bool
+    ensures { result ≡ names_agree a b }
+{
+    a.channel == b.channel && a.service == b.service && a.method == b.method && a.call == b.call
+}

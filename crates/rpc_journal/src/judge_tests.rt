@@ -1,0 +1,326 @@
+//! Journals of a server, judged.
+
+use super::*;
+use bytes::Bytes;
+use link_io::Why;
+use rpc_channel::Channels;
+use rpc_handlers::{Answer, End, Memo, Out, Outs, Parts, Words};
+use rpc_ids::{Kind, MethodRef, Registry, Role, Status};
+use rpc_packet::{CallName, Packet, PacketType};
+use std::alloc::{AllocError, Global};
+use std::test::Fail;
+
+/// A server with channel 1 and these methods.
+#[derive(Drop)]
+struct World {
+    alloc: Global,
+    channels: Channels,
+    registry: Registry,
+    echo: MethodRef,
+    sum: MethodRef,
+    chat: MethodRef,
+}
+
+impl World {
+    fn new(alloc: Global) -> Result<World, Fail> {
+        let mut channels = Channels::new(alloc);
+        channels.add(1)?;
+        let mut registry = Registry::new(alloc);
+        let echo = registry.add(b"demo.Demo", b"Echo", Kind::Unary, false)?;
+        let sum = registry.add(b"demo.Demo", b"Sum", Kind::ClientStream, false)?;
+        let chat = registry.add(b"demo.Demo", b"Chat", Kind::Bidi, true)?;
+        Ok(World {
+            alloc,
+            channels,
+            registry,
+            echo,
+            sum,
+            chat,
+        })
+    }
+
+    /// The fault of the journal of these entries.
+    fn judge(&self, entries: Vec<Entry>) -> Result<Option<Fault>, AllocError> {
+        let mut journal = Journal::new(self.alloc);
+        for entry in entries {
+            journal.reserve(1)?;
+            journal.push(entry);
+        }
+        check(
+            self.alloc,
+            &journal,
+            Role::Server,
+            &self.channels,
+            &self.registry,
+        )
+    }
+
+    fn answer(&self, end: Option<Status>) -> Answer {
+        let end = match end {
+            Some(status) => Some(End {
+                status,
+                payload: Bytes::new(),
+            }),
+            None => None,
+        };
+        Answer {
+            items: Outs::new(self.alloc),
+            end,
+        }
+    }
+
+    fn finish(&self, seat: u32, call: u32) -> Entry {
+        entry(seat, EntryKind::Finish(call, self.answer(None)))
+    }
+
+    fn replace(&self, seat: u32, call: u32) -> Entry {
+        let memo = Memo {
+            words: Words::new(self.alloc),
+            parts: Parts::new(self.alloc),
+        };
+        entry(seat, EntryKind::Replace(call, memo))
+    }
+}
+
+fn entry(seat: u32, kind: EntryKind) -> Entry {
+    Entry { seat, kind }
+}
+
+fn arrive_on(channel: u32, ptype: PacketType, method: MethodRef) -> Entry {
+    let name = CallName {
+        channel,
+        service: method.service,
+        method: method.method,
+        call: 1,
+    };
+    let packet = Packet {
+        ptype,
+        name,
+        payload: Bytes::new(),
+        status: 0,
+    };
+    entry(0, EntryKind::Arrive(packet))
+}
+
+fn arrive(ptype: PacketType, method: MethodRef) -> Entry {
+    arrive_on(1, ptype, method)
+}
+
+fn request(method: MethodRef) -> Entry {
+    arrive(PacketType::Request, method)
+}
+
+fn flush() -> Entry {
+    entry(1, EntryKind::Flush)
+}
+
+fn start(seat: u32, call: u32) -> Entry {
+    entry(seat, EntryKind::Start(call))
+}
+
+fn fault(at: u64, rule: Broken) -> Option<Fault> {
+    Some(Fault { at, rule })
+}
+
+#[test]
+fn one_wrong_journal_for_each_rule(rt: HostRuntime) -> Result<(), Fail> {
+    let w = World::new(rt.alloc())?;
+    let chat = w.chat;
+    assert_eq!(rt; w.judge(Vec::new(w.alloc))?, None);
+    assert_eq!(rt;
+        w.judge(vec![in w.alloc; entry(2, EntryKind::Flush)]?)?,
+        fault(0, Broken::Seat)
+    );
+    assert_eq!(rt;
+        w.judge(vec![in w.alloc; request(chat), entry(1, EntryKind::EndIn)]?)?,
+        fault(1, Broken::Seat)
+    );
+    assert_eq!(rt;
+        w.judge(vec![in w.alloc; entry(0, EntryKind::EndIn), request(chat)]?)?,
+        fault(1, Broken::AfterEnd)
+    );
+    assert_eq!(rt;
+        w.judge(vec![in w.alloc; start(2, 0)]?)?,
+        fault(0, Broken::UnknownCall)
+    );
+    assert_eq!(rt;
+        w.judge(vec![in w.alloc; request(chat), start(2, 0), start(3, 0)]?)?,
+        fault(2, Broken::NotReady)
+    );
+    assert_eq!(rt;
+        w.judge(vec![in w.alloc; request(chat), w.finish(2, 0)]?)?,
+        fault(1, Broken::NotRunning)
+    );
+    assert_eq!(rt;
+        w.judge(vec![in w.alloc; entry(0, EntryKind::Halt(Why::Settled))]?)?,
+        fault(0, Broken::Refused)
+    );
+    assert_eq!(rt;
+        w.judge(vec![in w.alloc; flush()]?)?,
+        fault(0, Broken::Nothing)
+    );
+    Ok(())
+}
+
+#[test]
+fn a_request_of_a_live_name_cancels_the_old_call(rt: HostRuntime) -> Result<(), Fail> {
+    let w = World::new(rt.alloc())?;
+    let chat = w.chat;
+    let runs = w.judge(vec![in w.alloc;
+        request(chat),
+        request(chat),
+        start(2, 0),
+        w.finish(2, 0),
+        start(2, 1),
+    ]?)?;
+    assert_eq!(rt; runs, None);
+    assert_eq!(rt;
+        w.judge(vec![in w.alloc; request(chat), request(chat), flush()]?)?,
+        fault(2, Broken::Nothing)
+    );
+    let twice = w.judge(vec![in w.alloc;
+        request(chat),
+        request(chat),
+        start(2, 0),
+        w.finish(2, 0),
+        start(2, 0),
+    ]?)?;
+    assert_eq!(rt; twice, fault(4, Broken::NotReady));
+    Ok(())
+}
+
+#[test]
+fn packets_that_fit_no_call_are_answered(rt: HostRuntime) -> Result<(), Fail> {
+    let w = World::new(rt.alloc())?;
+    let late = w.judge(vec![in w.alloc;
+        request(w.sum),
+        arrive(PacketType::Completion, w.sum),
+        arrive(PacketType::ClientStream, w.sum),
+        flush(),
+        start(2, 0),
+        flush(),
+    ]?)?;
+    assert_eq!(rt; late, fault(5, Broken::Nothing));
+    let unary = w.judge(vec![in w.alloc;
+        request(w.echo),
+        arrive(PacketType::ClientStream, w.echo),
+        flush(),
+        flush(),
+    ]?)?;
+    assert_eq!(rt; unary, fault(3, Broken::Nothing));
+    let unknown = MethodRef {
+        service: 5,
+        method: 6,
+        kind: Kind::Unary,
+        ticks: false,
+    };
+    let strange = w.judge(vec![in w.alloc;
+        arrive(PacketType::ClientError, unknown),
+        request(unknown),
+        arrive_on(9, PacketType::Request, w.echo),
+        flush(),
+        flush(),
+        flush(),
+    ]?)?;
+    assert_eq!(rt; strange, fault(5, Broken::Nothing));
+    Ok(())
+}
+
+#[test]
+fn runs_end_by_their_own_seat(rt: HostRuntime) -> Result<(), Fail> {
+    let w = World::new(rt.alloc())?;
+    let chat = w.chat;
+    let replaced = w.judge(vec![in w.alloc;
+        request(chat),
+        start(2, 0),
+        w.replace(3, 0),
+        w.finish(2, 0),
+    ]?)?;
+    assert_eq!(rt; replaced, None);
+    let other = w.judge(vec![in w.alloc; request(chat), start(2, 0), w.finish(3, 0)]?)?;
+    assert_eq!(rt; other, fault(2, Broken::NotRunning));
+    assert_eq!(rt;
+        w.judge(vec![in w.alloc; w.replace(2, 9)]?)?,
+        fault(0, Broken::UnknownCall)
+    );
+    let cancelled = w.judge(vec![in w.alloc;
+        request(chat),
+        start(2, 0),
+        entry(3, EntryKind::Cancel(0)),
+        w.finish(2, 0),
+        entry(3, EntryKind::Cancel(0)),
+    ]?)?;
+    assert_eq!(rt; cancelled, fault(4, Broken::Refused));
+    Ok(())
+}
+
+#[test]
+fn an_answer_ends_its_call(rt: HostRuntime) -> Result<(), Fail> {
+    let w = World::new(rt.alloc())?;
+    let ended = w.judge(vec![in w.alloc;
+        request(w.echo),
+        start(2, 0),
+        entry(2, EntryKind::Finish(0, w.answer(Some(Status::Okay)))),
+        flush(),
+        w.replace(2, 0),
+    ]?)?;
+    assert_eq!(rt; ended, fault(4, Broken::Refused));
+    let told = w.judge(vec![in w.alloc;
+        request(w.echo),
+        entry(0, EntryKind::EndIn),
+        start(2, 0),
+        w.finish(2, 0),
+        start(2, 0),
+        entry(2, EntryKind::Finish(0, w.answer(Some(Status::Okay)))),
+        w.replace(2, 0),
+    ]?)?;
+    assert_eq!(rt; told, None);
+    Ok(())
+}
+
+#[test]
+fn ticks_wait_once(rt: HostRuntime) -> Result<(), Fail> {
+    let w = World::new(rt.alloc())?;
+    assert_eq!(rt;
+        w.judge(vec![in w.alloc; entry(1, EntryKind::Tick(5))]?)?,
+        None
+    );
+    let once = w.judge(vec![in w.alloc;
+        request(w.chat),
+        entry(1, EntryKind::Tick(5)),
+        entry(1, EntryKind::Tick(6)),
+        start(2, 0),
+        w.finish(2, 0),
+        start(2, 0),
+        w.finish(2, 0),
+        start(2, 0),
+    ]?)?;
+    assert_eq!(rt; once, fault(7, Broken::NotReady));
+    let said = w.judge(vec![in w.alloc;
+        request(w.chat),
+        entry(2, EntryKind::Say(0, Out::Commit { session: 1 })),
+        entry(1, EntryKind::Halt(Why::Memory)),
+        flush(),
+    ]?)?;
+    assert_eq!(rt; said, fault(3, Broken::Nothing));
+    Ok(())
+}
+
+#[test]
+fn sixty_four_events_wait_and_no_more(rt: HostRuntime) -> Result<(), Fail> {
+    let w = World::new(rt.alloc())?;
+    let mut journal = Journal::new(w.alloc);
+    journal.reserve(1)?;
+    journal.push(request(w.chat));
+    for _ in 0..63u32 {
+        journal.reserve(1)?;
+        journal.push(arrive(PacketType::ClientStream, w.chat));
+    }
+    let before = check(w.alloc, &journal, Role::Server, &w.channels, &w.registry)?;
+    assert_eq!(rt; before, None);
+    journal.reserve(1)?;
+    journal.push(arrive(PacketType::ClientStream, w.chat));
+    let after = check(w.alloc, &journal, Role::Server, &w.channels, &w.registry)?;
+    assert_eq!(rt; after, fault(64, Broken::Refused));
+    Ok(())
+}
