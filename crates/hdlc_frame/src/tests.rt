@@ -114,7 +114,7 @@ fn told(alloc: Global, all: &[Decoded]) -> Result<String, Fail> {
 
 #[test]
 fn streams(rt: HostRuntime) -> Result<(), Fail> {
-    let rows: [(&str, &[u8], &str); 24] = [
+    let rows: [(&str, &[u8], &str); 27] = [
         ("no octets", &[], ""),
         ("no flag", &[0xa5, 0x03, 0xe9, 0x0b, 0xa0, 0x0b], ""),
         (
@@ -257,7 +257,22 @@ fn streams(rt: HostRuntime) -> Result<(), Fail> {
             "82:19:41",
         ),
         (
-            "each fault first, inner and last",
+            "damage to the first octet",
+            &[0x5e, 0xa5, 0x03, 0xe9, 0x0b, 0xa0, 0x0b, 0x7e],
+            "",
+        ),
+        (
+            "damage to an inner octet",
+            &[0x7e, 0xa5, 0x03, 0xe9, 0x2b, 0xa0, 0x0b, 0x7e],
+            "Check",
+        ),
+        (
+            "damage to the last octet",
+            &[0x7e, 0xa5, 0x03, 0xe9, 0x0b, 0xa0, 0x0b, 0x5e],
+            "",
+        ),
+        (
+            "four faults among frames",
             &[
                 0x7e, 0x7d, 0x7e, 0xa5, 0x03, 0xe9, 0x0b, 0xa0, 0x0b, 0x7e, 0x00, 0x7e, 0x7e, 0xa5,
                 0x03, 0xe9, 0x0b, 0xa0, 0x0b, 0x7e, 0xa5, 0x03, 0xe9, 0x0b, 0xa0, 0x0c, 0x7e, 0x7e,
@@ -280,6 +295,58 @@ fn streams(rt: HostRuntime) -> Result<(), Fail> {
         }
     }
     Ok(())
+}
+
+#[test]
+fn each_fault_at_each_place(rt: HostRuntime) -> Result<(), Fail> {
+    let frame: &[u8] = &[0xa5, 0x03, 0xe9, 0x0b, 0xa0, 0x0b];
+    let rows: [(&str, &[u8]); 5] = [
+        ("Escape", &[0xa5, 0x7d]),
+        ("Long", &[0xa5, 0x03, 0xe9, 0x0b, 0xa0, 0x0b, 0x00]),
+        ("Short", &[0xa5, 0x03, 0xe9, 0x0b, 0xa0]),
+        ("Check", &[0xa5, 0x03, 0xe9, 0x0b, 0xa0, 0x0c]),
+        ("Address", &[0xa4, 0xa5, 0x75, 0x3c, 0x0e, 0x2d]),
+    ];
+    for (fault, text) in rows {
+        let alone = told_of(rt.alloc(), &[text])?;
+        assert_eq!(rt; alone.as_str(), fault);
+        let first = told_of(rt.alloc(), &[text, frame, frame])?;
+        assert_eq!(rt;
+            first.as_str(),
+            format!(in rt.alloc(); "{fault} 82:3: 82:3:")?.as_str()
+        );
+        let inner = told_of(rt.alloc(), &[frame, text, frame])?;
+        assert_eq!(rt;
+            inner.as_str(),
+            format!(in rt.alloc(); "82:3: {fault} 82:3:")?.as_str()
+        );
+        let last = told_of(rt.alloc(), &[frame, frame, text])?;
+        assert_eq!(rt;
+            last.as_str(),
+            format!(in rt.alloc(); "82:3: 82:3: {fault}")?.as_str()
+        );
+    }
+    Ok(())
+}
+
+// What is found in a stream of these texts with a flag in front of each and one at the end, in contents of at most six
+// octets. It is the same however the stream is cut in two.
+fn told_of(alloc: Global, texts: &[&[u8]]) -> Result<String, Fail> {
+    let mut stream = Vec::new(alloc);
+    for text in texts {
+        stream.push(0x7e)?;
+        stream.extend_from_slice(text)?;
+    }
+    stream.push(0x7e)?;
+    let whole = told(alloc, &decode_pieces(alloc, 6, &[&stream])?)?;
+    for cut in 0..stream.len() {
+        let (before, behind) = stream.split_at(cut);
+        let parts = told(alloc, &decode_pieces(alloc, 6, &[before, behind])?)?;
+        if parts.as_str() != whole.as_str() {
+            return Err(Fail::new(format_args!("a cut at {cut} changed what was found")));
+        }
+    }
+    Ok(whole)
 }
 
 #[test]
