@@ -1,0 +1,4 @@
+pub mod HexTexts
+pub mod NumberTexts
+pub mod SplitLaws
+pub mod LineLaws
