@@ -1,0 +1,7 @@
+pub mod Growing
+pub mod HeardBack
+pub mod Listens
+pub mod Sizes
+mod TypeNumbers
+pub mod WholeFrames
+pub mod HeardExactly
