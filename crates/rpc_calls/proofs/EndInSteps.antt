@@ -1,0 +1,74 @@
+-- A table over the end of the input.
+use Rattle.std.proofs.Common.{◌≡◌, ℕ, ◌+◌, ◌≤◌, true, false, not, List, ◌∷◌, length, drop, Option, is_some, ap, sym, ◌∙◌, subst, arith}
+use Rattle.std.proofs.lemmas.Bool.{true≢false}
+use Rattle.std.proofs.lemmas.List.{append-nil}
+use Rattle.rpc_handlers.specs.declared.event.Memo.{Memo}
+use Rattle.rpc_handlers.specs.HandlerRule.{HandlerRule}
+use Rattle.rpc_journal.specs.declared.call_states.CallStates.{CallStates}
+use Rattle.rpc_journal.specs.declared.entry.EntryKind.TheVariants.{EndIn}
+use Rattle.rpc_journal.specs.declared.item.Item.{Item}
+use Rattle.rpc_journal.specs.declared.notice.Notice.TheVariants.{InputEnded}
+use Rattle.rpc_journal.specs.declared.setting.Setting.{Setting}
+use Rattle.rpc_journal.specs.Calls.{calls}
+use Rattle.rpc_journal.specs.ChangeLaws.{KeepsLegal}
+use Rattle.rpc_journal.specs.Changes.{EndInDid}
+use Rattle.rpc_journal.specs.Conditions.{IsInputOpen}
+use Rattle.rpc_journal.specs.Effect.{Deed}
+use Rattle.rpc_journal.specs.History.{history, tell, entry_by, adding}
+use Rattle.rpc_journal.specs.Items.{flush_count, items_sent}
+use Rattle.rpc_journal.specs.Recorded.{Recorded}
+use Rattle.rpc_journal.specs.Tells.{Tells}
+use Rattle.rpc_journal.proofs.LegalLemmas.{keeps_legal}
+use Rattle.rpc_calls.specs.Room.{uncancelled, running, HasRoom}
+use Rattle.rpc_calls.specs.TableHolds.{IsTable}
+use Rattle.rpc_calls.proofs.CalmSteps.{table_after}
+use Rattle.rpc_calls.proofs.NoticeSteps.{notice_deed, notice_keeps, same_counts}
+
+module _ {H : Type 0} (now : H → Memo) (can_act : H → Type 0) (rule : HandlerRule) (set : Setting) where
+  pub table_ended : (recorded after : Recorded) (seat : ℕ) (states later : CallStates) (handlers : List (Option H)) (items : List Item) (capacity : ℕ)
+      → IsTable now can_act rule set recorded states handlers items capacity → IsInputOpen set recorded.entries seat
+      → Tells (tell set (history set recorded.entries) (entry_by seat EndIn)) later
+      → after.entries ≡ adding recorded.entries seat EndIn → after.spare + 1 ≡ recorded.spare
+      → IsTable now can_act rule set after later handlers items capacity
+  table_ended recorded after seat states later handlers items capacity is input tells adds spent =
+      let ds : List Deed = history set recorded.entries in
+      let old = is.stands.tells.calls in
+      let sent : items_sent (notice_deed ds seat InputEnded ∷ ds) ≡ items_sent ds = append-nil (items_sent ds) in
+      let many : length later.calls.items ≡ length states.calls.items =
+      tells.calls.many ∙ ap length (append-nil (calls ds)) ∙ sym old.many in
+      let going : uncancelled later.calls.items ≡ uncancelled states.calls.items =
+      same_counts (λ r. not r.cancelled) states.calls.items later.calls.items many
+      (λ k x y x_is y_is. ap not (sym (tells.calls.each k y y_is).cancelled ∙ (old.each k x x_is).cancelled)) in
+      let busy : running later.calls.items ≡ running states.calls.items =
+      same_counts (λ r. is_some r.run) states.calls.items later.calls.items many
+      (λ k x y x_is y_is. ap is_some (sym (tells.calls.each k y y_is).run ∙ (old.each k x x_is).run)) in
+      let open_now : states.input_ended ≡ false = is.stands.tells.input ∙ input.not_ended in
+      let shut : later.input_ended ≡ true = tells.input in
+      let halted : is_some later.halted ≡ is_some states.halted = ap is_some (tells.halt ∙ sym is.stands.tells.halt) in
+      let did : EndInDid seat recorded.entries after.entries = record { adds = adds } in
+      let laws : KeepsLegal H (Unit {0}) = keeps_legal in
+      let before : HasRoom states.calls.items (length items) false (is_some states.halted) recorded.spare capacity =
+      subst (λ b. HasRoom states.calls.items (length items) b (is_some states.halted) recorded.spare capacity) open_now is.room.room in
+      table_after now can_act rule set recorded after seat EndIn later handlers items capacity adds
+      (laws.end_in rule set seat recorded.entries after.entries is.legal input did) is.server
+      (record {
+        tells = tells;
+        keeps = notice_keeps now can_act rule set ds seat InputEnded handlers is.stands.keeps;
+        queue = is.stands.queue ∙ ap (drop (flush_count ds)) (sym sent);
+      })
+      (record {
+        room = subst (λ b. HasRoom later.calls.items (length items) b (is_some later.halted) after.spare capacity) (sym shut)
+            (subst (λ b. HasRoom later.calls.items (length items) true b after.spare capacity) (sym halted)
+            (record { items_fit = omega (arith, before.items_fit, going, busy); entries_fit = omega (arith, before.entries_fit, going, busy, spent) }));
+        places = record { free = λ k y there unended going_on. absurd (true≢false (sym shut ∙ going_on)) };
+        few = omega (arith, is.room.few, many);
+      })
+
+  -- the end of the input stands in the room
+  pub end_room : (recorded : Recorded) (seat : ℕ) (states : CallStates) (handlers : List (Option H)) (items : List Item) (capacity : ℕ)
+      → IsTable now can_act rule set recorded states handlers items capacity → IsInputOpen set recorded.entries seat → 1 ≤ recorded.spare
+  end_room recorded seat states handlers items capacity is input =
+      let open_now : states.input_ended ≡ false = is.stands.tells.input ∙ input.not_ended in
+      let before : HasRoom states.calls.items (length items) false (is_some states.halted) recorded.spare capacity =
+      subst (λ b. HasRoom states.calls.items (length items) b (is_some states.halted) recorded.spare capacity) open_now is.room.room in
+      omega (arith, before.entries_fit)

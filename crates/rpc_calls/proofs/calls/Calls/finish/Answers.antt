@@ -1,0 +1,68 @@
+use Rattle.std.proofs.Common.{◌∙◌, sym, subst, arith}
+use Rattle.rpc_journal.specs.Changes.{FinishDid}
+use Rattle.rpc_journal.specs.Runs.{IsRunning}
+use Rattle.rpc_calls.proofs.FinishTables.{run_finished, finish_room}
+use Rattle.rpc_calls.proofs.calls.Calls.finish.Goals as goal
+
+pub end_run-over-requires-clause-room : goal.end_run-over-requires-clause-room
+end_run-over-requires-clause-room g c =
+    let room = (finish_room g.H.Acts.now g.H.Acts.can_act g.H.Handler.rule c.self.inside.setting c.self.inside.journal c.args.running.run c.args.running.gives c.into_answered-call.result.copies.outs.items c.self.inside.states c.self.inside.handlers.items c.self.inside.items.items _ c.self.invariant
+    (subst (λ t. IsRunning g.H.Handler.rule t.setting t.entries c.args.running.run) (sym c.self.view_is) c.requires.on)
+    (record { limits = c.into_answered-call.ensures.limits; by_rule = c.into_answered-call.ensures.by_rule }) c.into_answered-call.ensures.outs).0 in
+    omega (arith, room, c.self.inside.items.ok.0, c.into_answered-call.result.copies.outs.ok.0)
+
+pub push-requires : goal.push-requires
+push-requires g c =
+    let room = (finish_room g.H.Acts.now g.H.Acts.can_act g.H.Handler.rule c.self.inside.setting c.self.inside.journal c.args.running.run c.args.running.gives c.into_answered-call.result.copies.outs.items c.self.inside.states c.self.inside.handlers.items c.self.inside.items.items _ c.self.invariant
+    (subst (λ t. IsRunning g.H.Handler.rule t.setting t.entries c.args.running.run) (sym c.self.view_is) c.requires.on)
+    (record { limits = c.into_answered-call.ensures.limits; by_rule = c.into_answered-call.ensures.by_rule }) c.into_answered-call.ensures.outs).1 in
+    λ none. omega (arith, room, none)
+
+pub invariant_of-self : goal.invariant_of-self
+invariant_of-self g c =
+    (run_finished g.H.Acts.now g.H.Acts.can_act g.H.Handler.rule c.self.inside.setting c.self.inside.journal c.push.new.self c.args.running.run c.args.running.gives
+    c.into_answered-call.result.call c.into_answered-call.result.seat c.into_answered-call.result.answer c.into_answered-call.result.copies.outs.items c.into_answered-call.result.copies.end
+    c.into_answered-call.result.handler c.self.inside.states c.end_run-over.new.states c.self.inside.handlers.items c.put_back-back.new.handlers.items c.self.inside.items.items c.end_run-over.new.items.items _ _
+    c.end_run-over.result c.put_back-back.result c.self.invariant
+    (subst (λ t. IsRunning g.H.Handler.rule t.setting t.entries c.args.running.run) (sym c.self.view_is) c.requires.on)
+    (record { limits = c.into_answered-call.ensures.limits; by_rule = c.into_answered-call.ensures.by_rule })
+    (record { call_is = c.into_answered-call.ensures.call; seat_is = c.into_answered-call.ensures.seat; answer_is = c.into_answered-call.ensures.answer; outs_is = c.into_answered-call.ensures.outs; end_is = c.into_answered-call.ensures.end })
+    c.into_answered-call.ensures.able (λ ruled. c.into_answered-call.ensures.state ∙ c.into_answered-call.ensures.moved ruled)
+    (record { says = c.end_run-over.ensures.items; change = c.end_run-over.ensures.change; unflushed = c.end_run-over.ensures.unflushed; input = c.end_run-over.ensures.input; halt = c.end_run-over.ensures.halt })
+    c.end_run-over.ensures.over
+    (record { many = c.put_back-back.ensures.many; others = c.put_back-back.ensures.others; back = c.put_back-back.ensures.back; it = c.put_back-back.ensures.it; kept = c.put_back-back.ensures.kept })
+    c.end_run-over.ensures.capacity c.push.ensures.entries c.push.ensures.spare).table
+
+pub returns-clause-did : goal.returns-clause-did
+returns-clause-did g c = (
+  c.into_answered-call.result.handler,
+  c.into_answered-call.ensures.state,
+  subst (λ t. FinishDid t.setting c.args.running.run c.args.running.gives c.into_answered-call.result.handler c.put_back-back.result t.entries c.push.new.self.entries) c.self.view_is
+      (run_finished g.H.Acts.now g.H.Acts.can_act g.H.Handler.rule c.self.inside.setting c.self.inside.journal c.push.new.self c.args.running.run c.args.running.gives
+      c.into_answered-call.result.call c.into_answered-call.result.seat c.into_answered-call.result.answer c.into_answered-call.result.copies.outs.items c.into_answered-call.result.copies.end
+      c.into_answered-call.result.handler c.self.inside.states c.end_run-over.new.states c.self.inside.handlers.items c.put_back-back.new.handlers.items c.self.inside.items.items c.end_run-over.new.items.items _ _
+      c.end_run-over.result c.put_back-back.result c.self.invariant
+      (subst (λ t. IsRunning g.H.Handler.rule t.setting t.entries c.args.running.run) (sym c.self.view_is) c.requires.on)
+      (record { limits = c.into_answered-call.ensures.limits; by_rule = c.into_answered-call.ensures.by_rule })
+      (record { call_is = c.into_answered-call.ensures.call; seat_is = c.into_answered-call.ensures.seat; answer_is = c.into_answered-call.ensures.answer; outs_is = c.into_answered-call.ensures.outs; end_is = c.into_answered-call.ensures.end })
+      c.into_answered-call.ensures.able (λ ruled. c.into_answered-call.ensures.state ∙ c.into_answered-call.ensures.moved ruled)
+      (record { says = c.end_run-over.ensures.items; change = c.end_run-over.ensures.change; unflushed = c.end_run-over.ensures.unflushed; input = c.end_run-over.ensures.input; halt = c.end_run-over.ensures.halt })
+      c.end_run-over.ensures.over
+      (record { many = c.put_back-back.ensures.many; others = c.put_back-back.ensures.others; back = c.put_back-back.ensures.back; it = c.put_back-back.ensures.it; kept = c.put_back-back.ensures.kept })
+      c.end_run-over.ensures.capacity c.push.ensures.entries c.push.ensures.spare).did,
+)
+
+pub returns-clause-legal : goal.returns-clause-legal
+returns-clause-legal g c =
+    (run_finished g.H.Acts.now g.H.Acts.can_act g.H.Handler.rule c.self.inside.setting c.self.inside.journal c.push.new.self c.args.running.run c.args.running.gives
+    c.into_answered-call.result.call c.into_answered-call.result.seat c.into_answered-call.result.answer c.into_answered-call.result.copies.outs.items c.into_answered-call.result.copies.end
+    c.into_answered-call.result.handler c.self.inside.states c.end_run-over.new.states c.self.inside.handlers.items c.put_back-back.new.handlers.items c.self.inside.items.items c.end_run-over.new.items.items _ _
+    c.end_run-over.result c.put_back-back.result c.self.invariant
+    (subst (λ t. IsRunning g.H.Handler.rule t.setting t.entries c.args.running.run) (sym c.self.view_is) c.requires.on)
+    (record { limits = c.into_answered-call.ensures.limits; by_rule = c.into_answered-call.ensures.by_rule })
+    (record { call_is = c.into_answered-call.ensures.call; seat_is = c.into_answered-call.ensures.seat; answer_is = c.into_answered-call.ensures.answer; outs_is = c.into_answered-call.ensures.outs; end_is = c.into_answered-call.ensures.end })
+    c.into_answered-call.ensures.able (λ ruled. c.into_answered-call.ensures.state ∙ c.into_answered-call.ensures.moved ruled)
+    (record { says = c.end_run-over.ensures.items; change = c.end_run-over.ensures.change; unflushed = c.end_run-over.ensures.unflushed; input = c.end_run-over.ensures.input; halt = c.end_run-over.ensures.halt })
+    c.end_run-over.ensures.over
+    (record { many = c.put_back-back.ensures.many; others = c.put_back-back.ensures.others; back = c.put_back-back.ensures.back; it = c.put_back-back.ensures.it; kept = c.put_back-back.ensures.kept })
+    c.end_run-over.ensures.capacity c.push.ensures.entries c.push.ensures.spare).table.legal

@@ -1,0 +1,10 @@
+use Rattle.std.proofs.Common.{◌≡◌, sym, subst}
+use Rattle.rpc_journal.specs.Calls.{end_of}
+use Rattle.rpc_journal.specs.Table.{past}
+use Rattle.rpc_calls.proofs.Statuses.{end_is}
+use Rattle.rpc_calls.proofs.calls.Calls.status.Goals as goal
+
+pub returns-in-Some : goal.returns-in-Some
+returns-in-Some g c =
+    subst (λ t. c.in-Some.state.now.status ≡ end_of (past t) c.args.call) c.self.view_is
+    (sym (end_is _ _ _ (c.self.invariant.stands.tells.calls.each _ _ (sym c.in-Some.ensures))))

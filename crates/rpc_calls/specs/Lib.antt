@@ -1,0 +1,12 @@
+pub mod Ran
+pub mod RunningHolds
+pub mod AnswerItems
+pub mod Handlers
+pub mod Places
+pub mod Room
+pub mod TableHolds
+pub mod Turns
+pub mod Widened
+pub mod Arrivals
+pub mod CancelItems
+pub mod Still

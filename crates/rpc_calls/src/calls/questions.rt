@@ -1,0 +1,93 @@
+//! What a table tells of its calls.
+ghost use Rattle.std.specs.Prelude.{◌≡◌, ◌&&◌, length, Some, option_map};
+ghost use Rattle.rpc_journal.specs.Calls.{call_at, call_count, end_of};
+ghost use Rattle.rpc_journal.specs.Conditions.{IsCall};
+ghost use Rattle.rpc_journal.specs.Items.{halt_reason, input_ended as no_input_left};
+ghost use Rattle.rpc_journal.specs.Queues.{waiting_of};
+ghost use Rattle.rpc_journal.specs.Quiet.{is_settled as settles};
+ghost use Rattle.rpc_journal.specs.Table.{past};
+
+use super::Calls;
+use crate::still::all_still;
+use link_io::Why;
+use rpc_handlers::Handler;
+use rpc_ids::{MethodRef, Status};
+use rpc_packet::CallName;
+
+impl<H: Handler> Calls<H> {
+    /// How many calls were opened. They are numbered from 0 in the order of their openings.
+    pub fn count(&self) -> u32
+        ensures { result ≡ call_count (past self.now) }
+    {
+        self.states.calls.len() as u32
+    }
+
+    /// The name of this call.
+    pub fn name(&self, call: u32) -> CallName
+        requires { IsCall self.now.setting self.now.entries call }
+        ensures { option_map (λ o. o.name) (call_at (past self.now) call) ≡ Some result }
+    {
+        self.states.calls[call as usize].name
+    }
+
+    /// The method of this call.
+    pub fn method(&self, call: u32) -> MethodRef
+        requires { IsCall self.now.setting self.now.entries call }
+        ensures { option_map (λ o. o.method) (call_at (past self.now) call) ≡ Some result }
+    {
+        self.states.calls[call as usize].method
+    }
+
+    /// The status with which this call ended.
+    pub fn status(&self, call: u32) -> Option<Status>
+        requires { IsCall self.now.setting self.now.entries call }
+        ensures { result ≡ end_of (past self.now) call }
+    {
+        match self.states.state(call) {
+            Some(state) => state.status,
+            None => None,
+        }
+    }
+
+    /// Why the table was halted, where it was.
+    pub fn halted(&self) -> Option<Why>
+        ensures { result ≡ halt_reason (past self.now) }
+    {
+        self.states.halted
+    }
+
+    // Whether the input has ended.
+    #[cfg(test)]
+    pub(crate) fn input_ended(&self) -> bool
+        ensures { result ≡ no_input_left (past self.now) }
+    {
+        self.states.input_ended
+    }
+
+    /// How many events wait for this call.
+    pub fn waiting(&self, call: u32) -> u64
+        requires { IsCall self.now.setting self.now.entries call }
+        ensures { result ≡ length (waiting_of (past self.now) call) }
+    {
+        match self.states.state(call) {
+            Some(state) => state.waiting.len() as u64,
+            None => 0,
+        }
+    }
+
+    /// Whether nothing is left to do: the input has ended, no call runs, no event of a call that wasn't cancelled waits,
+    /// and no item does.
+    pub fn settled(&self) -> bool
+        ensures { result ≡ settles (past self.now) }
+    {
+        let still = all_still(&self.states);
+        let flushed = self.items.is_empty();
+        is_settled(self.states.input_ended, still, flushed)
+    }
+}
+
+fn is_settled(ended: bool, still: bool, flushed: bool) -> bool
+    ensures { result ≡ (ended && still && flushed) }
+{
+    ended && still && flushed
+}

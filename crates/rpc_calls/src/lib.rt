@@ -1,0 +1,24 @@
+//! The table of the calls of one end of a link: what arrives, what runs, and what goes out.
+//!
+//! Enter at `Calls`. A `Running` is one run of a call's handler, between `Calls::start` and `Calls::finish`.
+#![tactic(auto)]
+
+mod answer_items;
+mod calls;
+mod cancelling;
+mod copies;
+mod handlers;
+mod replies;
+mod room;
+mod run_end;
+mod running;
+mod served;
+mod state_changes;
+mod still;
+mod telling;
+
+pub use calls::Calls;
+pub use running::Running;
+
+#[cfg(test)]
+mod tests;

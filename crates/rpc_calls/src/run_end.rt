@@ -1,0 +1,70 @@
+//! The end of a run, in the states of the calls and the items.
+ghost use Rattle.std.specs.Prelude.{◌≡◌, ℕ, ◌+◌, ◌<◌, ◌++◌, length, slice_get, Some};
+ghost use Rattle.std.specs.VecDeque.{deque_len, deque_capacity};
+ghost use Rattle.rpc_journal.specs.declared.call_state.CallState.{CallState};
+ghost use Rattle.rpc_journal.specs.Touch.{finishing, hears_answer};
+ghost use Rattle.rpc_calls.specs.AnswerItems.{answer_items, end_given};
+ghost use Rattle.rpc_calls.specs.Handlers.{over_state};
+ghost use Rattle.rpc_calls.specs.Places.{ChangesAt};
+ghost use Rattle.rpc_calls.specs.Turns.{Turns};
+
+use crate::answer_items::say_answer;
+use crate::copies::Copies;
+use crate::state_changes::finish_at;
+use rpc_ids::Status;
+use rpc_journal::{CallState, CallStates, Item};
+use std::collections::VecDeque;
+
+/// Ends the run of this call with this answer. Answers whether no further run of it can begin.
+pub fn end_run(
+    states: &mut CallStates,
+    items: &mut VecDeque<Item>,
+    call: u32,
+    copies: Copies,
+) -> bool
+    requires there { call < length states.old.calls.items }
+    requires room { deque_len items.old + deque_len copies.outs < deque_capacity items.old }
+    ensures items { (r : CallState) → slice_get states.old.calls.items call ≡ Some r → items.new.items ≡ items.old.items ++ answer_items call r.name r.method.kind r.cancelled (hears_answer r) copies.outs.items copies.end }
+    ensures capacity { deque_capacity items.new ≡ deque_capacity items.old }
+    ensures change { (at : ℕ) (r : CallState) → slice_get states.old.calls.items call ≡ Some r → ChangesAt call (Turns at (finishing (end_given r.cancelled (hears_answer r) copies.end))) states.old.calls.items states.new.calls.items }
+    ensures unflushed { states.new.unflushed ≡ length items.new.items }
+    ensures input { states.new.input_ended ≡ states.old.input_ended }
+    ensures halt { states.new.halted ≡ states.old.halted }
+    ensures over { (x : CallState) → slice_get states.new.calls.items call ≡ Some x → result ≡ over_state x }
+{
+    let end = say_run(&states.calls[call as usize], items, call, copies);
+    finish_at(&mut states.calls, call as usize, end);
+    states.unflushed = items.len() as u64;
+    is_over(&states.calls[call as usize])
+}
+
+// What the run of a call in this state says, and the end that it gives to the call.
+fn say_run(
+    state: &CallState,
+    items: &mut VecDeque<Item>,
+    call: u32,
+    copies: Copies,
+) -> Option<Status>
+    requires { deque_len items.old + deque_len copies.outs < deque_capacity items.old }
+    ensures items { items.new.items ≡ items.old.items ++ answer_items call state.now.name state.now.method.kind state.now.cancelled (hears_answer state.now) copies.outs.items copies.end }
+    ensures end { result ≡ end_given state.now.cancelled (hears_answer state.now) copies.end }
+    ensures capacity { deque_capacity items.new ≡ deque_capacity items.old }
+{
+    let heard = state.hears_answer();
+    say_answer(
+        items,
+        call,
+        state.name,
+        state.method.kind,
+        state.cancelled,
+        heard,
+        copies,
+    )
+}
+
+/// Whether no further run of a call in this state can begin.
+pub fn is_over(state: &CallState) -> bool
+    ensures { result ≡ over_state state.now }
+{
+    state.cancelled || (state.status.is_some() && state.waiting.is_empty())
+}

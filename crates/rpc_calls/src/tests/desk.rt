@@ -1,0 +1,110 @@
+//! A server with three methods on channel 1, and what comes to it.
+ghost use Rattle.std.specs.Prelude.{◌≡◌, IfOk};
+ghost use Rattle.rpc_handlers.specs.declared.event.Memo.{Memo};
+ghost use Rattle.rpc_ids.specs.declared.method.Role.TheVariants.{Server};
+ghost use Rattle.rpc_journal.specs.Lawful.{hears};
+
+use super::letters::{Letter, Letters};
+use crate::Calls;
+use bytes::Bytes;
+use rpc_channel::Channels;
+use rpc_handlers::Maker;
+use rpc_ids::{Kind, MethodRef, Registry, Role, Status};
+use rpc_journal::{Act, ArriveRefused, Arrived};
+use rpc_packet::{CallName, Packet, PacketType};
+use std::alloc::Global;
+use std::process::Abort;
+use std::test::Fail;
+
+/// The methods that the server knows, and one that it doesn't.
+#[derive(Clone, Copy)]
+pub struct Methods {
+    pub echo: MethodRef,
+    pub sum: MethodRef,
+    pub chat: MethodRef,
+}
+
+/// Makes handlers of this letter, whose calls end with their first answer or go on.
+pub fn letters(alloc: Global, letter: u8, ends: bool) -> Letters {
+    Letters {
+        alloc,
+        letter,
+        ends,
+    }
+}
+
+/// A table without a call.
+pub fn open_table(alloc: Global, maker: &Letters) -> Result<(Calls<Letter>, Methods), Fail>
+    ensures role { IfOk result (λ made. made.0.setting.role ≡ Server) }
+    ensures seed { IfOk result (λ made. ⟦<Letters as Maker>⟧.seed_memo maker.now ≡ made.0.setting.seed) }
+{
+    let mut channels = Channels::new(alloc);
+    channels.add(1)?;
+    let mut registry = Registry::new(alloc);
+    let methods = Methods {
+        echo: registry.add(b"demo.Demo", b"Echo", Kind::Unary, false)?,
+        sum: registry.add(b"demo.Demo", b"Sum", Kind::ClientStream, false)?,
+        chat: registry.add(b"demo.Demo", b"Chat", Kind::Bidi, true)?,
+    };
+    let seed = maker.seed()?;
+    let calls = Calls::new(alloc, Role::Server, channels, registry, seed)?;
+    Ok((calls, methods))
+}
+
+/// A packet of the call 1 of this method, without a payload.
+pub fn packet_on(channel: u32, ptype: PacketType, method: MethodRef) -> Packet {
+    Packet {
+        ptype,
+        name: CallName {
+            channel,
+            service: method.service,
+            method: method.method,
+            call: 1,
+        },
+        payload: Bytes::new(),
+        status: 0,
+    }
+}
+
+// Whether a server is sent such packets.
+fn is_for_server(ptype: PacketType) -> bool
+    ensures { result ≡ hears Server ptype }
+{
+    match ptype {
+        PacketType::Request
+        | PacketType::ClientStream
+        | PacketType::ClientError
+        | PacketType::Completion => true,
+        PacketType::Response | PacketType::ServerError | PacketType::ServerStream => false,
+    }
+}
+
+/// The packet arrives. It must be one for a server, and the input must not have ended.
+pub fn arrive(
+    rt: &impl Abort,
+    calls: &mut Calls<Letter>,
+    maker: &Letters,
+    p: &Packet,
+) -> Result<Arrived, ArriveRefused>
+    requires role { calls.old.setting.role ≡ Server }
+    requires seed { ⟦<Letters as Maker>⟧.seed_memo maker.now ≡ calls.old.setting.seed }
+    ensures { calls.new.setting ≡ calls.old.setting }
+{
+    let name = p.name;
+    assert!(rt; is_for_server(p.ptype));
+    assert!(rt; name.channel != 0);
+    assert!(rt; name.service != 0);
+    assert!(rt; name.method != 0);
+    assert!(rt; !calls.input_ended());
+    calls.arrive(0, p, maker)
+}
+
+/// The type and the status of the packet that goes out next.
+pub fn next_sent(calls: &mut Calls<Letter>) -> Option<(PacketType, Status)>
+    ensures { calls.new.setting ≡ calls.old.setting }
+{
+    match calls.flush_front(1)?.act {
+        Act::Send(p) => Some((p.ptype, Status::of(p.status))),
+        Act::Keep(_) | Act::LeaveCall => None,
+    }
+}
