@@ -1,0 +1,15 @@
+use Rattle.std.proofs.Common.{◌≡◌, ℕ, List}
+use Rattle.rpc_journal.specs.Items.{items_flushed, items_waiting}
+use Rattle.rpc_schedule.specs.Serving.{deeds}
+use Rattle.rpc_schedule.proofs.LoopLemmas.{FlushesOn}
+use Rattle.rpc_schedule.proofs.settling.flush_all.Given as goal
+
+abbrev pub invariant-items : goal.invariant-items
+invariant-items g l = record {
+  on : FlushesOn g.T.Serves.rule (g.T.Serves.seen l.fn.server) (g.T.Serves.seen l.server);
+  items : l.items.items ≡ items_flushed (deeds (g.T.Serves.seen l.server));
+  fed : (s : List ℕ) → g.T.Serves.stands l.fn.server s → g.T.Serves.stands l.server s;
+}
+
+abbrev pub decreases-items : goal.decreases-items
+decreases-items g l = items_waiting (deeds (g.T.Serves.seen l.server))

@@ -1,0 +1,12 @@
+use Rattle.std.proofs.Common.{ℕ, ◌-◌, List, length}
+use Rattle.rpc_schedule.proofs.LoopLemmas.{RunsOn}
+use Rattle.rpc_schedule.proofs.settling.run_all.Given as goal
+
+abbrev pub invariant-runs : goal.invariant-runs
+invariant-runs g l = record {
+  on : RunsOn g.T.Serves.rule (g.T.Serves.seen l.fn.server) (g.T.Serves.seen l.server);
+  fed : (s : List ℕ) → g.T.Serves.stands l.fn.server s → g.T.Serves.stands l.server s;
+}
+
+abbrev pub decreases-runs : goal.decreases-runs
+decreases-runs g l = 1000000 - length (g.T.Serves.seen l.server).table.entries

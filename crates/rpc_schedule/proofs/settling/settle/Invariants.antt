@@ -1,0 +1,15 @@
+use Rattle.std.proofs.Common.{◌≡◌, ℕ, ◌-◌, List, length}
+use Rattle.rpc_journal.specs.Items.{items_flushed}
+use Rattle.rpc_schedule.specs.Serving.{deeds}
+use Rattle.rpc_schedule.specs.Settling.{RunsAndFlushes}
+use Rattle.rpc_schedule.proofs.settling.settle.Given as goal
+
+abbrev pub invariant-rounds : goal.invariant-rounds
+invariant-rounds g l = record {
+  on : RunsAndFlushes g.T.Serves.rule (g.T.Serves.seen l.fn.server) (g.T.Serves.seen l.server);
+  items : l.items.items ≡ items_flushed (deeds (g.T.Serves.seen l.server));
+  fed : (s : List ℕ) → g.T.Serves.stands l.fn.server s → g.T.Serves.stands l.server s;
+}
+
+abbrev pub decreases-rounds : goal.decreases-rounds
+decreases-rounds g l = 1000000 - length (g.T.Serves.seen l.server).table.entries

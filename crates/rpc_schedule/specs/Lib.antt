@@ -1,0 +1,7 @@
+pub mod Fresh
+pub mod OneThread
+pub mod Replays
+pub mod Schedule
+pub mod Serving
+pub mod Settling
+pub mod Stops

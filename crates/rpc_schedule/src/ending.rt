@@ -1,0 +1,12 @@
+/// How the reading of a stream ended.
+#[derive(Clone, Copy, Debug, PartialEq, Eq)]
+pub enum Ending {
+    /// The source has no further byte.
+    AtEnd,
+    /// A read failed.
+    SourceFault,
+    /// So many bytes were read as one stream may have; the end wasn't looked for.
+    InputLimit,
+    /// The journal had no room for what was to be done next.
+    JournalLimit,
+}

@@ -1,0 +1,146 @@
+//! A stream from its source to a server, and what comes of it.
+ghost use Rattle.std.specs.Prelude.{◌≡◌, ℕ, ◌≤◌, [], ◌++◌, Err, IfOk, List, OnOk, Ok};
+ghost use Rattle.link_io.specs.Causes.{Rose};
+ghost use Rattle.link_io.specs.Reading.{ConsumesUpTo};
+ghost use Rattle.link_io.specs.declared.reading.Ending.TheVariants.{Failed};
+ghost use Rattle.rpc_journal.specs.Items.{arrivals, items_flushed, items_sent};
+ghost use Rattle.rpc_schedule.specs.declared.ending.Ending.TheVariants.{SourceFault};
+ghost use Rattle.rpc_schedule.specs.declared.stop.Stop.TheVariants.{Journal};
+ghost use Rattle.rpc_schedule.specs.Fresh.{IsFresh};
+ghost use Rattle.rpc_schedule.specs.Replays.{FillsJournal, Reads, Replayed};
+ghost use Rattle.rpc_schedule.specs.Serving.{deeds};
+ghost use Rattle.rpc_schedule.specs.Settling.{FillsWithin, IsCalm, IsDone, IsFullFor};
+
+use crate::settling::settle;
+use crate::{Ending, Serves, Stop};
+use link_io::{Ending as Reading, Source};
+use rpc_journal::Item;
+use std::alloc::AllocError;
+
+/// So many bytes of a stream are read at most.
+pub const INPUT_LIMIT: usize = 67_108_864;
+
+// How many bytes are asked for in one read.
+const PIECE: usize = 4_096;
+
+/// Feeds the stream of a source to a server that was fed nothing yet, and works it until nothing is left to do. The items
+/// that go out are kept in order. After a fault of the source, and at the limit, the input ends there.
+///
+/// # Errors
+///
+/// For want of memory. What was done until then is lost.
+pub fn replay<T: Serves, I: Source>(
+    server: &mut T,
+    input: &mut I,
+    items: &mut Vec<Item>,
+) -> Result<Ending, AllocError>
+    requires fresh { IsFresh (T.seen server.old) }
+    requires unfed { T.stands server.old [] }
+    requires items { items.old.items ≡ [] }
+    ensures replayed { IfOk result (λ ending. Replayed T.rule T.heard (T.stands server.new) (I.left input.old) (I.left input.new) ending
+        (T.seen server.new).table items.new.items) }
+    ensures setting { (T.seen server.new).table.setting ≡ (T.seen server.old).table.setting }
+    ensures read { ConsumesUpTo INPUT_LIMIT (I.left input.old) (I.left input.new) }
+    ensures fault { result ≡ Ok SourceFault → Rose (I.faults input.old) (I.faults input.new) }
+    ensures later { I.faults input.old ≤ I.faults input.new }
+{
+    match replay_all(server, input, items) {
+        Ok(Reading::AtEnd) => Ok(Ending::AtEnd),
+        Ok(Reading::Failed) => Ok(Ending::SourceFault),
+        Ok(Reading::AtLimit) => Ok(Ending::InputLimit),
+        Err(Stop::Journal) => Ok(Ending::JournalLimit),
+        Err(Stop::Memory) => Err(AllocError),
+    }
+}
+
+// Feeds the stream, and then ends the input.
+fn replay_all<T: Serves, I: Source>(
+    server: &mut T,
+    input: &mut I,
+    items: &mut Vec<Item>,
+) -> Result<Reading, Stop>
+    requires calm { IsCalm T.rule (T.seen server.old) }
+    requires unfed { T.stands server.old [] }
+    requires items { items.old.items ≡ items_flushed (deeds (T.seen server.old)) }
+    ensures reads { IfOk result (λ ending. Reads (T.stands server.new) (I.left input.old) (I.left input.new) ending) }
+    ensures done { OnOk result (IsDone T.rule (T.seen server.new)) }
+    ensures items { OnOk result (items.new.items ≡ items_sent (deeds (T.seen server.new))) }
+    ensures full { result ≡ Err Journal → FillsJournal T.rule T.heard (T.stands server.new) (I.left input.old) (I.left input.new)
+        (T.seen server.new).table items.new.items }
+    ensures setting { (T.seen server.new).table.setting ≡ (T.seen server.old).table.setting }
+    ensures read { ConsumesUpTo INPUT_LIMIT (I.left input.old) (I.left input.new) }
+    ensures fault { result ≡ Ok Failed → Rose (I.faults input.old) (I.faults input.new) }
+    ensures later { I.faults input.old ≤ I.faults input.new }
+{
+    let ending = feed_stream(server, input, items)?;
+    close(server, items)?;
+    Ok(ending)
+}
+
+// Feeds the stream piece by piece.
+fn feed_stream<T: Serves, I: Source>(
+    server: &mut T,
+    input: &mut I,
+    items: &mut Vec<Item>,
+) -> Result<Reading, Stop>
+    requires calm { IsCalm T.rule (T.seen server.old) }
+    requires unfed { T.stands server.old [] }
+    requires items { items.old.items ≡ items_flushed (deeds (T.seen server.old)) }
+    ensures reads { IfOk result (λ ending. Reads (T.stands server.new) (I.left input.old) (I.left input.new) ending) }
+    ensures calm { OnOk result (IsCalm T.rule (T.seen server.new)) }
+    ensures items { OnOk result (items.new.items ≡ items_flushed (deeds (T.seen server.new))) }
+    ensures full { result ≡ Err Journal → FillsJournal T.rule T.heard (T.stands server.new) (I.left input.old) (I.left input.new)
+        (T.seen server.new).table items.new.items }
+    ensures setting { (T.seen server.new).table.setting ≡ (T.seen server.old).table.setting }
+    ensures read { ConsumesUpTo INPUT_LIMIT (I.left input.old) (I.left input.new) }
+    ensures fault { result ≡ Ok Failed → Rose (I.faults input.old) (I.faults input.new) }
+    ensures later { I.faults input.old ≤ I.faults input.new }
+{
+    let mut buffer = [0; PIECE];
+    let mut total = 0;
+    'pieces: while total < INPUT_LIMIT {
+        let room = PIECE.min(INPUT_LIMIT - total);
+        match input.read(&mut buffer[..room]) {
+            Ok(0) => return Ok(Reading::AtEnd),
+            Ok(count) => {
+                feed_all(server, &buffer[..count], items)?;
+                total += count;
+            }
+            Err(_) => return Ok(Reading::Failed),
+        }
+    }
+    Ok(Reading::AtLimit)
+}
+
+// Feeds a piece frame by frame, and settles after each.
+fn feed_all<T: Serves>(server: &mut T, piece: &[u8], items: &mut Vec<Item>) -> Result<(), Stop>
+    requires calm { IsCalm T.rule (T.seen server.old) }
+    requires items { items.old.items ≡ items_flushed (deeds (T.seen server.old)) }
+    ensures calm { OnOk result (IsCalm T.rule (T.seen server.new)) }
+    ensures items { OnOk result (items.new.items ≡ items_flushed (deeds (T.seen server.new))) }
+    ensures fed { OnOk result ((s : List ℕ) → T.stands server.old s → T.stands server.new (s ++ piece.now)) }
+    ensures full { result ≡ Err Journal → FillsWithin T.rule (T.stands server.old) (T.stands server.new) piece.now (T.seen server.new) items.new.items }
+    ensures setting { (T.seen server.new).table.setting ≡ (T.seen server.old).table.setting }
+{
+    let mut done = 0;
+    'frames: while done < piece.len() {
+        done += server.feed(&piece[done..])?;
+        settle(server, items)?;
+    }
+    Ok(())
+}
+
+// Ends the input, and settles what is left.
+fn close<T: Serves>(server: &mut T, items: &mut Vec<Item>) -> Result<(), Stop>
+    requires calm { IsCalm T.rule (T.seen server.old) }
+    requires items { items.old.items ≡ items_flushed (deeds (T.seen server.old)) }
+    ensures done { OnOk result (IsDone T.rule (T.seen server.new)) }
+    ensures items { OnOk result (items.new.items ≡ items_sent (deeds (T.seen server.new))) }
+    ensures full { result ≡ Err Journal → IsFullFor T.rule (T.seen server.new) }
+    ensures full_items { result ≡ Err Journal → items.new.items ≡ items_flushed (deeds (T.seen server.new)) }
+    ensures setting { (T.seen server.new).table.setting ≡ (T.seen server.old).table.setting }
+    ensures fed { (s : List ℕ) → T.stands server.old s → T.stands server.new s }
+{
+    server.end_in();
+    settle(server, items)
+}
