@@ -1,0 +1,5 @@
+pub mod OwnEntries
+pub mod Served
+pub mod ServerHolds
+pub mod Working
+pub mod Feeding

@@ -1,0 +1,130 @@
+//! The server.
+ghost use Rattle.std.specs.Prelude.{◌≡◌, ℕ, List, [], IfOk};
+ghost use Rattle.rpc_frames.specs.Heard.{counts_of};
+ghost use Rattle.rpc_journal.specs.Lawful.{IsLegal};
+ghost use Rattle.rpc_schedule.specs.Fresh.{IsFresh};
+ghost use Rattle.rpc_server.specs.OwnEntries.{AreOwn};
+ghost use Rattle.rpc_server.specs.Served.{WasFed};
+
+mod idle;
+mod input;
+mod output;
+mod running;
+mod time;
+
+use rpc_calls::{Calls, Running};
+use rpc_channel::Channels;
+use rpc_frames::{Counts, Listener};
+use rpc_handlers::{Handler, Maker};
+use rpc_ids::{Registry, Role};
+use rpc_journal::StartRefused;
+use std::alloc::{AllocError, Global};
+use std::marker::Model;
+
+/// The seat of what arrives.
+const ARRIVALS: u32 = 0;
+/// The seat of flushes and ticks.
+const FLUSHES: u32 = 1;
+/// The seat of the runs of handlers.
+const RUNS: u32 = 2;
+
+/// A server on one thread: what it hears, the table of its calls, what makes their handlers, and the run that began
+/// before memory was wanting. Contracts see its table, the call of that run, why it takes no further input, and its
+/// listener.
+pub struct Server<M: Maker> {
+    calls: Calls<M::H>,
+    maker: M,
+    listener: Listener,
+    kept: Option<Running<M::H>>,
+    refused: Option<StartRefused>,
+}
+
+impl<M: Maker> Model for Server<M> {
+    ghost use Rattle.rpc_server.specs.Served.{Served};
+
+    ghost Value = { Served };
+
+    ghost use Rattle.std.specs.Prelude.{◌≡◌};
+    ghost use Rattle.rpc_ids.specs.declared.method.Role.TheVariants.{Server};
+    ghost use Rattle.rpc_server.specs.ServerHolds.{IsServer, kept_call};
+
+    ghost view = { λ s. record {
+      serving = record { table = s.calls; kept = kept_call s.kept; refused = s.refused };
+      listener = s.listener;
+    } };
+
+    ghost invariant = { λ s. IsServer M.H.rule (M.seed_memo s.maker) s.calls s.kept s.refused × (s.listener.role ≡ Server) };
+}
+
+impl<M: Maker + Drop> Server<M> {
+    /// A server without a call, with these channels and methods. The maker makes the handlers of the calls that arrive.
+    pub fn new(
+        alloc: Global,
+        channels: Channels,
+        registry: Registry,
+        maker: M,
+    ) -> Result<Server<M>, AllocError>
+        ensures setting { IfOk result (λ s. s.serving.table.setting ≡
+            record { role = Role.Server; channels = channels; registry = registry; seed = M.seed_memo maker }) }
+        ensures fresh { IfOk result (λ s. IsFresh s.serving) }
+        ensures unfed { IfOk result (λ s. WasFed s []) }
+    {
+        let listener = Listener::new(alloc, Role::Server)?;
+        let seed = maker.seed()?;
+        let calls = Calls::new(alloc, Role::Server, channels, registry, seed)?;
+        Ok(Server {
+            calls,
+            maker,
+            listener,
+            kept: None,
+            refused: None,
+        })
+    }
+
+    /// The table of its calls alone. A run that is kept is let go, and its call stays running for good.
+    pub fn into_calls(self) -> Calls<M::H>
+        ensures { result ≡ self.serving.table }
+    {
+        let Server {
+            calls,
+            maker: _,
+            listener: _,
+            kept,
+            refused: _,
+        } = self;
+        let_go(kept);
+        calls
+    }
+}
+
+impl<M: Maker + Drop> Drop for Server<M> {
+    fn drop(self) {
+        let _ = self.into_calls();
+    }
+}
+
+// Lets a run go, where one is kept.
+fn let_go<H: Handler>(kept: Option<Running<H>>) {
+    if let Some(run) = kept {
+        let _ = run.spill();
+    }
+}
+
+impl<M: Maker> Server<M> {
+    /// The table of its calls, with the journal. No call was cancelled, and no handler replaced.
+    pub fn calls(&self) -> &Calls<M::H>
+        ensures table { result.now ≡ self.now.serving.table }
+        ensures legal { IsLegal M.H.rule self.now.serving.table.setting self.now.serving.table.entries }
+        ensures own { AreOwn self.now.serving.table.entries }
+    {
+        &self.calls
+    }
+
+    /// How the segments of what it was fed were counted.
+    pub fn counts(&self) -> Counts
+        ensures counts { (bytes : List ℕ) → WasFed self.now bytes → result ≡ counts_of Role.Server bytes }
+        ensures value { result ≡ self.now.listener.counts }
+    {
+        self.listener.counts()
+    }
+}

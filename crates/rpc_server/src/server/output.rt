@@ -1,0 +1,17 @@
+//! What goes out of a server.
+ghost use Rattle.std.specs.Prelude.{◌≡◌};
+ghost use Rattle.rpc_schedule.specs.Serving.{Gives};
+
+use super::{FLUSHES, Server};
+use rpc_handlers::Maker;
+use rpc_journal::Item;
+
+impl<M: Maker> Server<M> {
+    /// Takes the oldest item that waits to go out. None where none waits. It is never refused, and takes no memory.
+    pub fn next_out(&mut self) -> Option<Item>
+        ensures step { Gives self.old.serving result self.new.serving }
+        ensures listener { self.new.listener ≡ self.old.listener }
+    {
+        self.calls.flush_front(FLUSHES)
+    }
+}

@@ -1,0 +1,22 @@
+//! Time goes on.
+ghost use Rattle.std.specs.Prelude.{◌≡◌};
+ghost use Rattle.rpc_journal.specs.Changes.{TickDid};
+ghost use Rattle.rpc_server.specs.Served.{KeepsAside};
+
+use super::{FLUSHES, Server};
+use rpc_handlers::Maker;
+use rpc_journal::StartRefused;
+
+impl<M: Maker> Server<M> {
+    /// The time has come to this moment, in milliseconds: the calls of ticking methods are told so.
+    ///
+    /// # Errors
+    ///
+    /// Where the journal has no room, or memory is wanting. Nothing has changed then.
+    pub fn tick(&mut self, now: u64) -> Result<(), StartRefused>
+        ensures did { TickDid 1 now result self.old.serving.table.entries self.new.serving.table.entries }
+        ensures aside { KeepsAside self.old self.new }
+    {
+        self.calls.tick(FLUSHES, now)
+    }
+}

@@ -1,0 +1,40 @@
+//! The server, as the loops of a replay ask of it.
+ghost use Rattle.std.specs.Prelude.{◌≡◌};
+ghost use Rattle.rpc_server.specs.Served.{WasFed, heard as heard_in};
+
+use crate::Server;
+use rpc_handlers::Maker;
+use rpc_journal::{Item, StartRefused};
+use rpc_schedule::Serves;
+
+impl<M: Maker> Serves for Server<M> {
+    ghost seen = { λ s. s.serving };
+
+    ghost rule = { M.H.rule };
+
+    ghost heard = { heard_in };
+
+    ghost stands = { WasFed };
+
+    fn feed(&mut self, piece: &[u8]) -> Result<usize, StartRefused> {
+        self.feed(piece)
+    }
+
+    fn work(&mut self) -> Result<bool, StartRefused> {
+        self.work()
+    }
+
+    fn end_in(&mut self) {
+        self.end_in();
+    }
+
+    fn next_out(&mut self) -> Option<Item> {
+        self.next_out()
+    }
+
+    fn idle(&self) -> bool {
+        self.idle()
+    }
+
+    ghost arrived = { λ s bytes fed. fed.packets };
+}
