@@ -1,0 +1,3 @@
+pub mod FrameSteps
+pub mod LengthLemmas
+pub mod LoadLaws
