@@ -1,4 +1,4 @@
-pub mod OutcomeLemmas
-pub mod StreamLemmas
-pub mod TallyLemmas
-pub mod WordLemmas
+mod ChannelLemmas
+mod ServedLemmas
+mod UnbuiltLemmas
+mod WritesLemmas

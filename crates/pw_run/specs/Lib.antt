@@ -1,10 +1,9 @@
-pub mod Heard
-pub mod HeardAs
-pub mod Lines
-pub mod Methods
+pub mod Check
+pub mod Command
+pub mod Demo
+pub mod Load
 pub mod Outcome
 pub mod Recorded
-pub mod Report
-pub mod Serving
-pub mod Tally
-pub mod Words
+pub mod Replay
+pub mod Unbuilt
+pub mod Writes

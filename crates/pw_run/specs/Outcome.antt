@@ -1,9 +1,9 @@
 -- The exit statuses of the program.
-use Rattle.std.specs.Prelude.{◌≡◌, ℕ, ◌⊎◌}
-use Rattle.pw_run.specs.declared.ending.Ending.{Ending}
-use Rattle.pw_run.specs.declared.ending.Ending.TheVariants as ended
+use Rattle.std.specs.Prelude.{ℕ}
+use Rattle.rpc_schedule.specs.declared.ending.Ending.{Ending}
+use Rattle.rpc_schedule.specs.declared.ending.Ending.TheVariants as ended
 use Rattle.pw_run.specs.declared.outcome.Outcome.{Outcome}
-use Rattle.pw_run.specs.declared.outcome.Outcome.TheVariants.{Done, NoMemory, BadWords, SourceFault, SinkFault, InputLimit, NotBuilt}
+use Rattle.pw_run.specs.declared.outcome.Outcome.TheVariants.{Done, NoMemory, BadWords, SourceFault, SinkFault, BadLine, InputLimit, JournalLimit, NotBuilt}
 
 abbrev pub code_of : Outcome → ℕ
 code_of Done = 0
@@ -11,14 +11,17 @@ code_of NoMemory = 1
 code_of BadWords = 2
 code_of SourceFault = 3
 code_of SinkFault = 4
+code_of BadLine = 7
 code_of InputLimit = 8
+code_of JournalLimit = 8
 code_of NotBuilt = 10
 
--- the outcome of a run that wrote its report
+-- the outcome of a run whose stream ended so, and whose text was written whole
 abbrev pub outcome_of : Ending → Outcome
 outcome_of ended.AtEnd = Done
 outcome_of ended.SourceFault = SourceFault
 outcome_of ended.InputLimit = InputLimit
+outcome_of ended.JournalLimit = JournalLimit
 
 -- with these outcomes nothing was written
 abbrev pub IsSilent : Outcome → Type 0
@@ -26,7 +29,3 @@ IsSilent NoMemory = Unit {0}
 IsSilent BadWords = Unit {0}
 IsSilent NotBuilt = Unit {0}
 IsSilent _ = ⊥
-
--- a run that read a stream to this ending had its outcome, or found a fault or no memory at the output
-abbrev pub IsOutcomeOf : Ending → Outcome → Type 0
-IsOutcomeOf ending outcome = (outcome ≡ outcome_of ending) ⊎ ((outcome ≡ NoMemory) ⊎ (outcome ≡ SinkFault))

@@ -1,26 +1,32 @@
 ghost use Rattle.std.specs.Prelude.{◌≡◌};
 
+use rpc_schedule::Ending;
+
 /// How a run of the program ended.
 #[derive(Clone, Copy, Debug, PartialEq, Eq)]
 pub enum Outcome {
-    /// The input was read to its end, and the report was written.
+    /// The input was read to its end, and what belongs to it was written.
     Done,
-    /// There was no memory.
+    /// There was no memory. Nothing was written.
     NoMemory,
     /// The words are no command. Nothing was read or written.
     BadWords,
-    /// A read of the input failed, and the report of what came before it was written.
+    /// A read of the input failed, and what belongs to the bytes before it was written.
     SourceFault,
     /// A write of the output failed.
     SinkFault,
-    /// So many bytes were read as an input may have, and the report of them was written.
+    /// A line of the text that was read is bad, and its number was written.
+    BadLine,
+    /// So many bytes were read as an input may have, and what belongs to them was written.
     InputLimit,
+    /// The journal was full.
+    JournalLimit,
     /// The input calls a method that isn't served yet. Nothing was written.
     NotBuilt,
 }
 
 impl Outcome {
-    ghost use Rattle.pw_run.specs.Outcome.{code_of};
+    ghost use Rattle.pw_run.specs.Outcome.{code_of, outcome_of};
 
     /// The exit status of the program.
     pub fn code(self) -> u8
@@ -32,8 +38,21 @@ impl Outcome {
             Outcome::BadWords => 2,
             Outcome::SourceFault => 3,
             Outcome::SinkFault => 4,
-            Outcome::InputLimit => 8,
+            Outcome::BadLine => 7,
+            Outcome::InputLimit | Outcome::JournalLimit => 8,
             Outcome::NotBuilt => 10,
+        }
+    }
+
+    /// The outcome of a run whose stream ended so, and whose text was written whole.
+    pub(crate) fn of(ending: Ending) -> Outcome
+        ensures { result ≡ outcome_of ending }
+    {
+        match ending {
+            Ending::AtEnd => Outcome::Done,
+            Ending::SourceFault => Outcome::SourceFault,
+            Ending::InputLimit => Outcome::InputLimit,
+            Ending::JournalLimit => Outcome::JournalLimit,
         }
     }
 }

@@ -1,0 +1,518 @@
+//! A plain server of the demo service, with nothing proved: what the bench measures the program against, and what its
+//! outputs are compared with. It keeps no journal.
+//!
+//! plain_server report|raw < recording          serves a recorded stream
+//! plain_server load N SEED                      serves a stream made from a number, and prints its four lines
+//! plain_server recording echo N | load N SEED   writes such a stream
+use std::collections::HashMap;
+use std::io::{self, Read, Write};
+
+const FLAG: u8 = 0x7e;
+const ESCAPE: u8 = 0x7d;
+const ADDRESS: u64 = 82;
+const MAX_PAYLOAD: usize = 8_000;
+
+const REQUEST: u64 = 0;
+const RESPONSE: u64 = 1;
+const CLIENT_STREAM: u64 = 2;
+const CLIENT_ERROR: u64 = 4;
+const SERVER_ERROR: u64 = 5;
+const SERVER_STREAM: u64 = 7;
+const COMPLETION: u64 = 8;
+
+const OK: u32 = 0;
+const CANCELLED: u32 = 1;
+const UNKNOWN: u32 = 2;
+const INVALID_ARGUMENT: u32 = 3;
+const NOT_FOUND: u32 = 5;
+const RESOURCE_EXHAUSTED: u32 = 8;
+const FAILED_PRECONDITION: u32 = 9;
+const UNAVAILABLE: u32 = 14;
+const STATUSES: [&str; 17] = [
+    "OK", "CANCELLED", "UNKNOWN", "INVALID_ARGUMENT", "DEADLINE_EXCEEDED", "NOT_FOUND", "ALREADY_EXISTS",
+    "PERMISSION_DENIED", "RESOURCE_EXHAUSTED", "FAILED_PRECONDITION", "ABORTED", "OUT_OF_RANGE", "UNIMPLEMENTED",
+    "INTERNAL", "UNAVAILABLE", "DATA_LOSS", "UNAUTHENTICATED",
+];
+
+#[derive(Clone, Copy, PartialEq, Eq, Hash, Default)]
+struct Name {
+    channel: u32,
+    service: u32,
+    method: u32,
+    call: u32,
+}
+
+#[derive(Clone, Default)]
+struct Packet {
+    ptype: u64,
+    name: Name,
+    payload: Vec<u8>,
+    status: u32,
+}
+
+fn hash_name(name: &str) -> u32 {
+    let mut power = 1u32;
+    let mut sum = name.len() as u32;
+    for byte in name.bytes() {
+        power = power.wrapping_mul(65_599);
+        sum = sum.wrapping_add(u32::from(byte).wrapping_mul(power));
+    }
+    sum
+}
+
+// ---- frames
+
+struct Crc([u32; 256]);
+
+impl Crc {
+    fn new() -> Crc {
+        let mut table = [0; 256];
+        for (i, entry) in table.iter_mut().enumerate() {
+            *entry = (0..8).fold(i as u32, |r, _| if r & 1 == 1 { (r >> 1) ^ 0xedb8_8320 } else { r >> 1 });
+        }
+        Crc(table)
+    }
+
+    fn of(&self, bytes: &[u8]) -> u32 {
+        !bytes.iter().fold(!0, |r: u32, b| (r >> 8) ^ self.0[((r ^ u32::from(*b)) & 0xff) as usize])
+    }
+}
+
+fn put_varint(out: &mut Vec<u8>, mut value: u64) {
+    while value >= 0x80 {
+        out.push(value as u8 | 0x80);
+        value >>= 7;
+    }
+    out.push(value as u8);
+}
+
+fn spell(p: &Packet) -> Vec<u8> {
+    let mut out = Vec::with_capacity(p.payload.len() + 32);
+    let varint = |out: &mut Vec<u8>, number: u64, value: u64| {
+        if value != 0 {
+            put_varint(out, number << 3);
+            put_varint(out, value);
+        }
+    };
+    varint(&mut out, 1, p.ptype);
+    varint(&mut out, 2, p.name.channel.into());
+    for (number, value) in [(3, p.name.service), (4, p.name.method)] {
+        if value != 0 {
+            out.push(number << 3 | 5);
+            out.extend_from_slice(&value.to_le_bytes());
+        }
+    }
+    if !p.payload.is_empty() {
+        out.push(5 << 3 | 2);
+        put_varint(&mut out, p.payload.len() as u64);
+        out.extend_from_slice(&p.payload);
+    }
+    varint(&mut out, 6, p.status.into());
+    varint(&mut out, 7, p.name.call.into());
+    out
+}
+
+fn put_frame(crc: &Crc, out: &mut Vec<u8>, p: &Packet) {
+    let mut content = vec![(ADDRESS as u8) << 1 | 1, 0x03];
+    content.extend_from_slice(&spell(p));
+    let check = crc.of(&content);
+    content.extend_from_slice(&check.to_le_bytes());
+    out.push(FLAG);
+    for byte in content {
+        if byte == FLAG || byte == ESCAPE {
+            out.extend_from_slice(&[ESCAPE, byte ^ 0x20]);
+        } else {
+            out.push(byte);
+        }
+    }
+    out.push(FLAG);
+}
+
+// ---- packets
+
+fn get_varint(bytes: &mut &[u8]) -> Option<u64> {
+    let mut value = 0u128;
+    for i in 0..10 {
+        let (first, rest) = bytes.split_first()?;
+        *bytes = rest;
+        value |= u128::from(first & 0x7f) << (7 * i);
+        if first & 0x80 == 0 {
+            return u64::try_from(value).ok();
+        }
+    }
+    None
+}
+
+fn get<'a>(bytes: &mut &'a [u8], n: u64) -> Option<&'a [u8]> {
+    let n = usize::try_from(n).ok().filter(|n| *n <= bytes.len())?;
+    let (front, rest) = bytes.split_at(n);
+    *bytes = rest;
+    Some(front)
+}
+
+fn read_packet(mut bytes: &[u8]) -> Option<Packet> {
+    let mut p = Packet::default();
+    while !bytes.is_empty() {
+        let tag = u32::try_from(get_varint(&mut bytes)?).ok()?;
+        let (number, wire) = (tag >> 3, tag & 7);
+        if number == 0 {
+            return None;
+        }
+        let mut varint = 0;
+        let mut word: &[u8] = &[];
+        match wire {
+            0 => varint = get_varint(&mut bytes)?,
+            1 => word = get(&mut bytes, 8)?,
+            2 => {
+                let n = get_varint(&mut bytes)?;
+                word = get(&mut bytes, n)?;
+            }
+            5 => word = get(&mut bytes, 4)?,
+            _ => return None,
+        }
+        let wanted = match number {
+            1 | 2 | 6 | 7 => 0,
+            3 | 4 => 5,
+            5 => 2,
+            _ => continue,
+        };
+        if wire != wanted {
+            return None;
+        }
+        match number {
+            1 => p.ptype = varint,
+            2 => p.name.channel = u32::try_from(varint).ok()?,
+            3 => p.name.service = u32::from_le_bytes(word.try_into().ok()?),
+            4 => p.name.method = u32::from_le_bytes(word.try_into().ok()?),
+            5 => p.payload = word.to_vec(),
+            6 => p.status = u32::try_from(varint).ok()?,
+            _ => p.name.call = u32::try_from(varint).ok()?,
+        }
+    }
+    Some(p)
+}
+
+// ---- the demo service and its table of calls
+
+#[derive(Clone, Copy, PartialEq)]
+enum Method {
+    Echo,
+    Count,
+    Sum,
+    Chat,
+}
+
+struct Call {
+    name: Name,
+    method: Method,
+    completed: bool,
+    total: u64,
+    status: Option<u32>,
+}
+
+#[derive(Default)]
+struct Counts {
+    valid: u64,
+    bad: u64,
+    other: u64,
+    dropped: u64,
+}
+
+struct Server {
+    crc: Crc,
+    methods: HashMap<(u32, u32), Method>,
+    calls: Vec<Call>,
+    live: HashMap<Name, usize>,
+    sent: Vec<Packet>,
+    counts: Counts,
+    begun: bool,
+    text: Vec<u8>,
+}
+
+impl Server {
+    fn new() -> Server {
+        let service = hash_name("demo.Demo");
+        let methods = [("Echo", Method::Echo), ("Count", Method::Count), ("Sum", Method::Sum), ("Chat", Method::Chat)];
+        Server {
+            crc: Crc::new(),
+            methods: methods.iter().map(|(name, m)| ((service, hash_name(name)), *m)).collect(),
+            calls: Vec::new(),
+            live: HashMap::new(),
+            sent: Vec::new(),
+            counts: Counts::default(),
+            begun: false,
+            text: Vec::new(),
+        }
+    }
+
+    fn feed(&mut self, bytes: &[u8]) {
+        for byte in bytes {
+            if *byte != FLAG {
+                if self.begun {
+                    self.text.push(*byte);
+                }
+                continue;
+            }
+            if self.begun && !self.text.is_empty() {
+                let text = std::mem::take(&mut self.text);
+                self.segment(&text);
+                self.text = text;
+                self.text.clear();
+            }
+            self.begun = true;
+        }
+    }
+
+    fn segment(&mut self, text: &[u8]) {
+        match self.content(text) {
+            None => self.counts.bad += 1,
+            Some((address, control, payload)) => {
+                self.counts.valid += 1;
+                if address != ADDRESS || control != 0x03 {
+                    self.counts.other += 1;
+                } else if let Some(p) = read_packet(&payload).filter(is_heard) {
+                    self.arrive(p);
+                } else {
+                    self.counts.dropped += 1;
+                }
+            }
+        }
+    }
+
+    fn content(&self, text: &[u8]) -> Option<(u64, u8, Vec<u8>)> {
+        let mut content = Vec::with_capacity(text.len());
+        let mut bytes = text.iter();
+        while let Some(byte) = bytes.next() {
+            content.push(match *byte {
+                ESCAPE => bytes.next().copied().filter(|x| *x != ESCAPE)? ^ 0x20,
+                byte => byte,
+            });
+        }
+        if content.len() > 8_192 || content.len() < 6 {
+            return None;
+        }
+        let (rest, check) = content.split_at(content.len() - 4);
+        if self.crc.of(rest).to_le_bytes() != check {
+            return None;
+        }
+        let mut address = 0;
+        for i in 0..5.min(rest.len()) {
+            address |= u64::from(rest[i] >> 1) << (7 * i);
+            if rest[i] & 1 == 1 {
+                let control = *rest.get(i + 1)?;
+                return (address < 1 << 32).then(|| (address, control, rest[i + 2..].to_vec()));
+            }
+        }
+        None
+    }
+
+    fn send(&mut self, ptype: u64, name: Name, payload: Vec<u8>, status: u32) {
+        self.sent.push(Packet { ptype, name, payload, status });
+    }
+
+    fn refuse(&mut self, name: Name, status: u32) {
+        self.send(SERVER_ERROR, name, Vec::new(), status);
+    }
+
+    fn end(&mut self, c: usize, status: u32) {
+        let name = self.calls[c].name;
+        self.calls[c].status = Some(status);
+        self.live.remove(&name);
+    }
+
+    fn respond(&mut self, c: usize, status: u32, payload: Vec<u8>) {
+        let name = self.calls[c].name;
+        self.send(RESPONSE, name, payload, status);
+        self.end(c, status);
+    }
+
+    fn arrive(&mut self, p: Packet) {
+        let is_in = (1..=8).contains(&p.name.channel);
+        let method = self.methods.get(&(p.name.service, p.name.method)).copied();
+        let live = self.live.get(&p.name).copied();
+        if p.ptype == CLIENT_ERROR {
+            if let (true, Some(_), Some(c)) = (is_in, method, live) {
+                self.end(c, if p.status > 16 { UNKNOWN } else { p.status });
+            }
+            return;
+        }
+        if !is_in {
+            return self.refuse(p.name, UNAVAILABLE);
+        }
+        let Some(method) = method else {
+            return self.refuse(p.name, NOT_FOUND);
+        };
+        if p.ptype == REQUEST {
+            if let Some(c) = live {
+                self.end(c, CANCELLED);
+            }
+            let c = self.calls.len();
+            self.calls.push(Call { name: p.name, method, completed: false, total: 0, status: None });
+            self.live.insert(p.name, c);
+            return self.request(c, p.payload);
+        }
+        let Some(c) = live else {
+            return self.refuse(p.name, FAILED_PRECONDITION);
+        };
+        if p.ptype == CLIENT_STREAM {
+            match method {
+                Method::Echo | Method::Count => self.refuse(p.name, INVALID_ARGUMENT),
+                _ if self.calls[c].completed => self.refuse(p.name, FAILED_PRECONDITION),
+                _ => self.message(c, p.payload),
+            }
+        } else if method != Method::Echo && !self.calls[c].completed {
+            self.calls[c].completed = true;
+            self.complete(c);
+        }
+    }
+
+    fn request(&mut self, c: usize, payload: Vec<u8>) {
+        match self.calls[c].method {
+            Method::Echo if payload.len() > MAX_PAYLOAD => self.respond(c, RESOURCE_EXHAUSTED, Vec::new()),
+            Method::Echo => self.respond(c, OK, payload),
+            Method::Count => match payload[..] {
+                [n] if n <= 64 => {
+                    let name = self.calls[c].name;
+                    for i in 1..=n {
+                        self.send(SERVER_STREAM, name, vec![i], OK);
+                    }
+                    self.respond(c, OK, Vec::new());
+                }
+                _ => self.respond(c, INVALID_ARGUMENT, Vec::new()),
+            },
+            Method::Sum | Method::Chat => {}
+        }
+    }
+
+    fn message(&mut self, c: usize, payload: Vec<u8>) {
+        if self.calls[c].method == Method::Sum {
+            let sum = payload.iter().fold(0u64, |sum, b| sum.wrapping_add(u64::from(*b)));
+            self.calls[c].total = self.calls[c].total.wrapping_add(sum);
+        } else if payload.len() > MAX_PAYLOAD {
+            self.respond(c, RESOURCE_EXHAUSTED, Vec::new());
+        } else {
+            let name = self.calls[c].name;
+            self.send(SERVER_STREAM, name, payload, OK);
+        }
+    }
+
+    fn complete(&mut self, c: usize) {
+        match self.calls[c].method {
+            Method::Sum => {
+                let total = self.calls[c].total.to_be_bytes().to_vec();
+                self.respond(c, OK, total);
+            }
+            Method::Chat => self.respond(c, OK, Vec::new()),
+            Method::Echo | Method::Count => {}
+        }
+    }
+
+    fn report(&self) -> String {
+        let Counts { valid, bad, other, dropped } = self.counts;
+        let mut text = format!("frames {valid} bad {bad} other {other} dropped {dropped}\n");
+        for (i, call) in self.calls.iter().enumerate() {
+            let Name { channel, service, method, call: id } = call.name;
+            let kind = match call.method {
+                Method::Echo => "unary",
+                Method::Count => "server",
+                Method::Sum => "client",
+                Method::Chat => "bidi",
+            };
+            let status = call.status.map_or("open", |s| STATUSES[s as usize]);
+            text += &format!("call {i} {channel} {service:08x} {method:08x} {id} {kind} {status}\n");
+        }
+        for p in &self.sent {
+            let mut frame = Vec::new();
+            put_frame(&self.crc, &mut frame, p);
+            text += "out ";
+            for byte in frame {
+                text += &format!("{byte:02x}");
+            }
+            text += "\n";
+        }
+        text + "done\n"
+    }
+
+    fn raw(&self) -> Vec<u8> {
+        let mut out = Vec::new();
+        for p in &self.sent {
+            put_frame(&self.crc, &mut out, p);
+        }
+        out
+    }
+}
+
+fn is_heard(p: &Packet) -> bool {
+    let Name { channel, service, method, .. } = p.name;
+    matches!(p.ptype, REQUEST | CLIENT_STREAM | CLIENT_ERROR | COMPLETION) && channel != 0 && service != 0 && method != 0
+}
+
+// ---- recordings
+
+fn demo_packet(ptype: u64, method: &str, call: u32, payload: &[u8]) -> Packet {
+    let name = Name { channel: 1, service: hash_name("demo.Demo"), method: hash_name(method), call };
+    Packet { ptype, name, payload: payload.to_vec(), status: 0 }
+}
+
+fn echo_recording(n: u32) -> Vec<u8> {
+    let crc = Crc::new();
+    let mut out = Vec::new();
+    for i in 0..n {
+        put_frame(&crc, &mut out, &demo_packet(REQUEST, "Echo", i + 1, &i.to_be_bytes()));
+    }
+    out
+}
+
+fn load_recording(n: u32, seed: u64) -> Vec<u8> {
+    let crc = Crc::new();
+    let mut out = Vec::new();
+    let mut x = seed;
+    for i in 0..n {
+        x = x.wrapping_mul(6_364_136_223_846_793_005).wrapping_add(1_442_695_040_888_963_407);
+        let top: [u8; 3] = x.to_be_bytes()[..3].try_into().unwrap();
+        let mut put = |ptype, method: &str, payload: &[u8]| {
+            put_frame(&crc, &mut out, &demo_packet(ptype, method, i + 1, payload));
+        };
+        match i % 4 {
+            0 => put(REQUEST, "Echo", &top),
+            1 => put(REQUEST, "Count", &[1 + ((x >> 32) % 64) as u8]),
+            kind => {
+                let method = if kind == 2 { "Sum" } else { "Chat" };
+                put(REQUEST, method, &[]);
+                for byte in top {
+                    put(CLIENT_STREAM, method, &[byte]);
+                }
+                put(COMPLETION, method, &[]);
+            }
+        }
+    }
+    out
+}
+
+fn main() -> io::Result<()> {
+    let words: Vec<String> = std::env::args().skip(1).collect();
+    let words: Vec<&str> = words.iter().map(String::as_str).collect();
+    let mut server = Server::new();
+    let out = match words[..] {
+        ["recording", "echo", n] => echo_recording(n.parse().unwrap()),
+        ["recording", "load", n, seed] => load_recording(n.parse().unwrap(), seed.parse().unwrap()),
+        ["load", n, seed] => {
+            server.feed(&load_recording(n.parse().unwrap(), seed.parse().unwrap()));
+            let payload: usize = server.sent.iter().map(|p| p.payload.len()).sum();
+            let (calls, packets) = (server.calls.len(), server.sent.len());
+            format!("load {n} {seed}\ncalls {calls}\npackets {packets}\npayload {payload}\n").into_bytes()
+        }
+        [form @ ("report" | "raw")] => {
+            let mut piece = vec![0; 4_096];
+            loop {
+                match io::stdin().read(&mut piece)? {
+                    0 => break,
+                    n => server.feed(&piece[..n]),
+                }
+            }
+            if form == "raw" { server.raw() } else { server.report().into_bytes() }
+        }
+        _ => std::process::exit(2),
+    };
+    io::stdout().write_all(&out)
+}

@@ -1,0 +1,127 @@
+#!/usr/bin/env python3
+"""Measures the program beside a plain server in Rust, and compares what the two write.
+
+Builds bench/replay/plain_server.rs with rustc, and the program crates/pw_main with rt (proved, by LLVM).
+
+run.py            the measured table: load, a recording of 100,000 Echo calls, and how load grows
+run.py compare N  N recordings with damage, repeated names and all packet types; the two must write the same
+"""
+import os
+import random
+import subprocess
+import sys
+import time
+import zlib
+
+HERE = os.path.dirname(os.path.abspath(__file__))
+TOP = os.path.dirname(os.path.dirname(HERE))
+BUILD = os.path.join(TOP, "bench", "build")
+SERVICE = 0x70F45CFB
+METHODS = [0x8B470EE9, 0xB63613B6, 0x09570BB8, 0x9BA981BC]
+
+
+def built():
+    os.makedirs(BUILD, exist_ok=True)
+    plain = os.path.join(BUILD, "plain_server")
+    source = os.path.join(HERE, "plain_server.rs")
+    subprocess.run(["rustc", "-O", "--edition", "2021", "-o", plain, source], check=True)
+    launcher = os.path.join(TOP, "kirofantse")
+    subprocess.run([launcher, "load", "0", "0"], check=True, stdout=subprocess.DEVNULL)
+    return os.path.join(TOP, "crates", "pw_main", "out", "pw_main"), plain
+
+
+def written(command, recording=b""):
+    return subprocess.run(command, input=recording, check=True, capture_output=True).stdout
+
+
+def seconds(command, recording=b""):
+    times = []
+    for _ in range(3):
+        start = time.monotonic()
+        out = written(command, recording)
+        times.append(time.monotonic() - start)
+        if times[-1] > 10:
+            break
+    return min(times), out
+
+
+def measured(what, ours, plain, recording=b""):
+    a, told = seconds(ours, recording)
+    b, wanted = seconds(plain, recording)
+    if told != wanted:
+        sys.exit(f"{what}: the two differ")
+    print(f"| {what} | {a:.3f} | {b:.3f} | {a / b:.1f} |", flush=True)
+    return a
+
+
+def table(program, plain):
+    print(f"{os.cpu_count()} processors, seconds, best of 3 (of 1 where a run takes more than 10)")
+    print("| what | this program | plain Rust | ratio |")
+    print("|---|---|---|---|")
+    echo = written([plain, "recording", "echo", "100000"])
+    measured("`replay raw`, 100,000 Echo calls", [program, "replay", "raw"], [plain, "raw"], echo)
+    times = []
+    for n in ("7500", "15000", "30000"):
+        times.append(measured(f"`load {n} 7`", [program, "load", n, "7"], [plain, "load", n, "7"]))
+    print(f"load grows by {times[1] / times[0]:.2f} and {times[2] / times[1]:.2f} where its calls double")
+
+
+def varint(value):
+    out = bytearray()
+    while value > 0x7F:
+        out.append(value & 0x7F | 0x80)
+        value >>= 7
+    return bytes(out) + bytes([value])
+
+
+def packet(rng):
+    method = rng.choice(METHODS * 4 + [0, 12345])
+    channel = rng.choice([1] * 12 + [0, 2, 8, 9])
+    ptype = rng.choice([0, 0, 0, 2, 2, 2, 4, 8, 8, 1, 3, 5, 99])
+    payload = rng.choice([b"", b"\x03", b"\x40", b"\x41", rng.randbytes(rng.randrange(40)), bytes(rng.choice([7990, 8000, 8001]))])
+    out = varint(8) + varint(ptype) + varint(16) + varint(channel)
+    out += b"\x1d" + SERVICE.to_bytes(4, "little") + b"\x25" + method.to_bytes(4, "little")
+    if payload:
+        out += b"\x2a" + varint(len(payload)) + payload
+    out += varint(48) + varint(rng.choice([0, 1, 6, 17, 200])) + varint(56) + varint(rng.randrange(4))
+    return rng.choice([out] * 20 + [out[:-1], out + b"\x07"])
+
+
+def frame(rng):
+    head = rng.choice([b"\xa5"] * 20 + [b"\xf7", b"\xa4\x01"]) + rng.choice([b"\x03"] * 20 + [b"\x13"]) + packet(rng)
+    content = head + zlib.crc32(head).to_bytes(4, "little")
+    return b"\x7e" + content.replace(b"\x7d", b"\x7d\x5d").replace(b"\x7e", b"\x7d\x5e") + b"\x7e"
+
+
+def recording(seed):
+    rng = random.Random(seed)
+    stream = bytearray(b"".join(frame(rng) for _ in range(rng.randrange(30))))
+    for _ in range(rng.choice([0, 0, 1, 5])):
+        if stream:
+            stream[rng.randrange(len(stream))] = rng.choice([0x7E, 0x7D, rng.randrange(256)])
+    return bytes(stream)
+
+
+def compare(program, plain, count):
+    for seed in range(count):
+        stream = recording(seed)
+        for ours, theirs in ((["replay"], ["report"]), (["replay", "raw"], ["raw"])):
+            if written([program, *ours], stream) != written([plain, *theirs], stream):
+                sys.exit(f"{' '.join(ours)}: the two differ on recording {seed}")
+        text = written([program, "replay", "journal"], stream)
+        verdict = written([program, "check"], text)
+        if verdict != b"legal %d\n" % text.count(b"\n"):
+            sys.exit(f"check: the journal of recording {seed} isn't legal: {verdict}")
+    print(f"{count} recordings: the two write the same, and each journal is legal")
+
+
+def main():
+    program, plain = built()
+    if sys.argv[1:2] == ["compare"]:
+        compare(program, plain, int(sys.argv[2]))
+    else:
+        table(program, plain)
+
+
+if __name__ == "__main__":
+    main()

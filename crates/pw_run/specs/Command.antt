@@ -1,0 +1,20 @@
+-- The words of each recorded command.
+use Rattle.std.specs.Prelude.{◌≡◌, ℕ, ◌≤◌, ◌<◌, ◌^◌, List, [], ◌∷◌, codes}
+use Rattle.std.specs.Fmt.{decimal}
+use Rattle.pw_run.specs.declared.command.Command.{Command}
+use Rattle.pw_run.specs.declared.command.Command.TheVariants.{Replay, Check, Load}
+use Rattle.pw_run.specs.declared.command.Form.TheVariants.{Report, Raw, Journal}
+use Rattle.pw_run.specs.declared.command.TheConstants.{MAX_LOAD}
+
+-- the words name this command. Numbers are decimal, with no sign and no leading zero
+abbrev pub IsCommand : List (List ℕ) → Command → Type 0
+IsCommand words (Replay Report) = words ≡ codes "replay" ∷ []
+IsCommand words (Replay Raw) = words ≡ codes "replay" ∷ codes "raw" ∷ []
+IsCommand words (Replay Journal) = words ≡ codes "replay" ∷ codes "journal" ∷ []
+IsCommand words Check = words ≡ codes "check" ∷ []
+IsCommand words (Load calls seed) =
+    (words ≡ codes "load" ∷ decimal calls ∷ decimal seed ∷ []) × (calls ≤ MAX_LOAD) × (seed < 2 ^ 64)
+
+-- the words name no command
+abbrev pub IsNoCommand : List (List ℕ) → Type 0
+IsNoCommand words = (command : Command) → IsCommand words command → ⊥

@@ -1,0 +1,85 @@
+//! The words behind the program's name.
+ghost use Rattle.std.specs.Prelude.{◌≡◌, [], ◌∷◌, map, string_bytes, IfSome, Some};
+ghost use Rattle.pw_run.specs.Command.{IsCommand};
+
+use text_fields::{number, small_number};
+
+/// The most calls that `load` makes.
+pub const MAX_LOAD: u32 = 30_000;
+
+/// What `replay` writes.
+#[derive(Clone, Copy, Debug, PartialEq, Eq)]
+pub enum Form {
+    /// The report.
+    Report,
+    /// The frames of all packets sent, and nothing else.
+    Raw,
+    /// The journal's text.
+    Journal,
+}
+
+/// A recorded command.
+#[derive(Clone, Copy, Debug, PartialEq, Eq)]
+pub enum Command {
+    /// A recorded stream of a client is served.
+    Replay(Form),
+    /// A journal's text is judged.
+    Check,
+    /// A stream of so many calls, made from this number, is served.
+    Load { calls: u32, seed: u64 },
+}
+
+impl Command {
+    /// The command that these words name.
+    pub fn of(words: &[String]) -> Option<Command>
+        ensures some { IfSome result (λ command. IsCommand (map string_bytes words.now) command) }
+        ensures only { (command : Command) → IsCommand (map string_bytes words.now) command → result ≡ Some command }
+    {
+        match words {
+            [word] => of_one(word.as_str()),
+            [word, form] => of_two(word.as_str(), form.as_str()),
+            [word, calls, seed] => of_three(word.as_str(), calls.as_str(), seed.as_str()),
+            _ => None,
+        }
+    }
+}
+
+fn of_one(word: &str) -> Option<Command>
+    ensures some { IfSome result (λ command. IsCommand (word.now ∷ []) command) }
+    ensures only { (command : Command) → IsCommand (word.now ∷ []) command → result ≡ Some command }
+{
+    match word {
+        "replay" => Some(Command::Replay(Form::Report)),
+        "check" => Some(Command::Check),
+        _ => None,
+    }
+}
+
+fn of_two(word: &str, form: &str) -> Option<Command>
+    ensures some { IfSome result (λ command. IsCommand (word.now ∷ form.now ∷ []) command) }
+    ensures only { (command : Command) → IsCommand (word.now ∷ form.now ∷ []) command → result ≡ Some command }
+{
+    if word != "replay" {
+        return None;
+    }
+    match form {
+        "raw" => Some(Command::Replay(Form::Raw)),
+        "journal" => Some(Command::Replay(Form::Journal)),
+        _ => None,
+    }
+}
+
+fn of_three(word: &str, calls: &str, seed: &str) -> Option<Command>
+    ensures some { IfSome result (λ command. IsCommand (word.now ∷ calls.now ∷ seed.now ∷ []) command) }
+    ensures only { (command : Command) → IsCommand (word.now ∷ calls.now ∷ seed.now ∷ []) command → result ≡ Some command }
+{
+    if word != "load" {
+        return None;
+    }
+    let calls = small_number(calls.as_bytes())?;
+    let seed = number(seed.as_bytes())?;
+    if calls > MAX_LOAD {
+        return None;
+    }
+    Some(Command::Load { calls, seed })
+}

@@ -1,0 +1,106 @@
+//! The command `replay`: a recorded stream of a client is served.
+ghost use Rattle.std.specs.Prelude.{◌≡◌, ◌≢◌, ◌≤◌, IfOk};
+ghost use Rattle.link_io.specs.Causes.{Rose};
+ghost use Rattle.link_io.specs.Reading.{ConsumesUpTo};
+ghost use Rattle.rpc_schedule.specs.declared.stream.TheConstants.{INPUT_LIMIT};
+ghost use Rattle.pw_run.specs.declared.outcome.Outcome.TheVariants.{BadWords, NoMemory, NotBuilt, SinkFault, SourceFault};
+ghost use Rattle.pw_run.specs.Outcome.{IsSilent};
+ghost use Rattle.journal_text.specs.Printed.{journal_text};
+ghost use Rattle.pw_run.specs.Replay.{DidReplay, WritesRun, text_of};
+ghost use Rattle.pw_run.specs.Writes.{Writes};
+
+use crate::unbuilt::has_unbuilt;
+use crate::writing::write_text;
+use crate::{Form, Outcome, demo};
+use demo_services::DemoCall;
+use link_io::{Sink, Source};
+use rpc_calls::Calls;
+use rpc_frames::Counts;
+use rpc_journal::{Item, Journal};
+use rpc_schedule::Ending;
+use run_report::{frame_bytes, report_text};
+use std::alloc::{AllocError, Global};
+
+/// Serves the input as a recorded stream of a client, and writes what this form tells of the run. The text is made whole
+/// before its first byte is written.
+pub(crate) fn replay<I: Source, O: Sink>(
+    alloc: Global,
+    form: Form,
+    input: &mut I,
+    output: &mut O,
+) -> Outcome
+    ensures words { result ≢ BadWords }
+    ensures read { ConsumesUpTo INPUT_LIMIT (I.left input.old) (I.left input.new) }
+    ensures did { DidReplay form (I.left input.old) (I.left input.new) (O.written output.old) (O.written output.new) result }
+    ensures silent { IsSilent result → output.new ≡ output.old }
+    ensures source { result ≡ SourceFault → Rose (I.faults input.old) (I.faults input.new) }
+    ensures sink { result ≡ SinkFault → Rose (O.faults output.old) (O.faults output.new) }
+    ensures source_later { I.faults input.old ≤ I.faults input.new }
+    ensures sink_later { O.faults output.old ≤ O.faults output.new }
+{
+    let Ok(mut server) = demo::server(alloc) else {
+        return Outcome::NoMemory;
+    };
+    let mut items = Vec::new(alloc);
+    match rpc_schedule::replay(&mut server, input, &mut items) {
+        Err(_) => Outcome::NoMemory,
+        Ok(ending) => {
+            let counts = server.counts();
+            write_run(alloc, form, counts, server.calls(), &items, ending, output)
+        }
+    }
+}
+
+// Writes what belongs to a run that ended so.
+fn write_run<O: Sink>(
+    alloc: Global,
+    form: Form,
+    counts: Counts,
+    calls: &Calls<DemoCall>,
+    items: &[Item],
+    ending: Ending,
+    output: &mut O,
+) -> Outcome
+    ensures writes { WritesRun form counts calls.now items.now ending (O.written output.old) (O.written output.new) result }
+    ensures source { result ≡ SourceFault → ending ≡ Ending.SourceFault }
+    ensures silent { IsSilent result → output.new ≡ output.old }
+    ensures sink { result ≡ SinkFault → Rose (O.faults output.old) (O.faults output.new) }
+    ensures sink_later { O.faults output.old ≤ O.faults output.new }
+{
+    if has_unbuilt(calls.journal()) {
+        return Outcome::NotBuilt;
+    }
+    match run_text(alloc, form, counts, calls, items, ending) {
+        Err(_) => Outcome::NoMemory,
+        Ok(text) => write_text(output, &text, Outcome::of(ending)),
+    }
+}
+
+// The text of a run in this form.
+fn run_text(
+    alloc: Global,
+    form: Form,
+    counts: Counts,
+    calls: &Calls<DemoCall>,
+    items: &[Item],
+    ending: Ending,
+) -> Result<Vec<u8>, AllocError>
+    ensures { IfOk result (λ text. text.items ≡ text_of form counts calls.now items.now ending) }
+{
+    match form {
+        Form::Report => {
+            let text = report_text(alloc, counts, calls, items, ending)?;
+            Ok(text.into_bytes())
+        }
+        Form::Raw => frame_bytes(alloc, items),
+        Form::Journal => journal_bytes(alloc, calls.journal()),
+    }
+}
+
+fn journal_bytes(alloc: Global, journal: &Journal) -> Result<Vec<u8>, AllocError>
+    ensures { IfOk result (λ text. text.items ≡ journal_text journal.now.entries) }
+{
+    let mut text = String::new(alloc);
+    journal_text::print(alloc, journal, &mut text)?;
+    Ok(text.into_bytes())
+}
