@@ -1,5 +1,5 @@
 -- The table that is measured, over the calls of the measurement.
-use Rattle.std.proofs.Common.{◌≡◌, ℕ, false, List, [], ◌∷◌, Option, Some, None, Result, Ok, Err, IfOk, IfSome, refl, ap, sym, ◌∙◌, subst}
+use Rattle.std.proofs.Common.{◌≡◌, ℕ, false, [], Option, Some, None, Result, Ok, Err, IfOk, IfSome, refl, ap, sym, ◌∙◌, subst}
 use Rattle.rpc_handlers.specs.declared.answer.Answer.{Answer}
 use Rattle.rpc_handlers.specs.HandlerRule.{HandlerRule, empty_memo}
 use Rattle.rpc_ids.specs.declared.method.Role.TheVariants.{Server}
@@ -7,16 +7,13 @@ use Rattle.rpc_packet.specs.declared.owned.Packet.{Packet}
 use Rattle.rpc_journal.specs.declared.answers.Arrived.{Arrived}
 use Rattle.rpc_journal.specs.declared.answers.ArriveRefused.{ArriveRefused}
 use Rattle.rpc_journal.specs.declared.answers.StartRefused.{StartRefused}
-use Rattle.rpc_journal.specs.declared.entry.Entry.{Entry}
 use Rattle.rpc_journal.specs.declared.entry.EntryKind.{EntryKind}
 use Rattle.rpc_journal.specs.declared.entry.EntryKind.TheVariants.{Arrive, Start, Finish, Flush}
 use Rattle.rpc_journal.specs.declared.item.Item.{Item}
-use Rattle.rpc_journal.specs.declared.setting.Setting.{Setting}
 use Rattle.rpc_journal.specs.Changes.{ArriveDid, StartDid, FinishDid, FlushDid}
-use Rattle.rpc_journal.specs.Effect.{Deed}
 use Rattle.rpc_journal.specs.History.{history, tell, entry_by, adding}
 use Rattle.rpc_journal.specs.Items.{input_ended, is_end_in}
-use Rattle.rpc_journal.specs.Runs.{Run, Begins, IsRunning}
+use Rattle.rpc_journal.specs.Runs.{Run, IsRunning}
 use Rattle.rpc_journal.specs.Table.{Table}
 use Rattle.rpc_journal.proofs.ChangeLemmas.{begun_runs}
 use Rattle.rpc_journal.proofs.Push.{history-push}

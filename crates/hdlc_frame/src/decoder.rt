@@ -41,9 +41,9 @@ enum Closed {
 }
 
 impl Decoder {
-    ghost use Rattle.std.specs.Prelude.{◌≡◌, ◌≢◌, ◌+◌, ◌-◌, ◌<◌, ◌≤◌, ◌++◌, ◌∷◌, [], ℕ, List, length, take, slice_range, nat_lt, ◌||◌, IfOk, IsNone, IsTrue, ◌↔◌, false};
+    ghost use Rattle.std.specs.Prelude.{◌≡◌, ◌+◌, ◌-◌, ◌<◌, ◌≤◌, ◌++◌, [], ℕ, List, length, take, slice_range, IfOk, IsNone, IsTrue, ◌↔◌, false};
     ghost use Rattle.std.specs.Borrow.{sem};
-    ghost use Rattle.hdlc_frame.specs.Found.{Found, found};
+    ghost use Rattle.hdlc_frame.specs.Found.{found};
     ghost use Rattle.hdlc_frame.specs.Machine.{HasRead, Moves, Reading, after_escape, after_run, begun, keeping};
     ghost use Rattle.hdlc_frame.specs.Lent.{found_in_got};
     ghost use Rattle.hdlc_frame.specs.Pushed.{IsWithin, Leaves, closed_by, closed_found};

@@ -1,8 +1,8 @@
 //! The writer of frames.
 
 ghost use Rattle.std.specs.Prelude.{◌≡◌, ◌++◌, ◌∷◌, [], IfOk, OnOk, OnErr, List, ℕ};
-ghost use Rattle.std.specs.Int.{to_le_bytes, w32};
-ghost use Rattle.hdlc_frame.specs.CheckSequence.{after_octets, check_sequence_of};
+ghost use Rattle.std.specs.Int.{to_le_bytes};
+ghost use Rattle.hdlc_frame.specs.CheckSequence.{after_octets};
 ghost use Rattle.hdlc_frame.specs.Encoded.{encoded_ui, shortest_address, text_of};
 
 use crate::crc::{ALL_ONES, register_after};

@@ -1,6 +1,6 @@
 //! A content's faults, and the frame that is left where it has none.
 
-ghost use Rattle.std.specs.Prelude.{◌≡◌, ◌+◌, ◌*◌, ◌^◌, ◌<◌, ◌≤◌, ℕ, length, drop, IfSome};
+ghost use Rattle.std.specs.Prelude.{◌≡◌, ◌+◌, ◌*◌, ◌<◌};
 ghost use Rattle.std.specs.Option.{option_map};
 ghost use Rattle.hdlc_frame.specs.Found.{found_in_content, framed, number_at};
 ghost use Rattle.hdlc_frame.specs.Lent.{found_of};

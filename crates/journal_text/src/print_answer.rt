@@ -1,6 +1,6 @@
 //! The texts of an answer: its end, and its items.
 
-ghost use Rattle.std.specs.Prelude.{◌≡◌, ◌++◌, codes, OnOk, string_bytes};
+ghost use Rattle.std.specs.Prelude.{◌≡◌, ◌++◌, OnOk, string_bytes};
 ghost use Rattle.journal_text.specs.Line.{end_text, item_text, items_text};
 ghost use Rattle.journal_text.specs.Reading.{IsAnswer, IsEnd, IsOut};
 

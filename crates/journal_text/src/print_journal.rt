@@ -1,4 +1,4 @@
-ghost use Rattle.std.specs.Prelude.{◌≡◌, ◌++◌, codes, IsTrue, OnOk, string_bytes};
+ghost use Rattle.std.specs.Prelude.{◌≡◌, ◌++◌, IsTrue, OnOk, string_bytes};
 ghost use Rattle.rpc_journal.specs.declared.entry.Entry.{Entry};
 ghost use Rattle.rpc_journal.specs.declared.entry.EntryKind.TheVariants.{Arrive, Finish};
 ghost use Rattle.journal_text.specs.Line.{kind_text, line_of};

@@ -1,6 +1,6 @@
 //! What is found of a text that should be a server's journal.
 
-ghost use Rattle.std.specs.Prelude.{◌≡◌, ◌∷◌, ◌++◌, [], OnOk, string_bytes};
+ghost use Rattle.std.specs.Prelude.{◌≡◌, ◌++◌, OnOk, string_bytes};
 ghost use Rattle.text_fields.specs.Lines.{ended};
 ghost use Rattle.journal_text.specs.Verdicts.{rule_name, verdict_status, verdict_text};
 

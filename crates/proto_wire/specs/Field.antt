@@ -1,5 +1,5 @@
 -- The fields of a Protocol Buffers message, and how bytes spell them.
-use Rattle.std.specs.Prelude.{◌≡◌, ℕ, ◌+◌, ◌*◌, ◌^◌, ◌<◌, ◌≤◌, List, [], ◌∷◌, ◌++◌, length}
+use Rattle.std.specs.Prelude.{◌≡◌, ℕ, ◌+◌, ◌*◌, ◌^◌, ◌<◌, ◌≤◌, List, ◌++◌, length}
 use Rattle.byteorder.specs.Endian.{little_number}
 use Rattle.proto_wire.specs.Varint.{IsVarint}
 
@@ -42,8 +42,3 @@ pub record IsField (text : List ℕ) (f : WireField) : Type 0 where
   pub low : 1 ≤ f.number
   pub high : tag_of f < 2 ^ 32
   pub valued : IsValue f.value value
-
--- the bytes spell these fields and no more
-pub data IsMessage : List ℕ → List WireField → Type 0 where
-  none : IsMessage [] []
-  more : (text rest : List ℕ) (f : WireField) (fs : List WireField) → IsField text f → IsMessage rest fs → IsMessage (text ++ rest) (f ∷ fs)

@@ -3,7 +3,6 @@ ghost use Rattle.std.specs.Prelude.{◌≡◌, ℕ, ◌+◌, ◌++◌, List, len
 ghost use Rattle.proto_wire.specs.Field.{WireField, IsField};
 ghost use Rattle.proto_wire.specs.Message.{Message, IsRead, fields_from, with_field};
 ghost use Rattle.proto_wire.specs.Spelling.{field_text, IsWritable};
-ghost use Rattle.proto_wire.specs.Varint.{IsVarint, varint_text};
 
 /// Any bytes are read in one way: as their fields, up to the first offset where none can be read.
 pub fn bytes_are_read_in_one_way()

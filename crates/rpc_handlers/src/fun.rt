@@ -3,7 +3,6 @@ ghost use Rattle.std.specs.Prelude.{◌≡◌, true, refl};
 ghost use Rattle.rpc_handlers.specs.declared.answer.Answer.{Answer};
 ghost use Rattle.rpc_handlers.specs.declared.event.Event.{Event};
 ghost use Rattle.rpc_handlers.specs.declared.event.Memo.{Memo};
-ghost use Rattle.rpc_handlers.specs.HandlerRule.{HandlerRule};
 ghost use Rattle.rpc_handlers.specs.Fun.{IsByRule, KeepsLimits};
 ghost use Rattle.std.specs.Prelude.{IfOk};
 ghost use Rattle.rpc_ids.specs.declared.method.MethodRef.{MethodRef};

@@ -1,6 +1,5 @@
 //! A handler of a stored closure, asked here and on another thread.
 ghost use Rattle.std.specs.Prelude.{◌≡◌, [], ◌∷◌, ◌++◌, IfOk, None};
-ghost use Rattle.rpc_handlers.specs.Fun.{IsByRule};
 
 use super::*;
 use bytes::Bytes;

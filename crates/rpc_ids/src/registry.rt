@@ -1,5 +1,5 @@
 //! The methods that an endpoint knows.
-ghost use Rattle.std.specs.Prelude.{◌≡◌, ℕ, ◌↔◌, [], ◌∷◌, ◌++◌, IsSome, IfOk, OnErr, None};
+ghost use Rattle.std.specs.Prelude.{◌≡◌, ℕ, ◌↔◌, [], ◌∷◌, ◌++◌, IsSome, IfOk, OnErr};
 ghost use Rattle.rpc_ids.specs.Names.{name_id};
 ghost use Rattle.rpc_ids.specs.Registry.{method_of, has_ids as ids_match};
 

@@ -3,7 +3,7 @@ use Rattle.std.proofs.Common.{◌≡◌, ℕ, true, false, List, [], ◌⊎◌, 
 use Rattle.proto_wire.specs.declared.field.Field.{Field}
 use Rattle.proto_wire.specs.declared.fields.Malformed.{Malformed}
 use Rattle.proto_wire.specs.Field.{WireField}
-use Rattle.proto_wire.specs.Message.{no_fields, faulty, fields_of}
+use Rattle.proto_wire.specs.Message.{fields_of}
 use Rattle.proto_wire.specs.Message as wire
 use Rattle.proto_wire.specs.Reading.{Reading, unread}
 use Rattle.proto_wire.specs.Gives.{GivesField, GivesFault, Gives}

@@ -1,6 +1,6 @@
 -- Each kind of step keeps the rule.
 use Rattle.std.proofs.Common.{◌≡◌, ◌≢◌, ℕ, ◌+◌, ◌*◌, ◌%◌, ◌≤◌, Bool, true, false, eqb, List, [], ◌∷◌, length, get_or, set, Option, Some, refl, ap, sym, ◌∙◌, subst, inl, inr, ⊎_elim, arith}
-use mathlib.Core.Option.{some, none, some-injective, some-ne-none}
+use mathlib.Core.Option.{some, none, some-injective}
 use mathlib.Core.Option as maybe
 use mathlib.Core.List.{IsPrefix}
 use lib.ListN.{get_elem?}

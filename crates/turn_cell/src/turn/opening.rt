@@ -1,5 +1,5 @@
 //! How a lock is made, with all its passes.
-ghost use Rattle.std.specs.Prelude.{◌≡◌, ℕ, ◌+◌, ◌-◌, ◌<◌, ◌≤◌, false, List, [], ◌∷◌, Some, IfOk, IfErr, vec_len, vec_capacity};
+ghost use Rattle.std.specs.Prelude.{◌≡◌, ◌+◌, ◌-◌, ◌<◌, ◌≤◌, false, [], ◌∷◌, Some, IfOk, IfErr, vec_len, vec_capacity};
 ghost use Rattle.turn_cell.specs.Views.{starting};
 ghost use Rattle.turn_cell.specs.Helpers.{AreNewcomers};
 
