@@ -33,6 +33,7 @@ use Rattle.std.proofs.lemmas.Option.{slice_get_within}
 use Rattle.rpc_journal.proofs.DeedLemmas.{close_touches, put_touches}
 use Rattle.rpc_journal.proofs.LegalLemmas.{keeps_legal}
 use Rattle.rpc_calls.specs.Arrivals.{CanTake, IsLiveCall, Took}
+use Rattle.rpc_calls.specs.Marks.{one_if}
 use Rattle.rpc_calls.specs.Places.{ChangesAt}
 use Rattle.rpc_calls.specs.Room.{uncancelled, running, items_owed, HasPlaces}
 use Rattle.rpc_calls.specs.TableHolds.{StandsFor, HasAllRoom, IsTable}
@@ -41,7 +42,6 @@ use Rattle.rpc_calls.proofs.CalmSteps.{none_of, table_after}
 use Rattle.rpc_calls.proofs.CallSteps.{IsCallEntry, stands_none, stands_calm_one}
 use Rattle.rpc_calls.proofs.FlushSteps.{waits_one}
 use Rattle.rpc_calls.proofs.OneStep.{TouchesOne, counts_one, places_one}
-use Rattle.rpc_calls.proofs.PlaceChanges.{one_if}
 use Rattle.rpc_calls.proofs.StepLemmas.{IsCalm}
 
 pub arrive_entry : (seat : ℕ) (p : Packet) (e : Effect) → IsCallEntry (deed_by seat (Arrive p) e)
@@ -121,7 +121,7 @@ module _ {H : Type 0} (now : H → Memo) (can_act : H → Type 0) (rule : Handle
       table_arrived recorded after seat p dropped states handlers items' capacity' is.legal is.server can adds
       (stands_none now can_act rule set (history set recorded.entries) (deed_by seat (Arrive p) no_effect) states states handlers items items' is.stands
       (arrive_entry seat p no_effect) (drop_touches seat p) refl refl
-      (record { says = same ∙ sym (append-nil items); unflushed = counted; input = refl; halt = refl }) (λ k. refl))
+      (record { says = same ∙ sym (append-nil items); unflushed = counted; input = refl; halt = refl }) refl (λ k. refl))
       (room_grown states states items items' 0 after.spare capacity' refl refl (omega (arith, ap length same)) is.room.places is.room.few places
       (subst (λ n. length items + items_owed states.calls.items + 0 + (uncancelled states.calls.items + running states.calls.items + 2) + 1 ≤ n) (sym spent) records))
     where
@@ -131,16 +131,16 @@ module _ {H : Type 0} (now : H → Memo) (can_act : H → Type 0) (rule : Handle
   pub arrives_replied : (recorded after : Recorded) (seat : ℕ) (p : Packet) (s : Status) (states later : CallStates) (handlers : List (Option H)) (items items' : List Item) (capacity capacity' spare : ℕ)
       → IsTable now can_act rule set recorded states handlers items capacity → CanTake set recorded.entries seat p (replied ServerError p s)
       → items' ≡ items ++ (replied ServerError p s).does.says → later.calls.items ≡ states.calls.items → later.unflushed ≡ length items'
-      → later.input_ended ≡ states.input_ended → later.halted ≡ states.halted
+      → later.input_ended ≡ states.input_ended → later.halted ≡ states.halted → later.newest ≡ states.newest
       → after.entries ≡ adding recorded.entries seat (Arrive p) → after.spare + 1 ≡ spare
       → length items + items_owed states.calls.items + 1 ≤ capacity'
       → length items + items_owed states.calls.items + 1 + (uncancelled states.calls.items + running states.calls.items + 2) + 1 ≤ spare
       → Arrives recorded after seat p (replied ServerError p s).answer later handlers items' capacity'
-  arrives_replied recorded after seat p s states later handlers items items' capacity capacity' spare is can says same counted input halt adds spent places records =
+  arrives_replied recorded after seat p s states later handlers items items' capacity capacity' spare is can says same counted input halt newest adds spent places records =
       table_arrived recorded after seat p (replied ServerError p s) later handlers items' capacity' is.legal is.server can adds
       (stands_none now can_act rule set (history set recorded.entries) (deed_by seat (Arrive p) (replied ServerError p s).does) states later handlers items items' is.stands
       (arrive_entry seat p (replied ServerError p s).does) (reply_touches seat p s) refl same
-      (record { says = says; unflushed = counted; input = input; halt = halt }) (λ k. refl))
+      (record { says = says; unflushed = counted; input = input; halt = halt }) newest (λ k. refl))
       (room_grown states later items items' 1 after.spare capacity' (ap uncancelled same) (ap running same)
       (ap length says ∙ length-append items (replied ServerError p s).does.says)
       (subst (λ b. HasPlaces later.calls.items b) (sym input) (subst (λ cs. HasPlaces cs states.input_ended) (sym same) is.room.places))
@@ -152,13 +152,13 @@ module _ {H : Type 0} (now : H → Memo) (can_act : H → Type 0) (rule : Handle
       → IsTable now can_act rule set recorded states handlers items capacity → CanTake set recorded.entries seat p row
       → TouchesOne (deed_by seat (Arrive p) row.does) c t → row.does.says ≡ [] → slice_get states.calls.items c ≡ Some r → IsCalm t r
       → t.cancels ≡ false → ChangesAt c (Turns (length (history set recorded.entries)) t) states.calls.items later.calls.items
-      → later.unflushed ≡ states.unflushed → later.input_ended ≡ states.input_ended → later.halted ≡ states.halted
+      → later.unflushed ≡ states.unflushed → later.input_ended ≡ states.input_ended → later.halted ≡ states.halted → later.newest ≡ states.newest
       → HasPlaces later.calls.items later.input_ended → items' ≡ items
       → after.entries ≡ adding recorded.entries seat (Arrive p) → after.spare + 1 ≡ spare
       → length items + items_owed states.calls.items + 0 ≤ capacity'
       → length items + items_owed states.calls.items + 0 + (uncancelled states.calls.items + running states.calls.items + 2) + 1 ≤ spare
       → Arrives recorded after seat p row.answer later handlers items' capacity'
-  arrives_touched recorded after seat c p t row states later handlers items items' r capacity capacity' spare is can one silent there calm uncut changes unflushed input halt free same adds spent places records =
+  arrives_touched recorded after seat c p t row states later handlers items items' r capacity capacity' spare is can one silent there calm uncut changes unflushed input halt newest free same adds spent places records =
       let within : c < length states.calls.items = slice_get_within states.calls.items c r there in
       let it = get_some later.calls.items c (omega (arith, within, changes.many)) in
       let turns = changes.here r it.0 there it.1 in
@@ -174,7 +174,7 @@ module _ {H : Type 0} (now : H → Memo) (can_act : H → Type 0) (rule : Handle
         unflushed = unflushed ∙ sym (waits_one now can_act rule set recorded states handlers items capacity is) ∙ ap length (sym same);
         input = input;
         halt = halt;
-      }) (λ k. refl) (λ q q_is. subst (IsCalm t) (some_same r q (sym there ∙ q_is)) calm))
+      }) newest (λ k. refl) (λ q q_is. subst (IsCalm t) (some_same r q (sym there ∙ q_is)) calm))
       (room_grown states later items items' 0 after.spare capacity' (omega (arith, counts.going, kept)) (omega (arith, counts.busy, ran)) (omega (arith, ap length same)) free
       (omega (arith, is.room.few, changes.many)) places
       (subst (λ n. length items + items_owed states.calls.items + 0 + (uncancelled states.calls.items + running states.calls.items + 2) + 1 ≤ n) (sym spent) records))
@@ -238,17 +238,17 @@ module _ {H : Type 0} (now : H → Memo) (can_act : H → Type 0) (rule : Handle
       → IsTable now can_act rule set recorded states handlers items capacity → CanTake set recorded.entries seat p (closed c (ends_and_clears c s))
       → IsLiveCall (history set recorded.entries) c → at ≡ length recorded.entries
       → ChangesAt c (Turns at (closing s)) states.calls.items later.calls.items
-      → later.unflushed ≡ states.unflushed → later.input_ended ≡ states.input_ended → later.halted ≡ states.halted → items' ≡ items
+      → later.unflushed ≡ states.unflushed → later.input_ended ≡ states.input_ended → later.halted ≡ states.halted → later.newest ≡ states.newest → items' ≡ items
       → after.entries ≡ adding recorded.entries seat (Arrive p) → after.spare + 1 ≡ spare
       → length items + items_owed states.calls.items + 0 ≤ capacity'
       → length items + items_owed states.calls.items + 0 + (uncancelled states.calls.items + running states.calls.items + 2) + 1 ≤ spare
       → Arrives now can_act rule set recorded after seat p (closed c (ends_and_clears c s)).answer later handlers items' capacity'
-  arrives_closed recorded after seat c at p s states later handlers items items' capacity capacity' spare is can live place changes unflushed input halt same adds spent places records =
+  arrives_closed recorded after seat c at p s states later handlers items items' capacity capacity' spare is can live place changes unflushed input halt newest same adds spent places records =
       let row = get_some states.calls.items c (omega (arith, live.below, is.stands.tells.calls.many)) in
       let unended = live_status (history set recorded.entries) states handlers items c row.0 is.stands live row.1 in
       let turned = subst (λ n. ChangesAt c (Turns n (closing s)) states.calls.items later.calls.items) (place ∙ sym (history_length set recorded.entries)) changes in
       arrives_touched now can_act rule set recorded after seat c p (closing s) (closed c (ends_and_clears c s)) states later handlers items items' row.0 capacity capacity' spare is can
-      (close_one seat c p s) refl row.1 (record { unstarted = refl; unfinished = refl; put_open = λ h. unended }) refl turned unflushed input halt
+      (close_one seat c p s) refl row.1 (record { unstarted = refl; unfinished = refl; put_open = λ h. unended }) refl turned unflushed input halt newest
       (places_closed at c s states later row.0 row.1 changes input is.room.places) same adds spent places records
 
   pub arrives_put : (recorded after : Recorded) (seat c at : ℕ) (p : Packet) (event : Event) (states later : CallStates) (handlers : List (Option H)) (items items' : List Item) (capacity capacity' spare : ℕ)
@@ -256,15 +256,15 @@ module _ {H : Type 0} (now : H → Memo) (can_act : H → Type 0) (rule : Handle
       → IsLiveCall (history set recorded.entries) c → at ≡ length recorded.entries
       → ((r : CallState) → slice_get states.calls.items c ≡ Some r → length r.waiting.items + 2 ≤ deque_capacity r.waiting)
       → ChangesAt c (Turns at (putting event)) states.calls.items later.calls.items
-      → later.unflushed ≡ states.unflushed → later.input_ended ≡ states.input_ended → later.halted ≡ states.halted → items' ≡ items
+      → later.unflushed ≡ states.unflushed → later.input_ended ≡ states.input_ended → later.halted ≡ states.halted → later.newest ≡ states.newest → items' ≡ items
       → after.entries ≡ adding recorded.entries seat (Arrive p) → after.spare + 1 ≡ spare
       → length items + items_owed states.calls.items + 0 ≤ capacity'
       → length items + items_owed states.calls.items + 0 + (uncancelled states.calls.items + running states.calls.items + 2) + 1 ≤ spare
       → Arrives now can_act rule set recorded after seat p (queued c event).answer later handlers items' capacity'
-  arrives_put recorded after seat c at p event states later handlers items items' capacity capacity' spare is can live place two changes unflushed input halt same adds spent places records =
+  arrives_put recorded after seat c at p event states later handlers items items' capacity capacity' spare is can live place two changes unflushed input halt newest same adds spent places records =
       let row = get_some states.calls.items c (omega (arith, live.below, is.stands.tells.calls.many)) in
       let unended = live_status (history set recorded.entries) states handlers items c row.0 is.stands live row.1 in
       let turned = subst (λ n. ChangesAt c (Turns n (putting event)) states.calls.items later.calls.items) (place ∙ sym (history_length set recorded.entries)) changes in
       arrives_touched now can_act rule set recorded after seat c p (putting event) (queued c event) states later handlers items items' row.0 capacity capacity' spare is can
-      (put_one seat c p event) refl row.1 (record { unstarted = refl; unfinished = refl; put_open = λ h. unended }) refl turned unflushed input halt
+      (put_one seat c p event) refl row.1 (record { unstarted = refl; unfinished = refl; put_open = λ h. unended }) refl turned unflushed input halt newest
       (places_put at c event states later row.0 row.1 (two row.0 row.1) changes input is.room.places) same adds spent places records

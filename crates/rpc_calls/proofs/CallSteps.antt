@@ -9,8 +9,10 @@ use Rattle.rpc_journal.specs.declared.setting.Setting.{Setting}
 use Rattle.rpc_journal.specs.Calls.{is_replace_of, runner_of}
 use Rattle.rpc_journal.specs.Effect.{Deed}
 use Rattle.rpc_journal.specs.Items.{flush_count, is_end_in, is_flush, items_sent, reason_of}
+use Rattle.rpc_journal.specs.Newest.{AreNewest}
 use Rattle.rpc_journal.specs.Tells.{TellsCalls, Tells}
 use Rattle.rpc_journal.specs.Touch.{Touch, Touches, untouched}
+use Rattle.rpc_journal.proofs.NewestLemmas.{newest_kept}
 use Rattle.rpc_journal.proofs.PlaceLemmas.{get_some}
 use Rattle.rpc_calls.specs.Handlers.{Keeps}
 use Rattle.rpc_calls.specs.Places.{ChangesAt}
@@ -35,14 +37,15 @@ pub record GrowsBy (d : Deed) (states after : CallStates) (items items' : List I
 
 -- the queue, the input and the halt
 pub tells_grown : (ds : List Deed) (d : Deed) (states after : CallStates) (items items' : List Item) → Tells ds states
-    → items ≡ drop (flush_count ds) (items_sent ds) → IsCallEntry d → GrowsBy d states after items items' → TellsCalls (d ∷ ds) after.calls.items
+    → items ≡ drop (flush_count ds) (items_sent ds) → IsCallEntry d → GrowsBy d states after items items' → TellsCalls (d ∷ ds) after.calls.items → AreNewest (d ∷ ds) after.newest
     → Tells (d ∷ ds) after × (items' ≡ drop (flush_count (d ∷ ds)) (items_sent (d ∷ ds)))
-tells_grown ds d states after items items' tells queue entry grows calls =
+tells_grown ds d states after items items' tells queue entry grows calls newest =
     let within : flush_count ds ≤ length (items_sent ds) = omega (arith, tells.items) in
     let same : flush_count (d ∷ ds) ≡ flush_count ds = rw (entry.flushes_none) refl in
     let next : items' ≡ drop (flush_count ds) (items_sent ds ++ d.does.says) = grows.says ∙ queue_grows items (items_sent ds) d.does.says (flush_count ds) within queue in (
       record {
         calls = calls;
+        newest = newest;
         items = omega (arith, same, grows.unflushed, ap length next, length-drop (flush_count ds) (items_sent ds ++ d.does.says), within, length-append (items_sent ds) d.does.says);
         input = grows.input ∙ tells.input ∙ rw (entry.goes_on) refl;
         halt = grows.halt ∙ tells.halt ∙ rw (entry.unhalted) refl;
@@ -53,14 +56,14 @@ tells_grown ds d states after items items' tells queue entry grows calls =
 module _ {H : Type 0} (now : H → Memo) (can_act : H → Type 0) (rule : HandlerRule) (set : Setting) where
   pub stands_one : (ds : List Deed) (d : Deed) (c : ℕ) (t : Touch) (states after : CallStates) (handlers later : List (Option H)) (items items' : List Item)
       → StandsFor now can_act rule set ds states handlers items → IsCallEntry d → TouchesOne d c t
-      → ChangesAt c (Turns (length ds) t) states.calls.items after.calls.items → c < length states.calls.items → GrowsBy d states after items items'
+      → ChangesAt c (Turns (length ds) t) states.calls.items after.calls.items → c < length states.calls.items → GrowsBy d states after items items' → after.newest ≡ states.newest
       → ((k : ℕ) → k ≢ c → is_replace_of k d.entry.kind ≡ false)
       → length later ≡ length handlers → ((k : ℕ) → k ≢ c → slice_get later k ≡ slice_get handlers k)
       → (TellsCalls (d ∷ ds) after.calls.items → (slot : Option H) → slice_get later c ≡ Some slot → Keeps now can_act rule set (d ∷ ds) c (runner_of (d ∷ ds) c) slot)
       → StandsFor now can_act rule set (d ∷ ds) after later items'
-  stands_one ds d c t states after handlers later items items' stands entry one changes there grows unreplaced many others here =
+  stands_one ds d c t states after handlers later items items' stands entry one changes there grows newest unreplaced many others here =
       let calls = tells_one ds d states.calls.items after.calls.items c t stands.tells.calls one changes there in
-      let grown = tells_grown ds d states after items items' stands.tells stands.queue entry grows calls in
+      let grown = tells_grown ds d states after items items' stands.tells stands.queue entry grows calls (newest_kept ds d states.newest after.newest stands.tells.newest one.unopened newest) in
       record {
         tells = grown.0;
         keeps = keeps_one now can_act rule set ds d states.calls.items after.calls.items c t handlers later stands.tells.calls calls one changes unreplaced stands.keeps many others (here calls);
@@ -70,11 +73,11 @@ module _ {H : Type 0} (now : H → Memo) (can_act : H → Type 0) (rule : Handle
   -- where the entry neither begins nor ends a run of the call, nor replaces its handler
   pub stands_calm_one : (ds : List Deed) (d : Deed) (c : ℕ) (t : Touch) (states after : CallStates) (handlers : List (Option H)) (items items' : List Item)
       → StandsFor now can_act rule set ds states handlers items → IsCallEntry d → TouchesOne d c t
-      → ChangesAt c (Turns (length ds) t) states.calls.items after.calls.items → c < length states.calls.items → GrowsBy d states after items items'
+      → ChangesAt c (Turns (length ds) t) states.calls.items after.calls.items → c < length states.calls.items → GrowsBy d states after items items' → after.newest ≡ states.newest
       → ((k : ℕ) → is_replace_of k d.entry.kind ≡ false) → ((r : CallState) → slice_get states.calls.items c ≡ Some r → IsCalm t r)
       → StandsFor now can_act rule set (d ∷ ds) after handlers items'
-  stands_calm_one ds d c t states after handlers items items' stands entry one changes there grows unreplaced calm =
-      stands_one ds d c t states after handlers handlers items items' stands entry one changes there grows (λ k apart. unreplaced k) refl (λ k apart. refl)
+  stands_calm_one ds d c t states after handlers items items' stands entry one changes there grows newest unreplaced calm =
+      stands_one ds d c t states after handlers handlers items items' stands entry one changes there grows newest (λ k apart. unreplaced k) refl (λ k apart. refl)
       (λ calls slot is.
       let row = get_some states.calls.items c there in
       let it = get_some after.calls.items c (omega (arith, there, changes.many)) in
@@ -84,11 +87,11 @@ module _ {H : Type 0} (now : H → Memo) (can_act : H → Type 0) (rule : Handle
   -- an entry that touches no call
   pub stands_none : (ds : List Deed) (d : Deed) (states after : CallStates) (handlers : List (Option H)) (items items' : List Item)
       → StandsFor now can_act rule set ds states handlers items → IsCallEntry d → ((c : ℕ) → Touches d c untouched) → d.does.opens ≡ None
-      → after.calls.items ≡ states.calls.items → GrowsBy d states after items items' → ((k : ℕ) → is_replace_of k d.entry.kind ≡ false)
+      → after.calls.items ≡ states.calls.items → GrowsBy d states after items items' → after.newest ≡ states.newest → ((k : ℕ) → is_replace_of k d.entry.kind ≡ false)
       → StandsFor now can_act rule set (d ∷ ds) after handlers items'
-  stands_none ds d states after handlers items items' stands entry none opens same grows unreplaced =
+  stands_none ds d states after handlers items items' stands entry none opens same grows newest unreplaced =
       let calls : TellsCalls (d ∷ ds) states.calls.items = tells_calm ds d states.calls.items stands.tells.calls none opens in
-      let grown = tells_grown ds d states after items items' stands.tells stands.queue entry grows (subst (TellsCalls (d ∷ ds)) (sym same) calls) in
+      let grown = tells_grown ds d states after items items' stands.tells stands.queue entry grows (subst (TellsCalls (d ∷ ds)) (sym same) calls) (newest_kept ds d states.newest after.newest stands.tells.newest opens newest) in
       record {
         tells = grown.0;
         keeps = keeps_all_calm now can_act rule set ds d states.calls.items states.calls.items handlers stands.tells.calls calls refl

@@ -110,6 +110,7 @@ module _ {H : Type 0} (now : H → Memo) (can_act : H → Type 0) (rule : Handle
       record {
         tells = record {
           calls = calls;
+          newest = stands.tells.newest;
           items = stands.tells.items ∙ ap length (sym sent);
           input = stands.tells.input;
           halt = refl;

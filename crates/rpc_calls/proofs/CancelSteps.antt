@@ -29,6 +29,7 @@ use Rattle.rpc_journal.proofs.LegalLemmas.{keeps_legal}
 use Rattle.rpc_journal.proofs.PlaceLemmas.{get_some}
 use Rattle.rpc_journal.proofs.TableLemmas.{ended_is, opening_is, some_same}
 use Rattle.rpc_calls.specs.CancelItems.{cancel_items}
+use Rattle.rpc_calls.specs.Marks.{one_if}
 use Rattle.rpc_calls.specs.Handlers.{is_over, Keeps}
 use Rattle.rpc_calls.specs.Places.{ChangesAt}
 use Rattle.rpc_calls.specs.Room.{uncancelled, running, HasRoom, HasPlaces}
@@ -38,7 +39,7 @@ use Rattle.rpc_calls.proofs.CallSteps.{IsCallEntry, stands_one}
 use Rattle.rpc_calls.proofs.CalmSteps.{table_after, unopened}
 use Rattle.rpc_calls.proofs.FinishSteps.{touches_one}
 use Rattle.rpc_calls.proofs.OneStep.{counts_one, places_one}
-use Rattle.rpc_calls.proofs.PlaceChanges.{one_if, count-has}
+use Rattle.rpc_calls.proofs.PlaceChanges.{count-has}
 use Rattle.rpc_calls.proofs.StepLemmas.{keeps_calm, over_is}
 
 -- what a Cancel adds
@@ -58,6 +59,7 @@ two_items c name false false = omega arith
 pub record CancelsCall {H : Type 0} (c : ℕ) (runs : Bool) (states after : CallStates) (handlers later : List (Option H)) (items items' : List Item) : Type 0 where
   pub says : (r : CallState) → slice_get states.calls.items c ≡ Some r → items' ≡ items ++ cancel_items c r.name (is_some r.status) (is_some r.run)
   pub change : (at : ℕ) → ChangesAt c (λ r x. Turns at (cancelling r.status) r x) states.calls.items after.calls.items
+  pub newest : after.newest ≡ states.newest
   pub unflushed : after.unflushed ≡ length items'
   pub input : after.input_ended ≡ states.input_ended
   pub halt : after.halted ≡ states.halted
@@ -110,6 +112,7 @@ module _ {H : Type 0} (now : H → Memo) (can_act : H → Type 0) (rule : Handle
         input = cancels.input;
         halt = cancels.halt;
       })
+      cancels.newest
       (λ k apart. refl) cancels.many cancels.others
       (λ calls slot' slot_is.
       let slot = get_some handlers c (omega (arith, there, stands.tells.calls.many, stands.keeps.many)) in

@@ -1,5 +1,5 @@
 -- A table over the end of the input.
-use Rattle.std.proofs.Common.{◌≡◌, ℕ, ◌+◌, ◌≤◌, true, false, not, List, ◌∷◌, length, drop, Option, is_some, ap, sym, ◌∙◌, subst, arith}
+use Rattle.std.proofs.Common.{◌≡◌, ℕ, ◌+◌, ◌≤◌, true, false, not, List, [], ◌∷◌, length, drop, Option, is_some, refl, ap, sym, ◌∙◌, subst, arith, length-append}
 use Rattle.std.proofs.lemmas.Bool.{true≢false}
 use Rattle.std.proofs.lemmas.List.{append-nil}
 use Rattle.rpc_handlers.specs.declared.event.Memo.{Memo}
@@ -17,22 +17,42 @@ use Rattle.rpc_journal.specs.Effect.{Deed}
 use Rattle.rpc_journal.specs.History.{history, tell, entry_by, adding}
 use Rattle.rpc_journal.specs.Items.{flush_count, items_sent}
 use Rattle.rpc_journal.specs.Recorded.{Recorded}
-use Rattle.rpc_journal.specs.Tells.{Tells}
+use Rattle.rpc_journal.specs.Tells.{IsToldAll, Tells}
+use Rattle.rpc_journal.specs.Touch.{IsTouched, telling}
+use Rattle.rpc_journal.proofs.NewestLemmas.{newest_kept}
+use Rattle.rpc_journal.proofs.NoticeLemmas.{step_told}
+use Rattle.rpc_journal.proofs.VerdictLemmas.{history_length}
 use Rattle.rpc_journal.proofs.LegalLemmas.{keeps_legal}
 use Rattle.rpc_calls.specs.Room.{uncancelled, running, HasRoom}
+use Rattle.rpc_calls.specs.Places.{ChangesAll}
 use Rattle.rpc_calls.specs.TableHolds.{IsTable}
+use Rattle.rpc_calls.specs.Turns.{IsTold}
 use Rattle.rpc_calls.proofs.CalmSteps.{table_after}
 use Rattle.rpc_calls.proofs.NoticeSteps.{notice_deed, notice_keeps, same_counts}
 
 module _ {H : Type 0} (now : H → Memo) (can_act : H → Type 0) (rule : HandlerRule) (set : Setting) where
-  pub table_ended : (recorded after : Recorded) (seat : ℕ) (states later : CallStates) (handlers : List (Option H)) (items : List Item) (capacity : ℕ)
+  pub table_ended : (recorded after : Recorded) (seat at : ℕ) (states later : CallStates) (handlers : List (Option H)) (items : List Item) (capacity : ℕ)
       → IsTable now can_act rule set recorded states handlers items capacity → IsInputOpen set recorded.entries seat
-      → Tells (tell set (history set recorded.entries) (entry_by seat EndIn)) later
+      → at ≡ length recorded.entries → ChangesAll (IsTold at InputEnded) states.calls.items later.calls.items
+      → later.unflushed ≡ states.unflushed → later.input_ended ≡ true → later.halted ≡ states.halted → later.newest ≡ states.newest
       → after.entries ≡ adding recorded.entries seat EndIn → after.spare + 1 ≡ recorded.spare
       → IsTable now can_act rule set after later handlers items capacity
-  table_ended recorded after seat states later handlers items capacity is input tells adds spent =
+  table_ended recorded after seat at states later handlers items capacity is input place changes unflushed shut kept newest adds spent =
       let ds : List Deed = history set recorded.entries in
       let old = is.stands.tells.calls in
+      let told : IsToldAll (length ds) InputEnded states.calls.items later.calls.items =
+      record {
+        many = changes.many;
+        each = λ k r x was later_is. subst (λ n. IsTouched n (telling InputEnded r) r x) (place ∙ sym (history_length set recorded.entries)) (changes.each k r x was later_is).is;
+      } in
+      let tells : Tells (tell set ds (entry_by seat EndIn)) later =
+      record {
+        calls = step_told ds seat EndIn InputEnded states.calls.items later.calls.items (record { start = λ k. refl; finish = λ k. refl; cancel = λ k. refl }) old told;
+        newest = newest_kept ds (notice_deed ds seat InputEnded) states.newest later.newest is.stands.tells.newest refl newest;
+        items = omega (arith, unflushed, is.stands.tells.items, length-append (items_sent ds) []);
+        input = shut;
+        halt = kept ∙ is.stands.tells.halt;
+      } in
       let sent : items_sent (notice_deed ds seat InputEnded ∷ ds) ≡ items_sent ds = append-nil (items_sent ds) in
       let many : length later.calls.items ≡ length states.calls.items =
       tells.calls.many ∙ ap length (append-nil (calls ds)) ∙ sym old.many in
@@ -43,7 +63,6 @@ module _ {H : Type 0} (now : H → Memo) (can_act : H → Type 0) (rule : Handle
       same_counts (λ r. is_some r.run) states.calls.items later.calls.items many
       (λ k x y x_is y_is. ap is_some (sym (tells.calls.each k y y_is).run ∙ (old.each k x x_is).run)) in
       let open_now : states.input_ended ≡ false = is.stands.tells.input ∙ input.not_ended in
-      let shut : later.input_ended ≡ true = tells.input in
       let halted : is_some later.halted ≡ is_some states.halted = ap is_some (tells.halt ∙ sym is.stands.tells.halt) in
       let did : EndInDid seat recorded.entries after.entries = record { adds = adds } in
       let laws : KeepsLegal H (Unit {0}) = keeps_legal in

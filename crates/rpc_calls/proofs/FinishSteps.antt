@@ -34,6 +34,7 @@ use Rattle.rpc_journal.proofs.PlaceLemmas.{get_some}
 use Rattle.rpc_journal.proofs.TableLemmas.{opening_is}
 use Rattle.rpc_journal.proofs.TableSteps as steps
 use Rattle.rpc_calls.specs.AnswerItems.{answer_items, end_items, end_given}
+use Rattle.rpc_calls.specs.Marks.{one_if}
 use Rattle.rpc_calls.specs.Handlers.{is_over, over_state, Keeps}
 use Rattle.rpc_calls.specs.Places.{ChangesAt}
 use Rattle.rpc_calls.specs.Room.{uncancelled, running, HasRoom, HasPlaces}
@@ -41,7 +42,7 @@ use Rattle.rpc_calls.specs.TableHolds.{HasAllRoom}
 use Rattle.rpc_calls.specs.Turns.{Turns}
 use Rattle.rpc_calls.proofs.KeepLemmas.{keeps_returned, keeps_newer}
 use Rattle.rpc_calls.proofs.OneStep.{TouchesOne, counts_one, places_one}
-use Rattle.rpc_calls.proofs.PlaceChanges.{one_if, count-has}
+use Rattle.rpc_calls.proofs.PlaceChanges.{count-has}
 use Rattle.rpc_calls.proofs.StateLemmas.{FinishesHandler}
 use Rattle.rpc_calls.proofs.StepLemmas.{over_is}
 

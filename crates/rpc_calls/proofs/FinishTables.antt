@@ -33,6 +33,7 @@ use Rattle.rpc_journal.specs.Touch as touch
 use Rattle.rpc_journal.proofs.FinishLemmas.{finish_so, finish_touches}
 use Rattle.rpc_journal.proofs.KnownLemmas.{run_known}
 use Rattle.rpc_journal.proofs.LegalLemmas.{keeps_legal}
+use Rattle.rpc_journal.proofs.NewestLemmas.{newest_kept}
 use Rattle.rpc_journal.proofs.PlaceLemmas.{get_some}
 use Rattle.rpc_journal.proofs.Push.{history-push}
 use Rattle.rpc_journal.proofs.TableLemmas.{some_same}
@@ -59,6 +60,7 @@ finish_one set ds seat c a r tells role =
 pub record EndsRun (c : ℕ) (outs : List Out) (end : Option End) (states after : CallStates) (items items' : List Item) : Type 0 where
   pub says : (r : CallState) → slice_get states.calls.items c ≡ Some r → items' ≡ items ++ answer_items c r.name r.method.kind r.cancelled (hears_answer r) outs end
   pub change : (at : ℕ) (r : CallState) → slice_get states.calls.items c ≡ Some r → ChangesAt c (Turns at (finishing (end_given r.cancelled (hears_answer r) end))) states.calls.items after.calls.items
+  pub newest : after.newest ≡ states.newest
   pub unflushed : after.unflushed ≡ length items'
   pub input : after.input_ended ≡ states.input_ended
   pub halt : after.halted ≡ states.halted
@@ -105,6 +107,7 @@ module _ {H : Type 0} (now : H → Memo) (can_act : H → Type 0) (rule : Handle
       record {
         tells = record {
           calls = calls;
+          newest = newest_kept ds d states.newest after.newest stands.tells.newest one.unopened ends.newest;
           items = omega (arith, ends.unflushed, ap length queue, length-drop (flush_count ds) (items_sent (d ∷ ds)), within, more);
           input = ends.input ∙ stands.tells.input;
           halt = ends.halt ∙ stands.tells.halt;

@@ -1,5 +1,5 @@
 -- What a table stands for, over a Flush.
-use Rattle.std.proofs.Common.{◌≡◌, ℕ, zero, suc, ◌+◌, ◌-◌, true, false, List, [], ◌∷◌, length, drop, slice_get, Option, Some, None, is_some, refl, ap, sym, ◌∙◌, subst, inl, inr, arith, add-one, length-drop}
+use Rattle.std.proofs.Common.{◌≡◌, ℕ, zero, suc, ◌+◌, true, false, List, [], ◌∷◌, length, drop, slice_get, Option, Some, None, is_some, refl, ap, sym, ◌∙◌, subst, inl, inr, arith, add-one, length-drop}
 use Rattle.std.proofs.lemmas.Bool.{false≢true}
 use Rattle.std.proofs.lemmas.List.{append-nil}
 use Rattle.rpc_handlers.specs.declared.event.Memo.{Memo}
@@ -68,6 +68,7 @@ module _ {H : Type 0} (now : H → Memo) (can_act : H → Type 0) (rule : Handle
       record {
         tells = record {
           calls = calls;
+          newest = stands.tells.newest;
           items = omega (arith, stands.tells.items, less, ap length sent);
           input = stands.tells.input;
           halt = stands.tells.halt;
@@ -125,16 +126,18 @@ module _ {H : Type 0} (now : H → Memo) (can_act : H → Type 0) (rule : Handle
       subst (λ xs. IsTable now can_act rule set recorded states handlers xs capacity) front is
 
   -- the front item is flushed
-  pub flushes_front : (recorded after : Recorded) (seat : ℕ) (states : CallStates) (handlers : List (Option H)) (items : List Item) (item : Item) (rest : List Item) (capacity capacity' : ℕ)
+  pub flushes_front : (recorded after : Recorded) (seat : ℕ) (states later : CallStates) (handlers : List (Option H)) (items : List Item) (item : Item) (rest : List Item) (left capacity capacity' : ℕ)
       → IsTable now can_act rule set recorded states handlers items capacity → items ≡ item ∷ rest → is_some states.halted ≡ false → seat ≡ 1
+      → later ≡ record states { unflushed = left } → left ≡ length rest
       → capacity' ≡ capacity → after.entries ≡ adding recorded.entries seat Flush → after.spare + 1 ≡ recorded.spare
-      → IsTable now can_act rule set after (record states { unflushed = states.unflushed - 1 }) handlers rest capacity'
+      → IsTable now can_act rule set after later handlers rest capacity'
       × FlushDid set seat (Some item) recorded.entries after.entries
-  flushes_front recorded after seat states handlers items item rest capacity capacity' is front unset by same adds spent =
+  flushes_front recorded after seat states later handlers items item rest left capacity capacity' is front unset by counted many same adds spent =
       let table = front_table recorded states handlers items item rest capacity is front in
       let one : suc (length rest) ≡ states.unflushed = waits_one recorded states handlers (item ∷ rest) capacity table in
-      let less : states.unflushed - 1 + 1 ≡ states.unflushed = omega (arith, one) in (
-        table_flushed recorded after seat states handlers item rest (states.unflushed - 1) capacity capacity' table unset by less same adds spent,
+      let less : left + 1 ≡ states.unflushed = omega (arith, one, many) in (
+        subst (λ t. IsTable now can_act rule set after t handlers rest capacity') (sym counted)
+            (table_flushed recorded after seat states handlers item rest left capacity capacity' table unset by less same adds spent),
         flush_did recorded after seat states handlers item rest capacity table unset adds,
       )
 

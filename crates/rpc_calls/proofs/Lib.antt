@@ -1,6 +1,9 @@
 pub mod StateLemmas
 pub mod KeepLemmas
 pub mod PlaceChanges
+pub mod ListedLemmas
+pub mod IndexSteps
+pub mod ChoiceSteps
 pub mod StepLemmas
 pub mod CalmSteps
 pub mod FlushSteps

@@ -18,9 +18,10 @@ use Rattle.rpc_journal.specs.Marks.{is_empty}
 use Rattle.rpc_journal.specs.Queues.{waiting_of, puts_since, starts_since}
 use Rattle.rpc_journal.specs.Touch.{deed_by, told_event}
 use Rattle.rpc_journal.proofs.NoticeLemmas.{notice_effect, notice_test}
+use Rattle.rpc_calls.specs.Marks.{one_if}
 use Rattle.rpc_calls.specs.Handlers.{is_over, Keeps, KeepsAll}
 use Rattle.rpc_calls.proofs.KeepLemmas.{keeps_left}
-use Rattle.rpc_calls.proofs.PlaceChanges.{one_if, count-cons}
+use Rattle.rpc_calls.proofs.PlaceChanges.{count-cons}
 use Rattle.rpc_calls.proofs.StateLemmas.{LeavesHandler}
 
 -- no event for a call that doesn't pass

@@ -12,13 +12,14 @@ use Rattle.rpc_journal.specs.Touch.{Touch, Touches, untouched}
 use Rattle.rpc_journal.proofs.PlaceLemmas.{get_some}
 use Rattle.rpc_journal.proofs.StepLemmas.{same_or_not, same_at}
 use Rattle.rpc_journal.proofs.TellLemmas.{tells_touched, is_untouched, still_silent}
+use Rattle.rpc_calls.specs.Marks.{one_if}
 use Rattle.rpc_calls.specs.Handlers.{Keeps, KeepsAll}
 use Rattle.rpc_calls.specs.Places.{ChangesAt}
 use Rattle.rpc_calls.specs.Room.{uncancelled, running, HasPlaces}
 use Rattle.rpc_calls.specs.Turns.{Turns}
 use Rattle.std.specs.VecDeque.{deque_capacity}
 use Rattle.rpc_calls.proofs.CalmSteps.{untouching, unopened}
-use Rattle.rpc_calls.proofs.PlaceChanges.{one_if, count-change}
+use Rattle.rpc_calls.proofs.PlaceChanges.{count-change}
 use Rattle.rpc_calls.proofs.StepLemmas.{same_count, keeps_calm}
 
 -- the deed opens no call, and touches none but c

@@ -15,6 +15,7 @@ use Rattle.rpc_journal.specs.declared.setting.Setting.{Setting}
 use Rattle.rpc_journal.specs.Calls.{calls, call_count, call_at, runner_of}
 use Rattle.rpc_journal.specs.Effect.{Effect, Opening, Deed}
 use Rattle.rpc_journal.specs.States.{opens_call, state_of}
+use Rattle.rpc_journal.specs.Newest.{AreNewest}
 use Rattle.rpc_journal.specs.Tells.{TellsCalls}
 use Rattle.rpc_journal.specs.Touch.{Touches, IsServed, untouched, putting, deed_by}
 use Rattle.rpc_journal.proofs.PlaceLemmas.{get_front, get_last, get_some, below_or_not}
@@ -22,13 +23,14 @@ use Rattle.rpc_journal.proofs.RoomLemmas.{served_tells}
 use Rattle.rpc_journal.proofs.StepLemmas.{one_opens, same_at}
 use Rattle.rpc_journal.proofs.TableLemmas.{some_same}
 use Rattle.rpc_journal.proofs.TellLemmas.{tells_touched}
+use Rattle.rpc_calls.specs.Marks.{one_if}
 use Rattle.rpc_calls.specs.Handlers.{Keeps}
 use Rattle.rpc_calls.specs.Room.{uncancelled, running, items_owed, HasPlaces}
 use Rattle.rpc_calls.specs.TableHolds.{StandsFor, HasAllRoom}
 use Rattle.rpc_calls.proofs.CalmSteps.{TouchesCalmly}
 use Rattle.rpc_calls.proofs.CallSteps.{GrowsBy, tells_grown}
 use Rattle.rpc_calls.proofs.ArriveSteps.{arrive_entry}
-use Rattle.rpc_calls.proofs.PlaceChanges.{one_if, count-push}
+use Rattle.rpc_calls.proofs.PlaceChanges.{count-push}
 use Rattle.rpc_calls.proofs.StepLemmas.{keeps_calm}
 
 abbrev pub opening : Packet → MethodRef → Opening
@@ -79,12 +81,12 @@ module _ {H : Type 0} (now : H → Memo) (can_act : H → Type 0) (rule : Handle
 
   pub stands_opened : (ds : List Deed) (seat : ℕ) (p : Packet) (m : MethodRef) (e : Effect) (states after : CallStates) (mid : List CallState) (x : CallState) (h : H) (handlers : List (Option H)) (items items' : List Item)
       → StandsFor now can_act rule set ds states handlers items → Opens ds (deed_by seat (Arrive p) e) p m states.calls.items mid x
-      → can_act h → now h ≡ rule.first set.seed m → after.calls.items ≡ mid ++ x ∷ [] → GrowsBy (deed_by seat (Arrive p) e) states after items items'
+      → can_act h → now h ≡ rule.first set.seed m → after.calls.items ≡ mid ++ x ∷ [] → GrowsBy (deed_by seat (Arrive p) e) states after items items' → AreNewest (deed_by seat (Arrive p) e ∷ ds) after.newest
       → StandsFor now can_act rule set (deed_by seat (Arrive p) e ∷ ds) after (handlers ++ Some h ∷ []) items'
-  stands_opened ds seat p m e states after mid x h handlers items items' stands o able first is grows =
+  stands_opened ds seat p m e states after mid x h handlers items items' stands o able first is grows newest =
       let d : Deed = deed_by seat (Arrive p) e in
       let calls' : TellsCalls (d ∷ ds) (mid ++ x ∷ []) = opened_calls ds d p m states.calls.items mid x stands.tells.calls o in
-      let grown = tells_grown ds d states after items items' stands.tells stands.queue (arrive_entry seat p e) grows (subst (TellsCalls (d ∷ ds)) (sym is) calls') in
+      let grown = tells_grown ds d states after items items' stands.tells stands.queue (arrive_entry seat p e) grows (subst (TellsCalls (d ∷ ds)) (sym is) calls') newest in
       let more : call_count (d ∷ ds) ≡ call_count ds + 1 =
       ap (λ q. length (calls ds ++ option_to_list q)) o.opens ∙ length-append (calls ds) (opening p m ∷ []) in
       record {

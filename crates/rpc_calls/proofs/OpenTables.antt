@@ -6,6 +6,7 @@ use Rattle.std.proofs.lemmas.Option.{slice_get_within}
 use Rattle.std.specs.VecDeque.{deque_capacity}
 use Rattle.rpc_ids.specs.declared.method.MethodRef.{MethodRef}
 use Rattle.rpc_ids.specs.declared.status.Status.TheVariants.{Cancelled}
+use Rattle.rpc_packet.specs.declared.call_name.CallName.{CallName}
 use Rattle.rpc_packet.specs.declared.owned.Packet.{Packet}
 use Rattle.rpc_handlers.specs.declared.event.Memo.{Memo}
 use Rattle.rpc_handlers.specs.HandlerRule.{HandlerRule}
@@ -18,26 +19,29 @@ use Rattle.rpc_journal.specs.Calls.{call_count}
 use Rattle.rpc_journal.specs.Effect.{Deed}
 use Rattle.rpc_journal.specs.History.{history, adding}
 use Rattle.rpc_journal.specs.Items.{flush_count}
+use Rattle.rpc_journal.specs.Newest.{IsNamed, IsSameNewest, Numbers}
 use Rattle.rpc_journal.specs.Recorded.{Recorded}
 use Rattle.rpc_journal.specs.Rows.{both, ends_and_clears, opened, opens_served}
 use Rattle.rpc_journal.specs.Tells.{TellsCalls}
 use Rattle.rpc_journal.specs.Touch.{IsServed, closing, deed_by}
 use Rattle.rpc_journal.proofs.DeedLemmas.{open_touches, anew_touches}
+use Rattle.rpc_journal.proofs.NewestLemmas.{newest_opened}
 use Rattle.rpc_journal.proofs.PlaceLemmas.{get_some}
 use Rattle.rpc_journal.proofs.StepLemmas.{same_or_not}
 use Rattle.rpc_journal.proofs.TableLemmas.{some_same}
 use Rattle.rpc_journal.proofs.VerdictLemmas.{history_length}
 use Rattle.rpc_calls.specs.Arrivals.{CanTake, IsLiveCall}
+use Rattle.rpc_calls.specs.Marks.{one_if}
+use Rattle.rpc_calls.specs.Outside.{SameRest}
 use Rattle.rpc_calls.specs.Places.{ChangesAt}
 use Rattle.rpc_calls.specs.Room.{uncancelled, running, items_owed, HasRoom, HasPlaces}
 use Rattle.rpc_calls.specs.TableHolds.{StandsFor, IsTable}
 use Rattle.rpc_calls.specs.Turns.{Turns}
-use Rattle.rpc_calls.proofs.ArriveSteps.{Arrives, table_arrived, live_status}
+use Rattle.rpc_calls.proofs.ArriveSteps.{Arrives, table_arrived, live_status, table_roomier}
 use Rattle.rpc_calls.proofs.CalmSteps.{TouchesCalmly, untouching}
 use Rattle.rpc_calls.proofs.FlushSteps.{waits_one}
 use Rattle.rpc_calls.proofs.OneStep.{counts_one, places_one}
-use Rattle.rpc_calls.proofs.OpenSteps.{Opens, stands_opened, room_opened}
-use Rattle.rpc_calls.proofs.PlaceChanges.{one_if}
+use Rattle.rpc_calls.proofs.OpenSteps.{Opens, opening, stands_opened, room_opened}
 
 -- the calls of an opening that touches no other call
 open_opens : (ds : List Deed) (seat : ℕ) (p : Packet) (m : MethodRef) (states : List CallState) (x : CallState) → TellsCalls ds states → IsServed (length ds) p m x
@@ -91,46 +95,60 @@ anew_opens ds seat c p m states mid x tells served below live changes = record {
         (untouching ds _ k r
         (anew_touches seat (call_count ds) c k p m false false (ne_eqb c k (λ same. apart (sym same))) (ne_eqb (call_count ds) k (λ same. absurd (omega (arith, same, within)))) (λ h. absurd (false≢true h))))
 
+-- the newest call of a name and its number, in other words
+named_so : (name other : CallName) (n k : ℕ) (before after : Numbers) → other ≡ name → k ≡ n → IsNamed other k before after → IsNamed name n before after
+named_so name other n k before after same many named = subst (λ x. IsNamed name x before after) many (subst (λ x. IsNamed x k before after) same named)
+
 module _ {H : Type 0} (now : H → Memo) (can_act : H → Type 0) (rule : HandlerRule) (set : Setting) where
   -- a table whose calls stand elsewhere in memory
-  pub table_recalled : (recorded : Recorded) (states moved : CallStates) (handlers : List (Option H)) (items : List Item) (capacity : ℕ)
+  table_recalled : (recorded : Recorded) (states moved : CallStates) (handlers : List (Option H)) (items : List Item) (capacity : ℕ)
       → IsTable now can_act rule set recorded states handlers items capacity → moved.calls.items ≡ states.calls.items
-      → moved.unflushed ≡ states.unflushed → moved.input_ended ≡ states.input_ended → moved.halted ≡ states.halted
-      → IsTable now can_act rule set recorded moved handlers items capacity
-  table_recalled recorded states moved handlers items capacity is same unflushed input halt = record {
+      → IsSameNewest states.newest moved.newest → SameRest states moved → IsTable now can_act rule set recorded moved handlers items capacity
+  table_recalled recorded states moved handlers items capacity is same newest rest = record {
     legal = is.legal;
     server = is.server;
     stands = record {
       tells = record {
         calls = subst (TellsCalls (history set recorded.entries)) (sym same) is.stands.tells.calls;
-        items = ap (λ n. n + flush_count (history set recorded.entries)) unflushed ∙ is.stands.tells.items;
-        input = input ∙ is.stands.tells.input;
-        halt = halt ∙ is.stands.tells.halt;
+        newest = λ name. newest name ∙ is.stands.tells.newest name;
+        items = ap (λ n. n + flush_count (history set recorded.entries)) rest.unflushed ∙ is.stands.tells.items;
+        input = rest.input ∙ is.stands.tells.input;
+        halt = rest.halt ∙ is.stands.tells.halt;
       };
       keeps = is.stands.keeps;
       queue = is.stands.queue;
     };
     room = record {
       room = subst (λ cs. HasRoom cs (length items) moved.input_ended (is_some moved.halted) recorded.spare capacity) (sym same)
-          (subst (λ b. HasRoom states.calls.items (length items) b (is_some moved.halted) recorded.spare capacity) (sym input)
-          (subst (λ o. HasRoom states.calls.items (length items) states.input_ended (is_some o) recorded.spare capacity) (sym halt) is.room.room));
-      places = subst (λ cs. HasPlaces cs moved.input_ended) (sym same) (subst (λ b. HasPlaces states.calls.items b) (sym input) is.room.places);
+          (subst (λ b. HasRoom states.calls.items (length items) b (is_some moved.halted) recorded.spare capacity) (sym rest.input)
+          (subst (λ o. HasRoom states.calls.items (length items) states.input_ended (is_some o) recorded.spare capacity) (sym rest.halt) is.room.room));
+      places = subst (λ cs. HasPlaces cs moved.input_ended) (sym same) (subst (λ b. HasPlaces states.calls.items b) (sym rest.input) is.room.places);
       few = subst (λ cs. length cs < 2 ^ 32) (sym same) is.room.few;
     };
   }
+
+  -- a table with more room for its calls, items and entries
+  pub table_kept : (recorded roomier : Recorded) (states moved : CallStates) (handlers held : List (Option H)) (items items' : List Item) (capacity capacity' : ℕ)
+      → IsTable now can_act rule set recorded states handlers items capacity → held ≡ handlers → moved.calls.items ≡ states.calls.items
+      → IsSameNewest states.newest moved.newest → SameRest states moved → roomier.entries ≡ recorded.entries → recorded.spare ≤ roomier.spare → items' ≡ items → capacity ≤ capacity'
+      → IsTable now can_act rule set roomier moved held items' capacity'
+  table_kept recorded roomier states moved handlers held items items' capacity capacity' is kept same newest rest entries spare unmoved wide =
+      subst (λ hs. IsTable now can_act rule set roomier moved hs items' capacity') (sym kept)
+      (table_roomier now can_act rule set recorded roomier moved handlers items items' capacity capacity'
+      (table_recalled recorded states moved handlers items capacity is same newest rest) entries spare unmoved wide)
 
   pub arrives_opened : (recorded after : Recorded) (seat at : ℕ) (p : Packet) (m : MethodRef) (x : CallState) (h : H) (states later : CallStates) (handlers left : List (Option H)) (items items' : List Item) (capacity capacity' spare : ℕ)
       → IsTable now can_act rule set recorded states handlers items capacity
       → CanTake set recorded.entries seat p (opened (call_count (history set recorded.entries)) (opens_served p m (call_count (history set recorded.entries))))
       → at ≡ length recorded.entries → IsServed at p m x → length x.waiting.items < deque_capacity x.waiting → length states.calls.items + 1 < 2 ^ 32
       → can_act h → now h ≡ rule.first set.seed m
-      → later.calls.items ≡ states.calls.items ++ x ∷ [] → later.unflushed ≡ states.unflushed → later.input_ended ≡ states.input_ended → later.halted ≡ states.halted
+      → later.calls.items ≡ states.calls.items ++ x ∷ [] → IsNamed x.name (length states.calls.items) states.newest later.newest → SameRest states later
       → left ≡ handlers ++ Some h ∷ [] → items' ≡ items
       → after.entries ≡ adding recorded.entries seat (Arrive p) → after.spare + 1 ≡ spare
       → length items + items_owed states.calls.items + 2 ≤ capacity'
       → length items + items_owed states.calls.items + 2 + (uncancelled states.calls.items + running states.calls.items + 2) + 2 ≤ spare
       → Arrives now can_act rule set recorded after seat p (opened (call_count (history set recorded.entries)) (opens_served p m (call_count (history set recorded.entries)))).answer later left items' capacity'
-  arrives_opened recorded after seat at p m x h states later handlers left items items' capacity capacity' spare is can place served own few able first grown unflushed input halt kept same adds spent places records =
+  arrives_opened recorded after seat at p m x h states later handlers left items items' capacity capacity' spare is can place served own few able first grown named rest kept same adds spent places records =
       let ds : List Deed = history set recorded.entries in
       let its : IsServed (length ds) p m x = subst (λ k. IsServed k p m x) (place ∙ sym (history_length set recorded.entries)) served in
       table_arrived now can_act rule set recorded after seat p (opened (call_count ds) (opens_served p m (call_count ds))) later left items' capacity' is.legal is.server can adds
@@ -139,12 +157,14 @@ module _ {H : Type 0} (now : H → Memo) (can_act : H → Type 0) (rule : Handle
       (open_opens ds seat p m states.calls.items x is.stands.tells.calls its) able first grown
       (record {
         says = same ∙ sym (append-nil items);
-        unflushed = unflushed ∙ sym (waits_one now can_act rule set recorded states handlers items capacity is) ∙ ap length (sym same);
-        input = input;
-        halt = halt;
-      })))
+        unflushed = rest.unflushed ∙ sym (waits_one now can_act rule set recorded states handlers items capacity is) ∙ ap length (sym same);
+        input = rest.input;
+        halt = rest.halt;
+      })
+      (newest_opened ds (deed_by seat (Arrive p) (opens_served p m (call_count ds))) (opening p m) p.name (call_count ds) states.newest later.newest is.stands.tells.newest refl refl refl
+      (named_so p.name x.name (call_count ds) (length states.calls.items) states.newest later.newest its.name is.stands.tells.calls.many named))))
       (room_opened states later states.calls.items x items items' after.spare capacity' refl refl its.uncancelled its.idle grown same
-      (subst (λ b. HasPlaces states.calls.items b) (sym input) is.room.places) own few places
+      (subst (λ b. HasPlaces states.calls.items b) (sym rest.input) is.room.places) own few places
       (subst (λ k. length items + items_owed states.calls.items + 2 + (uncancelled states.calls.items + running states.calls.items + 2) + 2 ≤ k) (sym spent) records))
 
   pub arrives_anew : (recorded after : Recorded) (seat c at : ℕ) (p : Packet) (m : MethodRef) (x : CallState) (h : H) (states later : CallStates) (mid : List CallState) (handlers left : List (Option H)) (items items' : List Item) (capacity capacity' spare : ℕ)
@@ -153,13 +173,13 @@ module _ {H : Type 0} (now : H → Memo) (can_act : H → Type 0) (rule : Handle
       → IsLiveCall (history set recorded.entries) c
       → at ≡ length recorded.entries → IsServed at p m x → length x.waiting.items < deque_capacity x.waiting → length states.calls.items + 1 < 2 ^ 32
       → can_act h → now h ≡ rule.first set.seed m → ChangesAt c (Turns at (closing Cancelled)) states.calls.items mid
-      → later.calls.items ≡ mid ++ x ∷ [] → later.unflushed ≡ states.unflushed → later.input_ended ≡ states.input_ended → later.halted ≡ states.halted
+      → later.calls.items ≡ mid ++ x ∷ [] → IsNamed x.name (length states.calls.items) states.newest later.newest → SameRest states later
       → left ≡ handlers ++ Some h ∷ [] → items' ≡ items
       → after.entries ≡ adding recorded.entries seat (Arrive p) → after.spare + 1 ≡ spare
       → length items + items_owed states.calls.items + 2 ≤ capacity'
       → length items + items_owed states.calls.items + 2 + (uncancelled states.calls.items + running states.calls.items + 2) + 2 ≤ spare
       → Arrives now can_act rule set recorded after seat p (opened (call_count (history set recorded.entries)) (both (ends_and_clears c Cancelled) (opens_served p m (call_count (history set recorded.entries))))).answer later left items' capacity'
-  arrives_anew recorded after seat c at p m x h states later mid handlers left items items' capacity capacity' spare is can live place served own few able first changes grown unflushed input halt kept same adds spent places records =
+  arrives_anew recorded after seat c at p m x h states later mid handlers left items items' capacity capacity' spare is can live place served own few able first changes grown named rest kept same adds spent places records =
       let ds : List Deed = history set recorded.entries in
       let there : at ≡ length ds = place ∙ sym (history_length set recorded.entries) in
       let its : IsServed (length ds) p m x = subst (λ k. IsServed k p m x) there served in
@@ -178,12 +198,14 @@ module _ {H : Type 0} (now : H → Memo) (can_act : H → Type 0) (rule : Handle
       (λ r r_is. live_status now can_act rule set ds states handlers items c r is.stands live r_is) turned) able first grown
       (record {
         says = same ∙ sym (append-nil items);
-        unflushed = unflushed ∙ sym (waits_one now can_act rule set recorded states handlers items capacity is) ∙ ap length (sym same);
-        input = input;
-        halt = halt;
-      })))
+        unflushed = rest.unflushed ∙ sym (waits_one now can_act rule set recorded states handlers items capacity is) ∙ ap length (sym same);
+        input = rest.input;
+        halt = rest.halt;
+      })
+      (newest_opened ds (deed_by seat (Arrive p) (both (ends_and_clears c Cancelled) (opens_served p m (call_count ds)))) (opening p m) p.name (call_count ds) states.newest later.newest is.stands.tells.newest refl refl refl
+      (named_so p.name x.name (call_count ds) (length states.calls.items) states.newest later.newest its.name is.stands.tells.calls.many named))))
       (room_opened states later mid x items items' after.spare capacity' going busy its.uncancelled its.idle grown same
-      (subst (λ b. HasPlaces mid b) (sym input) free) own (omega (arith, few, changes.many)) places
+      (subst (λ b. HasPlaces mid b) (sym rest.input) free) own (omega (arith, few, changes.many)) places
       (subst (λ k. length items + items_owed states.calls.items + 2 + (uncancelled states.calls.items + running states.calls.items + 2) + 2 ≤ k) (sym spent) records))
     where
       ended : Some Cancelled ≡ None → ⊥

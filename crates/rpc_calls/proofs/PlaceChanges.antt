@@ -6,10 +6,8 @@ use Rattle.std.proofs.lemmas.Bool.{eqb-true}
 use Rattle.std.proofs.lemmas.List.Sums.{sum_by-cons}
 use Rattle.rpc_journal.proofs.StepLemmas.{get_set, get_other, same_or_not}
 use Rattle.rpc_journal.proofs.TableLemmas.{some_same}
+use Rattle.rpc_calls.specs.Marks.{one_if}
 use Rattle.rpc_calls.specs.Places.{ChangesAll, ChangesAt}
-
-abbrev pub one_if : Bool → ℕ
-one_if b = cond b 1 0
 
 pub suc_apart : (k c : ℕ) → suc k ≢ suc c → k ≢ c
 suc_apart k c apart same = apart (ap suc same)

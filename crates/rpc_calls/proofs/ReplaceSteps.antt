@@ -74,6 +74,7 @@ module _ {H : Type 0} (now : H → Memo) (can_act : H → Type 0) (rule : Handle
               input = refl;
               halt = refl;
             })
+            refl
             (λ k apart. ne_eqb c k (λ it. apart (sym it))) many others
             (λ calls slot slot_is.
             subst (λ s. Keeps now can_act rule set (d ∷ ds) c (runner_of (d ∷ ds) c) s) (some_same (Some h) slot (sym put ∙ slot_is))

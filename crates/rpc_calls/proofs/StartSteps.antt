@@ -20,17 +20,19 @@ use Rattle.rpc_journal.specs.Rows.{no_effect}
 use Rattle.rpc_journal.specs.Tells.{TellsOf, TellsCalls}
 use Rattle.rpc_journal.specs.Touch.{starting}
 use Rattle.rpc_journal.proofs.KnownStates.{silent_waits}
+use Rattle.rpc_journal.proofs.NewestLemmas.{newest_kept}
 use Rattle.rpc_journal.proofs.PlaceLemmas.{below_or_not, get_some}
 use Rattle.rpc_journal.proofs.RunLemmas.{ready_idle, ready_uncancelled}
 use Rattle.rpc_journal.proofs.TableLemmas.{some_same}
+use Rattle.rpc_calls.specs.Marks.{one_if}
 use Rattle.rpc_calls.specs.Handlers.{is_over, IsHandlerOf, Keeps}
+use Rattle.rpc_calls.specs.Outside.{SameOutside}
 use Rattle.rpc_calls.specs.Places.{ChangesAt}
 use Rattle.rpc_calls.specs.Room.{uncancelled, running, items_owed, HasPlaces}
 use Rattle.rpc_calls.specs.TableHolds.{StandsFor, HasAllRoom}
 use Rattle.rpc_calls.specs.Turns.{Turns}
 use Rattle.rpc_calls.proofs.KeepLemmas.{keeps_started, has_handler}
 use Rattle.rpc_calls.proofs.OneStep.{TouchesOne, tells_one, keeps_one, counts_one, places_one}
-use Rattle.rpc_calls.proofs.PlaceChanges.{one_if}
 use Rattle.rpc_calls.proofs.StateLemmas.{StartsHandler}
 use Rattle.rpc_calls.proofs.StepLemmas.{over_is}
 
@@ -44,12 +46,6 @@ start_touches seat c = record {
   others = λ k apart. record { starts = rw (ne_eqb c k (λ same. apart (sym same))) refl; finishes = refl; cancels = refl; completes = refl; ends = refl; clears = refl; puts = refl; alone = λ h. absurd (false≢true h) };
   unopened = refl;
 }
-
--- all but the calls is as it was
-pub record SameOutside (states after : CallStates) : Type 0 where
-  pub unflushed : after.unflushed ≡ states.unflushed
-  pub input : after.input_ended ≡ states.input_ended
-  pub halt : after.halted ≡ states.halted
 
 -- what a ready call is in a table
 pub record IsReadyRow (r : CallState) : Type 0 where
@@ -121,6 +117,7 @@ module _ {H : Type 0} (now : H → Memo) (can_act : H → Type 0) (rule : Handle
       record {
         tells = record {
           calls = calls;
+          newest = newest_kept ds d states.newest after.newest stands.tells.newest refl same.newest;
           items = omega (arith, stands.tells.items, same.unflushed, ap length sent);
           input = same.input ∙ stands.tells.input;
           halt = same.halt ∙ stands.tells.halt;

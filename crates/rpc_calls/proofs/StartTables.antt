@@ -21,12 +21,13 @@ use Rattle.rpc_journal.specs.Touch.{starting}
 use Rattle.rpc_journal.proofs.Allowed.{Allowed, allow}
 use Rattle.rpc_journal.proofs.PlaceLemmas.{get_some}
 use Rattle.rpc_journal.proofs.Push.{history-push, legal-push}
+use Rattle.rpc_calls.specs.Outside.{SameOutside}
 use Rattle.rpc_calls.specs.Places.{ChangesAt}
 use Rattle.rpc_calls.specs.Room.{uncancelled, running, items_owed}
 use Rattle.rpc_calls.specs.TableHolds.{IsTable}
 use Rattle.rpc_calls.specs.Turns.{Turns}
 use Rattle.rpc_calls.proofs.CalmSteps.{table_after}
-use Rattle.rpc_calls.proofs.StartSteps.{SameOutside, ready_row, ready_there, ready_handler, stands_started, room_started}
+use Rattle.rpc_calls.proofs.StartSteps.{ready_row, ready_there, ready_handler, stands_started, room_started}
 
 start_allowed : (set : Setting) (ds : List Deed) (seat c : ℕ) → is_ready ds c ≡ true → c < call_count ds → Allowed set ds (entry_by seat (Start c))
 start_allowed set ds seat c ready below = record {

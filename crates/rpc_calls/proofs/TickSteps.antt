@@ -22,6 +22,7 @@ use Rattle.rpc_journal.specs.Refusals.{is_full}
 use Rattle.rpc_journal.specs.Tells.{IsToldAll}
 use Rattle.rpc_journal.specs.Touch.{IsTouched, is_told, put_at, putting, telling, told_event, untouched}
 use Rattle.rpc_journal.proofs.LegalLemmas.{keeps_legal}
+use Rattle.rpc_journal.proofs.NewestLemmas.{newest_kept}
 use Rattle.rpc_journal.proofs.NoticeLemmas.{step_told}
 use Rattle.rpc_journal.proofs.PlaceLemmas.{get_some}
 use Rattle.rpc_journal.proofs.TableSteps.{tells_with}
@@ -60,12 +61,12 @@ module _ {H : Type 0} (now : H → Memo) (can_act : H → Type 0) (rule : Handle
   pub table_ticked : (recorded after : Recorded) (seat at time spare : ℕ) (states later : CallStates) (handlers : List (Option H)) (items items' : List Item) (capacity capacity' : ℕ)
       → IsTable now can_act rule set recorded states handlers items capacity → seat ≡ 1 → is_full recorded.entries ≡ false → HaveTwoPlaces states.calls.items
       → at ≡ length recorded.entries → ChangesAll (IsTold at (Time time)) states.calls.items later.calls.items
-      → later.unflushed ≡ states.unflushed → later.input_ended ≡ states.input_ended → later.halted ≡ states.halted → items' ≡ items
+      → later.unflushed ≡ states.unflushed → later.input_ended ≡ states.input_ended → later.halted ≡ states.halted → later.newest ≡ states.newest → items' ≡ items
       → after.entries ≡ adding recorded.entries seat (Tick time) → after.spare + 1 ≡ spare
       → length items + items_owed states.calls.items + 0 ≤ capacity'
       → length items + items_owed states.calls.items + 0 + (uncancelled states.calls.items + running states.calls.items + 2) + 1 ≤ spare
       → IsTable now can_act rule set after later handlers items' capacity'
-  table_ticked recorded after seat at time spare states later handlers items items' capacity capacity' is judged unfilled free place changes unflushed input halt same adds spent places records =
+  table_ticked recorded after seat at time spare states later handlers items items' capacity capacity' is judged unfilled free place changes unflushed input halt newest same adds spent places records =
       let ds : List Deed = history set recorded.entries in
       let d : Deed = notice_deed ds seat (Time time) in
       let sent : items_sent (d ∷ ds) ≡ items_sent ds = append-nil (items_sent ds) in
@@ -86,6 +87,7 @@ module _ {H : Type 0} (now : H → Memo) (can_act : H → Type 0) (rule : Handle
       (record {
         tells = tells_with ds d states later is.stands.tells
             (step_told ds seat (Tick time) (Time time) states.calls.items later.calls.items (record { start = λ k. refl; finish = λ k. refl; cancel = λ k. refl }) is.stands.tells.calls told)
+            (newest_kept ds d states.newest later.newest is.stands.tells.newest refl newest)
             (record { unflushing = refl; going_on = refl; running = refl }) (omega (arith, unflushed)) input halt;
         keeps = notice_keeps now can_act rule set ds seat (Time time) handlers is.stands.keeps;
         queue = same ∙ is.stands.queue ∙ ap (drop (flush_count ds)) (sym sent);

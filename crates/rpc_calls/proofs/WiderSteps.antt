@@ -11,10 +11,12 @@ use Rattle.rpc_journal.specs.declared.setting.Setting.{Setting}
 use Rattle.rpc_journal.specs.History.{history}
 use Rattle.rpc_journal.specs.Items.{flush_count}
 use Rattle.rpc_journal.specs.Recorded.{Recorded}
+use Rattle.rpc_journal.specs.Newest.{newest_of}
 use Rattle.rpc_journal.specs.Tells.{TellsOf}
 use Rattle.rpc_journal.proofs.PlaceLemmas.{get_some}
 use Rattle.rpc_journal.proofs.RoomLemmas.{is_same, same_tells}
 use Rattle.rpc_journal.proofs.StepLemmas.{same_or_not}
+use Rattle.rpc_calls.specs.Marks.{marks_of}
 use Rattle.rpc_calls.specs.Places.{ChangesAll, ChangesAt}
 use Rattle.rpc_calls.specs.Room.{uncancelled, running, HasRoom}
 use Rattle.rpc_calls.specs.TableHolds.{IsTable}
@@ -40,6 +42,10 @@ wider_trans r x y first second = record {
   capacity = omega (arith, first.capacity, second.capacity);
 }
 
+-- it has the same marks
+pub wider_marks : (r x : CallState) → IsWider r x → marks_of x ≡ marks_of r
+wider_marks r x wide = rw (wide.same.cancelled, wide.same.run, wide.same.waiting) refl
+
 -- at first all calls are as they were
 pub all_wider_refl : (states : List CallState) → ChangesAll IsWider states states
 all_wider_refl states = record { many = refl; each = λ k r x was is. let same : r ≡ x = cc in subst (IsWider r) same (wider_refl r) }
@@ -63,9 +69,9 @@ module _ {H : Type 0} (now : H → Memo) (can_act : H → Type 0) (rule : Handle
   -- a table in which all calls have more places
   pub table_all_wider : (recorded : Recorded) (states mid : CallStates) (handlers : List (Option H)) (items : List Item) (capacity : ℕ)
       → IsTable now can_act rule set recorded states handlers items capacity → ChangesAll IsWider states.calls.items mid.calls.items
-      → mid.unflushed ≡ states.unflushed → mid.input_ended ≡ states.input_ended → mid.halted ≡ states.halted
+      → mid.unflushed ≡ states.unflushed → mid.input_ended ≡ states.input_ended → mid.halted ≡ states.halted → mid.newest ≡ states.newest
       → IsTable now can_act rule set recorded mid handlers items capacity
-  table_all_wider recorded states mid handlers items capacity is wide unflushed input halt =
+  table_all_wider recorded states mid handlers items capacity is wide unflushed input halt newest =
       let going : uncancelled mid.calls.items ≡ uncancelled states.calls.items =
       same_counts (λ r. not r.cancelled) states.calls.items mid.calls.items wide.many (λ k x y was later. ap not (wide.each k x y was later).same.cancelled) in
       let busy : running mid.calls.items ≡ running states.calls.items =
@@ -80,6 +86,7 @@ module _ {H : Type 0} (now : H → Memo) (can_act : H → Type 0) (rule : Handle
               each = λ k y there. tell k y there;
               beyond = is.stands.tells.calls.beyond;
             };
+            newest = λ name. ap (λ m. newest_of m name) newest ∙ is.stands.tells.newest name;
             items = ap (λ n. n + flush_count (history set recorded.entries)) unflushed ∙ is.stands.tells.items;
             input = input ∙ is.stands.tells.input;
             halt = halt ∙ is.stands.tells.halt;
@@ -118,4 +125,4 @@ module _ {H : Type 0} (now : H → Memo) (can_act : H → Type 0) (rule : Handle
       → IsTable now can_act rule set recorded mid handlers items capacity
   table_widened recorded c states mid handlers items capacity is wide =
       table_all_wider recorded states mid handlers items capacity is (wider_more c states.calls.items states.calls.items mid.calls.items (all_wider_refl states.calls.items) wide.change)
-      wide.unflushed wide.input wide.halt
+      wide.unflushed wide.input wide.halt wide.newest

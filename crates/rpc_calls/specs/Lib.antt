@@ -10,3 +10,10 @@ pub mod Widened
 pub mod Arrivals
 pub mod CancelItems
 pub mod Still
+pub mod Marks
+pub mod Owed
+pub mod Outside
+pub mod Listed
+pub mod Indexed
+pub mod First
+pub mod Opened

@@ -13,6 +13,7 @@ pub record IsWider (r x : CallState) : Type 0 where
 
 pub record IsWidened (c : ℕ) (states after : CallStates) : Type 0 where
   pub change : ChangesAt c IsWider states.calls.items after.calls.items
+  pub newest : after.newest ≡ states.newest
   pub unflushed : after.unflushed ≡ states.unflushed
   pub input : after.input_ended ≡ states.input_ended
   pub halt : after.halted ≡ states.halted

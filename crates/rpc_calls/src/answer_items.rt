@@ -1,8 +1,8 @@
 //! The items of a run's answer.
-ghost use Rattle.std.specs.Prelude.{◌≡◌, ◌≤◌, ◌+◌, ◌<◌, [], ◌∷◌, ◌++◌, flat_map, length, false, true};
+ghost use Rattle.std.specs.Prelude.{◌≡◌, ◌≤◌, ◌+◌, ◌<◌, ◌++◌, flat_map, false, true};
 ghost use Rattle.std.specs.VecDeque.{deque_len, deque_capacity};
 ghost use Rattle.rpc_ids.specs.declared.method.Role.TheVariants.{Server};
-ghost use Rattle.rpc_journal.specs.Entries.{answer_item, message, keeps, leaves, messages_go};
+ghost use Rattle.rpc_journal.specs.Entries.{answer_item, message, leaves, messages_go};
 ghost use Rattle.rpc_calls.specs.AnswerItems.{answer_items, end_items, end_given};
 
 use crate::copies::Copies;

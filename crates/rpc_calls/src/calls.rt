@@ -14,10 +14,11 @@ mod replacing;
 mod starting;
 mod ticking;
 
+use crate::indexed_states::IndexedStates;
 use rpc_channel::Channels;
 use rpc_handlers::{Handler, Memo};
 use rpc_ids::{Registry, Role};
-use rpc_journal::{CallStates, Item, Journal, Setting};
+use rpc_journal::{Item, Journal, Setting};
 use std::alloc::{AllocError, Global};
 use std::collections::VecDeque;
 use std::marker::Model;
@@ -28,7 +29,7 @@ use std::marker::Model;
 pub struct Calls<H: Handler> {
     setting: Setting,
     journal: Journal,
-    states: CallStates,
+    states: IndexedStates,
     handlers: Vec<Option<H>>,
     items: VecDeque<Item>,
     alloc: Global,
@@ -71,7 +72,7 @@ impl<H: Handler> Calls<H> {
         Ok(Calls {
             setting,
             journal,
-            states: CallStates::new(alloc),
+            states: IndexedStates::new(alloc),
             handlers: Vec::new(alloc),
             items: VecDeque::new(alloc),
             alloc,

@@ -10,27 +10,28 @@ ghost use Rattle.rpc_calls.specs.Places.{ChangesAt};
 ghost use Rattle.rpc_calls.specs.Turns.{Turns};
 
 use crate::answer_items::leave_item;
-use crate::state_changes::cancel_at;
+use crate::indexed_states::IndexedStates;
 use bytes::Bytes;
 use rpc_ids::Status;
-use rpc_journal::{Act, CallState, CallStates, Item};
+use rpc_journal::{Act, CallState, Item};
 use rpc_packet::{CallName, Packet, PacketType};
 use std::collections::VecDeque;
 
 /// Cancels this call. There is room for two items.
-pub fn cancel_call(states: &mut CallStates, items: &mut VecDeque<Item>, call: u32)
+pub fn cancel_call(states: &mut IndexedStates, items: &mut VecDeque<Item>, call: u32)
     requires there { call < length states.old.calls.items }
     requires room { deque_len items.old + 2 ≤ deque_capacity items.old }
     ensures items { (r : CallState) → slice_get states.old.calls.items call ≡ Some r → items.new.items ≡ items.old.items ++ cancel_items call r.name (is_some r.status) (is_some r.run) }
     ensures capacity { deque_capacity items.new ≡ deque_capacity items.old }
     ensures change { (at : ℕ) → ChangesAt call (λ r x. Turns at (cancelling r.status) r x) states.old.calls.items states.new.calls.items }
+    ensures newest { states.new.newest ≡ states.old.newest }
     ensures unflushed { states.new.unflushed ≡ length items.new.items }
     ensures input { states.new.input_ended ≡ states.old.input_ended }
     ensures halt { states.new.halted ≡ states.old.halted }
 {
-    say_cancel(&states.calls[call as usize], items, call);
-    cancel_at(&mut states.calls, call as usize);
-    states.unflushed = items.len() as u64;
+    say_cancel(&states.all().calls[call as usize], items, call);
+    states.cancel(call);
+    states.set_unflushed(items.len() as u64);
 }
 
 fn say_cancel(state: &CallState, items: &mut VecDeque<Item>, call: u32)

@@ -1,5 +1,5 @@
 //! Copies of an answer, made while memory may still be refused.
-ghost use Rattle.std.specs.Prelude.{◌≡◌, ◌∷◌, [], ◌++◌, IfOk, length, Some};
+ghost use Rattle.std.specs.Prelude.{◌≡◌, IfOk};
 
 use rpc_handlers::{Answer, End, Out};
 use std::alloc::{AllocError, Global};

@@ -1,5 +1,5 @@
 //! The handlers that a table keeps, each at the number of its call.
-ghost use Rattle.std.specs.Prelude.{◌≡◌, ◌≢◌, ℕ, ◌<◌, vec_len, vec_capacity, OnOk, length, slice_get, Option, is_some, true, ◌||◌, Some, None, IfSome, if◌then◌else◌};
+ghost use Rattle.std.specs.Prelude.{◌≡◌, ◌≢◌, ℕ, ◌<◌, length, slice_get, Option, is_some, true, ◌||◌, Some, None, IfSome, if◌then◌else◌};
 
 use rpc_journal::CallStates;
 use std::alloc::AllocError;
@@ -55,22 +55,4 @@ pub fn swap_handler<H: Drop>(
 {
     let old = handlers[call].replace(handler);
     if runs { None } else { old }
-}
-
-/// Makes a place for one more call and its handler.
-pub fn reserve_call<H>(
-    states: &mut CallStates,
-    handlers: &mut Vec<Option<H>>,
-) -> Result<(), AllocError>
-    ensures calls { states.new.calls.items ≡ states.old.calls.items }
-    ensures unflushed { states.new.unflushed ≡ states.old.unflushed }
-    ensures input { states.new.input_ended ≡ states.old.input_ended }
-    ensures halt { states.new.halted ≡ states.old.halted }
-    ensures handlers { handlers.new.items ≡ handlers.old.items }
-    ensures call_place { OnOk result (vec_len states.new.calls < vec_capacity states.new.calls) }
-    ensures handler_place { OnOk result (vec_len handlers.new < vec_capacity handlers.new) }
-{
-    states.calls.reserve(1)?;
-    handlers.reserve(1)?;
-    Ok(())
 }

@@ -8,6 +8,10 @@ mod calls;
 mod cancelling;
 mod copies;
 mod handlers;
+mod index;
+mod indexed_states;
+mod marks;
+mod owed;
 mod replies;
 mod room;
 mod run_end;
@@ -16,6 +20,7 @@ mod served;
 mod state_changes;
 mod still;
 mod telling;
+mod waiting_calls;
 
 pub use calls::Calls;
 pub use running::Running;

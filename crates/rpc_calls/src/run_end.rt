@@ -10,14 +10,14 @@ ghost use Rattle.rpc_calls.specs.Turns.{Turns};
 
 use crate::answer_items::say_answer;
 use crate::copies::Copies;
-use crate::state_changes::finish_at;
+use crate::indexed_states::IndexedStates;
 use rpc_ids::Status;
-use rpc_journal::{CallState, CallStates, Item};
+use rpc_journal::{CallState, Item};
 use std::collections::VecDeque;
 
 /// Ends the run of this call with this answer. Answers whether no further run of it can begin.
 pub fn end_run(
-    states: &mut CallStates,
+    states: &mut IndexedStates,
     items: &mut VecDeque<Item>,
     call: u32,
     copies: Copies,
@@ -27,15 +27,16 @@ pub fn end_run(
     ensures items { (r : CallState) → slice_get states.old.calls.items call ≡ Some r → items.new.items ≡ items.old.items ++ answer_items call r.name r.method.kind r.cancelled (hears_answer r) copies.outs.items copies.end }
     ensures capacity { deque_capacity items.new ≡ deque_capacity items.old }
     ensures change { (at : ℕ) (r : CallState) → slice_get states.old.calls.items call ≡ Some r → ChangesAt call (Turns at (finishing (end_given r.cancelled (hears_answer r) copies.end))) states.old.calls.items states.new.calls.items }
+    ensures newest { states.new.newest ≡ states.old.newest }
     ensures unflushed { states.new.unflushed ≡ length items.new.items }
     ensures input { states.new.input_ended ≡ states.old.input_ended }
     ensures halt { states.new.halted ≡ states.old.halted }
     ensures over { (x : CallState) → slice_get states.new.calls.items call ≡ Some x → result ≡ over_state x }
 {
-    let end = say_run(&states.calls[call as usize], items, call, copies);
-    finish_at(&mut states.calls, call as usize, end);
-    states.unflushed = items.len() as u64;
-    is_over(&states.calls[call as usize])
+    let end = say_run(&states.all().calls[call as usize], items, call, copies);
+    states.finish(call, end);
+    states.set_unflushed(items.len() as u64);
+    is_over(&states.all().calls[call as usize])
 }
 
 // What the run of a call in this state says, and the end that it gives to the call.

@@ -1,5 +1,5 @@
 //! A run of a call's handler.
-ghost use Rattle.std.specs.Prelude.{◌≡◌, false, IsTrue, Option, Some, None, OnOk, OnErr, IfOk, IfSome, ◌⊎◌};
+ghost use Rattle.std.specs.Prelude.{◌≡◌, false, IsTrue, Option, Some, None, OnOk, OnErr, IfSome, ◌⊎◌};
 ghost use Rattle.rpc_handlers.specs.Limits.{is_past_limits};
 ghost use Rattle.rpc_journal.specs.Runs.{IsAnswerOf};
 

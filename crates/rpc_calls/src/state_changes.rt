@@ -7,11 +7,11 @@ ghost use Rattle.rpc_journal.specs.Queues.{is_ended};
 ghost use Rattle.rpc_journal.specs.Touch.{starting, finishing, cancelling, closing, putting};
 ghost use Rattle.rpc_calls.specs.Places.{ChangesAt};
 ghost use Rattle.rpc_calls.specs.Turns.{Turns};
-ghost use Rattle.rpc_calls.specs.Widened.{IsWider, IsWidened};
+ghost use Rattle.rpc_calls.specs.Widened.{IsWider};
 
 use rpc_handlers::Event;
 use rpc_ids::Status;
-use rpc_journal::{CallState, CallStates, Waiting};
+use rpc_journal::{CallState, Waiting};
 use std::alloc::AllocError;
 
 /// A run of this seat begins, with the oldest event that waits.
@@ -126,15 +126,6 @@ pub fn put(state: &mut CallState, at: u64, event: Event)
         state.completed = true;
     }
     state.waiting.push_back_reserved(Waiting { at, event });
-}
-
-/// Makes two places for events of this call. The states tell of what they told before.
-pub fn widen(states: &mut CallStates, call: usize) -> Result<(), AllocError>
-    requires { call < length states.old.calls.items }
-    ensures same { IsWidened call states.old states.new }
-    ensures room { OnOk result ((r : CallState) → slice_get states.new.calls.items call ≡ Some r → length r.waiting.items + 2 ≤ deque_capacity r.waiting) }
-{
-    widen_at(&mut states.calls, call)
 }
 
 /// Makes two places for events of this call.

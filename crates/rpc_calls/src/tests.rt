@@ -3,6 +3,7 @@
 mod desk;
 mod letters;
 mod limits;
+mod many;
 mod rows;
 mod runs;
 mod threads;

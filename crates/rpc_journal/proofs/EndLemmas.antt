@@ -44,7 +44,8 @@ abbrev pub AllLive : List Deed → Option ℕ → Type 0
 AllLive ds None = Unit {0}
 AllLive ds (Some c) = (has_end ds c ≡ false) × (c < call_count ds)
 
-abbrev AllKnown : List Deed → Option ℕ → Type 0
+-- the call, where there is one, is there
+abbrev pub AllKnown : List Deed → Option ℕ → Type 0
 AllKnown ds None = Unit {0}
 AllKnown ds (Some c) = c < call_count ds
 
@@ -52,7 +53,7 @@ known-more : (d : Deed) (ds : List Deed) (o : Option ℕ) → AllKnown ds o → 
 known-more d ds None known = tt
 known-more d ds (Some c) known = omega (arith, known, length-append (calls ds) (option_to_list d.does.opens))
 
-last_known : (ds : List Deed) (name : CallName) → AllKnown ds (last_call ds name)
+pub last_known : (ds : List Deed) (name : CallName) → AllKnown ds (last_call ds name)
 last_known [] name = tt
 last_known (d ∷ ds) name = at d.does.opens refl (known-more d ds (last_call ds name) (last_known ds name))
   where

@@ -104,7 +104,7 @@ pub replace_tells : (ds : List Deed) (seat c : ℕ) (m : Memo) (t : CallStates) 
 replace_tells ds seat c m t tells =
     table_idle ds (deed_by seat (Replace c m) no_effect) t t tells
     (record { start = λ k. refl; finish = λ k. refl; cancel = λ k. refl; ends = refl; drops = refl; puts = refl; says = λ k. refl })
-    refl (record { unflushing = refl; going_on = refl; running = refl }) refl (omega arith) refl refl
+    refl (record { unflushing = refl; going_on = refl; running = refl }) refl refl (omega arith) refl refl
 
 -- an entry of this kind
 pub of_kind : (set : Setting) (ds : List Deed) (e : Entry) (kind : EntryKind) (u : CallStates) → e.kind ≡ kind

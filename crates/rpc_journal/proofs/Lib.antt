@@ -5,10 +5,10 @@ pub mod DemoTable
 pub mod EndLemmas
 pub mod Examples
 pub mod FinishLemmas
-pub mod FirstLemmas
 pub mod FollowLemmas
 pub mod ItemLemmas
 pub mod KnownLemmas
+pub mod NewestLemmas
 pub mod NoticeLemmas
 pub mod OpenLemmas
 pub mod PacketLemmas

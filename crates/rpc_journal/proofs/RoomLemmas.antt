@@ -10,6 +10,7 @@ use Rattle.rpc_handlers.specs.declared.event.Event.TheVariants.{Request}
 use Rattle.rpc_journal.specs.Calls.{call_at, is_start_of}
 use Rattle.rpc_journal.specs.Effect.{Deed}
 use Rattle.rpc_journal.specs.Items.{items_sent}
+use Rattle.rpc_journal.specs.Newest.{IsSameNewest}
 use Rattle.rpc_journal.specs.Tells.{HasRoomAt, IsOpening, IsOpenAt, IsSilentOn, TellsOf, Tells, IsSameTable}
 use Rattle.rpc_journal.specs.Touch.{IsSame, IsServed, Touches, putting}
 use Rattle.rpc_journal.proofs.PlaceLemmas.{get_some}
@@ -41,6 +42,7 @@ same_table_tells ds t u same tells = record {
         same_tells ds c found.0 x (tells.calls.each c found.0 found.1) (same.each c found.0 x found.1 there);
     beyond = tells.calls.beyond;
   };
+  newest = λ name. same.newest name ∙ tells.newest name;
   items = rw (same.unflushed) (tells.items);
   input = same.input ∙ tells.input;
   halt = same.halt ∙ tells.halt;
@@ -102,13 +104,18 @@ pub on_err_of : {A E P : Type 0} (r : Result A E) → P → OnErr r P
 on_err_of (Ok a) p = tt
 on_err_of (Err e) p = p
 
+pub on_err : {A E P Q : Type 0} (r : Result A E) → (P → Q) → OnErr r P → OnErr r Q
+on_err (Ok a) f p = tt
+on_err (Err e) f p = f p
+
 -- a table whose calls are the same
-pub items_same : (t u : CallStates) → u.calls.items ≡ t.calls.items → u.unflushed ≡ t.unflushed → u.input_ended ≡ t.input_ended → u.halted ≡ t.halted
+pub items_same : (t u : CallStates) → u.calls.items ≡ t.calls.items → IsSameNewest t.newest u.newest → u.unflushed ≡ t.unflushed → u.input_ended ≡ t.input_ended → u.halted ≡ t.halted
     → IsSameTable t u
-items_same t u items unflushed input halt = record {
+items_same t u items newest unflushed input halt = record {
   many = ap length items;
   each = λ c r x before after.
       subst (λ z. IsSame r z) (some_same r x (sym before ∙ (ap (λ xs. slice_get xs c) (sym items) ∙ after))) (is_same r);
+  newest = newest;
   unflushed = unflushed;
   input = input;
   halt = halt;
@@ -134,6 +141,7 @@ same_table_trans t u v first second = record {
       let within : c < length t.calls.items = slice_get_within _ _ _ before in
       let found = get_some u.calls.items c (omega (arith, within, first.many)) in
       same_trans r found.0 y (first.each c r found.0 before found.1) (second.each c found.0 y found.1 after);
+  newest = λ name. second.newest name ∙ first.newest name;
   unflushed = second.unflushed ∙ first.unflushed;
   input = second.input ∙ first.input;
   halt = second.halt ∙ first.halt;

@@ -7,10 +7,12 @@ use Rattle.rpc_journal.specs.declared.entry.EntryKind.{EntryKind}
 use Rattle.rpc_journal.specs.Calls.{calls}
 use Rattle.rpc_journal.specs.Effect.{Deed}
 use Rattle.rpc_journal.specs.Items.{is_end_in, is_flush, items_sent, reason_of}
+use Rattle.rpc_journal.specs.Newest.{AreNewest}
 use Rattle.rpc_journal.specs.Tells.{TellsCalls, Tells}
 use Rattle.rpc_journal.specs.Touch.{Touch, Touches, IsTouched, untouched}
 use Rattle.rpc_journal.proofs.StepLemmas.{one_changes, none_changes, none_opens}
 use Rattle.rpc_journal.proofs.DeedLemmas.{IsIdle, idle_touches}
+use Rattle.rpc_journal.proofs.NewestLemmas.{newest_kept}
 
 -- the deed does this to call c, and nothing to any other
 pub record TouchesOne (d : Deed) (c : ℕ) (t : Touch) : Type 0 where
@@ -39,10 +41,11 @@ pub record IsPlainKind (kind : EntryKind) : Type 0 where
   pub going_on : is_end_in kind ≡ false
   pub running : reason_of kind ≡ None
 
-pub tells_with : (ds : List Deed) (d : Deed) (t u : CallStates) → Tells ds t → TellsCalls (d ∷ ds) u.calls.items → IsPlainKind d.entry.kind
+pub tells_with : (ds : List Deed) (d : Deed) (t u : CallStates) → Tells ds t → TellsCalls (d ∷ ds) u.calls.items → AreNewest (d ∷ ds) u.newest → IsPlainKind d.entry.kind
     → u.unflushed ≡ t.unflushed + length d.does.says → u.input_ended ≡ t.input_ended → u.halted ≡ t.halted → Tells (d ∷ ds) u
-tells_with ds d t u tells states plain items input halt = record {
+tells_with ds d t u tells states newest plain items input halt = record {
   calls = states;
+  newest = newest;
   items = rw plain.unflushing (omega (arith, items, tells.items, length-append (items_sent ds) d.does.says));
   input = rw plain.going_on (input ∙ tells.input);
   halt = rw plain.running (halt ∙ tells.halt);
@@ -51,18 +54,20 @@ tells_with ds d t u tells states plain items input halt = record {
 -- the entry touches one call
 pub table_one : (ds : List Deed) (d : Deed) (t u : CallStates) (c : ℕ) (touch : Touch) (r x : CallState) → Tells ds t
     → slice_get t.calls.items c ≡ Some r → TouchesOne d c touch → IsTouched (length ds) touch r x → IsPlainKind d.entry.kind
-    → u.calls.items ≡ set t.calls.items c x → u.unflushed ≡ t.unflushed + length d.does.says → u.input_ended ≡ t.input_ended → u.halted ≡ t.halted
+    → u.calls.items ≡ set t.calls.items c x → u.newest ≡ t.newest → u.unflushed ≡ t.unflushed + length d.does.says → u.input_ended ≡ t.input_ended → u.halted ≡ t.halted
     → Tells (d ∷ ds) u
-table_one ds d t u c touch r x tells is touches touched plain calls items input halt =
+table_one ds d t u c touch r x tells is touches touched plain calls newest items input halt =
     tells_with ds d t u tells
     (subst (TellsCalls (d ∷ ds)) (sym calls) (step_one ds d t.calls.items c touch r x tells.calls is touches touched))
+    (newest_kept ds d t.newest u.newest tells.newest touches.opens newest)
     plain items input halt
 
 -- the entry touches no call
 pub table_idle : (ds : List Deed) (d : Deed) (t u : CallStates) → Tells ds t → IsIdle d → d.does.opens ≡ None → IsPlainKind d.entry.kind
-    → u.calls.items ≡ t.calls.items → u.unflushed ≡ t.unflushed + length d.does.says → u.input_ended ≡ t.input_ended → u.halted ≡ t.halted
+    → u.calls.items ≡ t.calls.items → u.newest ≡ t.newest → u.unflushed ≡ t.unflushed + length d.does.says → u.input_ended ≡ t.input_ended → u.halted ≡ t.halted
     → Tells (d ∷ ds) u
-table_idle ds d t u tells idle opens plain calls items input halt =
+table_idle ds d t u tells idle opens plain calls newest items input halt =
     tells_with ds d t u tells
     (subst (TellsCalls (d ∷ ds)) (sym calls) (step_idle ds d t.calls.items tells.calls idle opens))
+    (newest_kept ds d t.newest u.newest tells.newest opens newest)
     plain items input halt

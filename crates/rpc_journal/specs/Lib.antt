@@ -13,6 +13,7 @@ pub mod Lawful
 pub mod Laws
 pub mod Marks
 pub mod Moves
+pub mod Newest
 pub mod Outside
 pub mod Queues
 pub mod Quiet

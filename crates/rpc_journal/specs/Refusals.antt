@@ -13,6 +13,7 @@ use Rattle.rpc_journal.specs.declared.answers.StartOfRefused as start_of
 use Rattle.rpc_journal.specs.declared.answers.ReplaceRefused as replace
 use Rattle.rpc_journal.specs.declared.answers.StartRefused as start
 use Rattle.rpc_journal.specs.declared.entry.Entry.{Entry}
+use Rattle.rpc_journal.specs.declared.entry.TheConstants.{MAX_ENTRIES}
 use Rattle.rpc_journal.specs.declared.setting.Setting.{Setting}
 use Rattle.rpc_journal.specs.Effect.{Deed}
 use Rattle.rpc_journal.specs.Calls.{call_count, call_at, end_of, is_cancelled, live_call}
@@ -22,9 +23,9 @@ use Rattle.rpc_journal.specs.Marks.{is_server, or_else}
 use Rattle.rpc_journal.specs.Rows.{channels_in, method_named}
 use Rattle.rpc_journal.specs.History.{history}
 
--- the journal has 1,000,000 entries or more
+-- the journal has as many entries as it may have, or more
 abbrev pub is_full : List Entry → Bool
-is_full h = nat_le 1000000 (length h)
+is_full h = nat_le MAX_ENTRIES (length h)
 
 abbrev pub refused_where : {E : Type 0} → Bool → E → Option E
 refused_where test refusal = if test then Some refusal else None

@@ -11,6 +11,7 @@ use Rattle.rpc_journal.specs.Effect.{Opening, Deed}
 use Rattle.rpc_journal.specs.Entries.{was_ended}
 use Rattle.rpc_journal.specs.Items.{flush_count, halt_reason, input_ended, is_done, items_sent}
 use Rattle.rpc_journal.specs.Marks.{is_empty}
+use Rattle.rpc_journal.specs.Newest.{AreNewest, IsSameNewest}
 use Rattle.rpc_journal.specs.Queues.{waiting_of, taken_event, puts_since, starts_since, is_completed}
 
 -- the state is of a call that opened so
@@ -47,10 +48,11 @@ pub record TellsCalls (ds : List Deed) (states : List CallState) : Type 0 where
   pub each : (c : ℕ) (r : CallState) → slice_get states c ≡ Some r → TellsOf ds c r
   pub beyond : (c : ℕ) → call_count ds ≤ c → IsSilentOn ds c
 
--- the table tells what the history says: of each call, how many items wait to be flushed, whether the input has ended,
--- and why it was halted
+-- the table tells what the history says: of each call, which call is the newest of its name, how many items wait to be
+-- flushed, whether the input has ended, and why it was halted
 pub record Tells (ds : List Deed) (t : CallStates) : Type 0 where
   pub calls : TellsCalls ds t.calls.items
+  pub newest : AreNewest ds t.newest
   pub items : t.unflushed + flush_count ds ≡ length (items_sent ds)
   pub input : t.input_ended ≡ input_ended ds
   pub halt : t.halted ≡ halt_reason ds
@@ -84,6 +86,7 @@ pub record HasRoomAt (states : List CallState) (c : ℕ) : Type 0 where
 pub record IsSameTable (before after : CallStates) : Type 0 where
   pub many : length after.calls.items ≡ length before.calls.items
   pub each : (c : ℕ) (r x : CallState) → slice_get before.calls.items c ≡ Some r → slice_get after.calls.items c ≡ Some x → IsSame r x
+  pub newest : IsSameNewest before.newest after.newest
   pub unflushed : after.unflushed ≡ before.unflushed
   pub input : after.input_ended ≡ before.input_ended
   pub halt : after.halted ≡ before.halted

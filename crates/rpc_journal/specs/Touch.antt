@@ -1,5 +1,5 @@
 -- What one entry does to one call, and to what a plain table keeps of it.
-use Rattle.std.specs.Prelude.{◌≡◌, ℕ, ◌<◌, Bool, true, false, not, ◌&&◌, ◌||◌, nat_lt, List, [], ◌++◌, length, map, drop, slice_get, Option, Some, None, is_some, is_none, option_to_list, option_map, count_by, ◌+◌, if◌then◌else◌}
+use Rattle.std.specs.Prelude.{◌≡◌, ℕ, Bool, true, false, not, ◌&&◌, ◌||◌, nat_lt, List, [], ◌++◌, length, map, drop, slice_get, Option, Some, None, is_some, is_none, option_to_list, option_map, count_by, ◌+◌, if◌then◌else◌}
 use Rattle.std.specs.List.{list_any}
 use Rattle.rpc_ids.specs.declared.status.Status.{Status}
 use Rattle.rpc_ids.specs.declared.status.Status.TheVariants.{Cancelled, Unavailable}
@@ -160,8 +160,3 @@ told_event InputEnded = Ended Unavailable
 
 abbrev pub telling : Notice → CallState → Touch
 telling notice r = if is_told notice r then putting (told_event notice) else untouched
-
--- an event put at this place was put before the one of the call found so far, if any
-abbrev pub IsSooner : ℕ → Option (ℕ × ℕ) → Type 0
-IsSooner place None = Unit {0}
-IsSooner place (Some found) = place < found.1

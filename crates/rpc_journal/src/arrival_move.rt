@@ -1,5 +1,5 @@
 //! What a server makes of a packet, by its type and the state of the call of its name.
-ghost use Rattle.std.specs.Prelude.{◌≡◌, ℕ, ◌<◌, List, length, IfSome};
+ghost use Rattle.std.specs.Prelude.{◌≡◌, ℕ, ◌<◌, List, IfSome};
 ghost use Rattle.rpc_ids.specs.declared.method.MethodRef.{MethodRef};
 ghost use Rattle.rpc_journal.specs.declared.call_state.CallState.{CallState};
 ghost use Rattle.rpc_journal.specs.declared.setting.Setting.{Setting};

@@ -1,12 +1,12 @@
 //! What a history says of one call.
-ghost use Rattle.std.specs.Prelude.{◌≡◌, ◌≢◌, ◌+◌, ◌^◌, ◌||◌, ◌<◌, ◌≤◌, count_by, not, length, IsTrue, Some, None, false, true, is_some, ◌∷◌, IfOk, OnOk};
+ghost use Rattle.std.specs.Prelude.{◌≡◌, ◌+◌, ◌^◌, ◌||◌, ◌<◌, count_by, not, Some, None, false, true, is_some, ◌∷◌, IfOk, OnOk};
 ghost use Rattle.std.specs.List.{list_any};
 ghost use Rattle.std.specs.VecDeque.{deque_len, deque_capacity};
 ghost use Rattle.rpc_handlers.specs.declared.event.Event.{Event};
 ghost use Rattle.rpc_journal.specs.Choice.{first_place};
 ghost use Rattle.rpc_journal.specs.Marks.{is_empty, streams_down};
 ghost use Rattle.rpc_journal.specs.Queues.{is_ended, is_tick};
-ghost use Rattle.rpc_journal.specs.Touch.{IsTouched, untouched, starting, finishing, cancelling, closing, putting, is_startable, wants_time, hears_answer, end_given, items_given, items_of_cancel, is_message, IsSame, IsServed, is_told, telling};
+ghost use Rattle.rpc_journal.specs.Touch.{IsTouched, starting, finishing, cancelling, closing, putting, is_startable, wants_time, hears_answer, end_given, items_given, items_of_cancel, is_message, IsSame, IsServed, is_told, telling};
 
 use crate::notice::Notice;
 use crate::waiting::Waiting;

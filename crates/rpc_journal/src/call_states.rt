@@ -1,20 +1,19 @@
 //! What a history says of all its calls: a plain table.
-ghost use Rattle.std.specs.Prelude.{◌≡◌, ℕ, ◌<◌, ◌+◌, List, [], ◌∷◌, length, slice_get, Some, None, nat_le, IfSome, IfNone, option_copied, if◌then◌else◌};
+ghost use Rattle.std.specs.Prelude.{◌≡◌, ◌<◌, List, [], slice_get, Some, None, nat_le, IfSome, option_copied, if◌then◌else◌};
 ghost use Rattle.rpc_packet.specs.declared.call_name.CallName.{CallName};
-ghost use Rattle.rpc_journal.specs.Calls.{call_at, call_count, has_end, is_cancelled, live_call, runner_of, same_name as names_agree};
+ghost use Rattle.rpc_journal.specs.Calls.{call_at, call_count, has_end, is_cancelled, live_call, runner_of};
 ghost use Rattle.rpc_journal.specs.Items.{is_ready};
 ghost use Rattle.rpc_journal.specs.Lawful.{full_among, has_stream};
 ghost use Rattle.rpc_journal.specs.Moves.{row_of};
 ghost use Rattle.rpc_ids.specs.declared.method.Role.TheVariants.{Server};
 ghost use Rattle.rpc_packet.specs.declared.owned.Packet.{Packet};
-ghost use Rattle.rpc_journal.specs.Choice.{IsFirstReady, NoneReady};
 ghost use Rattle.rpc_journal.specs.Effect.{Deed};
 ghost use Rattle.rpc_journal.specs.Queues.{is_completed, messages_waiting};
 ghost use Rattle.rpc_journal.specs.Tells.{IsOpenAt, Tells};
-ghost use Rattle.rpc_journal.specs.Touch.{IsSooner};
 
 use crate::arrival_move::Move;
 use crate::call_state::{CallState, MAX_WAITING, streams_down};
+use crate::newest_calls::NewestCalls;
 use link_io::Why;
 use rpc_packet::CallName;
 use std::alloc::Global;
@@ -24,6 +23,8 @@ use std::alloc::Global;
 pub struct CallStates {
     /// The calls, each at its number.
     pub calls: Vec<CallState>,
+    /// The newest call of each name.
+    pub newest: NewestCalls,
     /// How many items wait to be flushed.
     pub unflushed: u64,
     /// An `EndIn` is there.
@@ -39,6 +40,7 @@ impl CallStates {
     {
         CallStates {
             calls: Vec::new(alloc),
+            newest: NewestCalls::new(alloc),
             unflushed: 0,
             input_ended: false,
             halted: None,
@@ -50,19 +52,12 @@ impl CallStates {
         ensures call { (ds : List Deed) → Tells ds self.now → result ≡ live_call ds name }
         ensures there { IfSome result (λ c. IsOpenAt self.now.calls.items c) }
     {
-        let mut c = self.calls.len();
-        while c > 0 {
-            c -= 1;
-            let state = &self.calls[c];
-            if same_name(state.name, name) {
-                return if state.status.is_none() {
-                    Some(c)
-                } else {
-                    None
-                };
-            }
+        let call = self.newest.get(name)?;
+        let state = self.state_at(call)?;
+        if state.status.is_some() {
+            return None;
         }
-        None
+        Some(call)
     }
 
     /// The state of this call.
@@ -85,26 +80,6 @@ impl CallStates {
         match self.state(call) {
             Some(state) => state.is_ready(self.unflushed, self.halted.is_some()),
             None => false,
-        }
-    }
-
-    /// The ready call whose oldest waiting event was put first, the one of the lower number at a tie.
-    pub fn first_ready(&self) -> Option<usize>
-        ensures first { IfSome result (λ c. (ds : List Deed) → Tells ds self.now → IsFirstReady ds c) }
-        ensures none { IfNone result ((ds : List Deed) → Tells ds self.now → NoneReady ds) }
-    {
-        let halted = self.halted.is_some();
-        let count = self.calls.len();
-        let mut found: Option<(usize, u64)> = None;
-        for call in 0..count {
-            let state = &self.calls[call];
-            if state.is_ready(self.unflushed, halted) {
-                found = sooner(found, call, state.oldest_place());
-            }
-        }
-        match found {
-            Some((call, _)) => Some(call),
-            None => None,
         }
     }
 
@@ -184,21 +159,4 @@ impl CallStates {
             Some(c) => self.calls[c].completed,
         }
     }
-}
-
-// Of the call found so far and a later one that waits since this place, the one that goes first.
-fn sooner(found: Option<(usize, u64)>, call: usize, place: u64) -> Option<(usize, u64)>
-    ensures new { IsSooner place found → result ≡ Some (call, place) }
-    ensures old { (¬ IsSooner place found) → result ≡ found }
-{
-    match found {
-        Some((_, since)) if since <= place => found,
-        _ => Some((call, place)),
-    }
-}
-
-fn same_name(a: CallName, b: CallName) -> bool
-    ensures { result ≡ names_agree a b }
-{
-    a.channel == b.channel && a.service == b.service && a.method == b.method && a.call == b.call
 }

@@ -1,5 +1,5 @@
 //! Which rule an entry breaks, by what a plain table tells of the entries before it.
-ghost use Rattle.std.specs.Prelude.{◌≡◌, ℕ, ◌<◌, Bool, List, length, IfSome, is_some, slice_get, option_copied};
+ghost use Rattle.std.specs.Prelude.{◌≡◌, ◌<◌, List, is_some};
 ghost use Rattle.rpc_handlers.specs.Limits.{is_long_out, is_long_end as ends_long, is_past_limits as passes_limits};
 ghost use Rattle.rpc_journal.specs.declared.setting.Setting.{Setting};
 ghost use Rattle.rpc_journal.specs.Calls.{call_count};

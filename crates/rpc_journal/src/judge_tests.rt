@@ -86,12 +86,12 @@ fn entry(seat: u32, kind: EntryKind) -> Entry {
     Entry { seat, kind }
 }
 
-fn arrive_on(channel: u32, ptype: PacketType, method: MethodRef) -> Entry {
+fn arrive_as(channel: u32, call: u32, ptype: PacketType, method: MethodRef) -> Entry {
     let name = CallName {
         channel,
         service: method.service,
         method: method.method,
-        call: 1,
+        call,
     };
     let packet = Packet {
         ptype,
@@ -100,6 +100,10 @@ fn arrive_on(channel: u32, ptype: PacketType, method: MethodRef) -> Entry {
         status: 0,
     };
     entry(0, EntryKind::Arrive(packet))
+}
+
+fn arrive_on(channel: u32, ptype: PacketType, method: MethodRef) -> Entry {
+    arrive_as(channel, 1, ptype, method)
 }
 
 fn arrive(ptype: PacketType, method: MethodRef) -> Entry {
@@ -186,6 +190,61 @@ fn a_request_of_a_live_name_cancels_the_old_call(rt: HostRuntime) -> Result<(), 
         start(2, 0),
     ]?)?;
     assert_eq!(rt; twice, fault(4, Broken::NotReady));
+    Ok(())
+}
+
+#[test]
+fn a_name_is_used_again_after_its_end_and_while_it_lives(rt: HostRuntime) -> Result<(), Fail> {
+    let w = World::new(rt.alloc())?;
+    let chat = w.chat;
+    for call in 0..3u32 {
+        let found = w.judge(vec![in w.alloc;
+            request(chat),
+            arrive(PacketType::ClientError, chat),
+            arrive(PacketType::ClientStream, chat),
+            flush(),
+            request(chat),
+            request(chat),
+            arrive(PacketType::ClientStream, chat),
+            start(2, call),
+            w.finish(2, call),
+            start(2, call),
+        ]?)?;
+        // The first two calls have only their ends to hear, and the message waits for the third.
+        let wanted = if call == 2 {
+            None
+        } else {
+            fault(9, Broken::NotReady)
+        };
+        assert_eq!(rt; found, wanted);
+    }
+    Ok(())
+}
+
+#[test]
+fn each_of_many_names_has_its_own_call(rt: HostRuntime) -> Result<(), Fail> {
+    let w = World::new(rt.alloc())?;
+    let mut journal = Journal::new(w.alloc);
+    for name in 0..100u32 {
+        journal.reserve(1)?;
+        journal.push(arrive_as(1, name * 7919, PacketType::Request, w.chat));
+    }
+    for name in 0..50u32 {
+        journal.reserve(4)?;
+        let id = (name * 2 + 1) * 7919;
+        journal.push(arrive_as(1, id, PacketType::ClientStream, w.chat));
+        journal.push(start(2, name * 2 + 1));
+        journal.push(w.finish(2, name * 2 + 1));
+        journal.push(start(2, name * 2 + 1));
+    }
+    let heard = check(w.alloc, &journal, Role::Server, &w.channels, &w.registry)?;
+    assert_eq!(rt; heard, None);
+    journal.reserve(3)?;
+    journal.push(start(2, 42));
+    journal.push(w.finish(2, 42));
+    journal.push(start(2, 42));
+    let silent = check(w.alloc, &journal, Role::Server, &w.channels, &w.registry)?;
+    assert_eq!(rt; silent, fault(302, Broken::NotReady));
     Ok(())
 }
 

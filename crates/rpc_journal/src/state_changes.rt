@@ -1,13 +1,13 @@
 //! How a plain table follows the history over each kind of entry. Each change ensures that a table that tells of a
 //! history tells of that history with the entry.
-ghost use Rattle.std.specs.Prelude.{◌≡◌, ℕ, ◌+◌, ◌<◌, ◌^◌, List, [], ◌∷◌, length, slice_get, Some, None, IfSome, IfOk, OnOk};
+ghost use Rattle.std.specs.Prelude.{◌≡◌, ℕ, ◌+◌, ◌<◌, ◌^◌, List, ◌∷◌, length, slice_get, Some, None, OnOk};
 ghost use Rattle.rpc_journal.specs.declared.setting.Setting.{Setting};
 ghost use Rattle.rpc_journal.specs.Effect.{Deed};
 ghost use Rattle.rpc_journal.specs.Entries.{arrive_row};
 ghost use Rattle.rpc_journal.specs.Moves.{IsOpenMove, row_of};
 ghost use Rattle.rpc_journal.specs.History.{tell, entry_by};
 ghost use Rattle.rpc_journal.specs.Queues.{waiting_of};
-ghost use Rattle.std.specs.Prelude.{vec_len, vec_capacity, OnErr};
+ghost use Rattle.std.specs.Prelude.{OnErr};
 ghost use Rattle.rpc_ids.specs.declared.method.MethodRef.{MethodRef};
 ghost use Rattle.rpc_packet.specs.declared.owned.Packet.{Packet};
 ghost use Rattle.rpc_packet.specs.declared.packet_type.PacketType.TheVariants.{ServerError};
@@ -117,20 +117,25 @@ impl CallStates {
         ensures tells { OnOk result ((ds : List Deed) (seat : ℕ) (p : Packet) (m : MethodRef) → Tells ds self.old → IsServed (length ds) p m state → Tells (deed_by seat (EntryKind.Arrive p) (opens_served p m (call_count ds)) ∷ ds) self.new) }
         ensures err { OnErr result (IsSameTable self.old self.new) }
     {
-        self.calls.push(state)?;
+        self.calls.reserve(1)?;
+        self.newest.set(state.name, self.calls.len())?;
+        self.calls.push_reserved(state);
         Ok(())
     }
 
     /// An arrival ends a call with `CANCELLED`, and opens this one of the same name.
-    pub fn open_anew(&mut self, at: u64, call: usize, state: CallState)
+    pub fn open_anew(&mut self, at: u64, call: usize, state: CallState) -> Result<(), AllocError>
         requires room { HasRoomAt self.old.calls.items call }
         requires live { IsOpenAt self.old.calls.items call }
-        requires place { vec_len self.old.calls < vec_capacity self.old.calls }
-        ensures tells { (ds : List Deed) (seat : ℕ) (p : Packet) (m : MethodRef) → at ≡ length ds → Tells ds self.old → IsServed at p m state → Tells (deed_by seat (EntryKind.Arrive p) (both (ends_and_clears call Status.Cancelled) (opens_served p m (call_count ds))) ∷ ds) self.new }
+        ensures tells { OnOk result ((ds : List Deed) (seat : ℕ) (p : Packet) (m : MethodRef) → at ≡ length ds → Tells ds self.old → IsServed at p m state → Tells (deed_by seat (EntryKind.Arrive p) (both (ends_and_clears call Status.Cancelled) (opens_served p m (call_count ds))) ∷ ds) self.new) }
+        ensures err { OnErr result (IsSameTable self.old self.new) }
     {
+        self.calls.reserve(1)?;
+        self.newest.set(state.name, self.calls.len())?;
         let old = &mut self.calls[call];
         old.close(at, Status::Cancelled);
         self.calls.push_reserved(state);
+        Ok(())
     }
 
     /// An arrival is answered with a reply of no call.
@@ -174,9 +179,7 @@ impl CallStates {
             Move::OpenAnew(method, call) => {
                 let state = CallState::served(alloc, p, method, at)?;
                 self.make_room(call)?;
-                self.calls.reserve(1)?;
-                self.open_anew(at, call, state);
-                Ok(())
+                self.open_anew(at, call, state)
             }
             Move::Queue(call) => {
                 let payload = p.payload.clone()?;
@@ -208,6 +211,7 @@ impl CallStates {
     fn tell_all(&mut self, at: u64, notice: Notice)
         requires { HasRoomFor notice self.old.calls.items }
         ensures calls { IsToldAll at notice self.old.calls.items self.new.calls.items }
+        ensures newest { self.new.newest ≡ self.old.newest }
         ensures unflushed { self.new.unflushed ≡ self.old.unflushed }
         ensures input { self.new.input_ended ≡ self.old.input_ended }
         ensures halt { self.new.halted ≡ self.old.halted }

@@ -1,5 +1,5 @@
 //! The judge of a journal: whether it is lawful, and else its first fault.
-ghost use Rattle.std.specs.Prelude.{◌≡◌, ◌+◌, ◌<◌, ◌^◌, List, length, IfOk, IfSome, IsNone, OnOk, ◌↔◌, None};
+ghost use Rattle.std.specs.Prelude.{◌≡◌, ◌+◌, ◌<◌, List, length, IfOk, IfSome, IsNone, OnOk, ◌↔◌, None};
 ghost use Rattle.rpc_ids.specs.declared.method.Role.TheVariants.{Server};
 ghost use Rattle.rpc_journal.specs.declared.setting.Setting.{Setting};
 ghost use Rattle.rpc_journal.specs.Effect.{Deed};

@@ -1,5 +1,5 @@
 //! Packets arrive.
-ghost use Rattle.std.specs.Prelude.{◌≡◌, None, IfOk, OnErr};
+ghost use Rattle.std.specs.Prelude.{◌≡◌, IfOk, OnErr};
 ghost use Rattle.rpc_packet.specs.declared.packet_type.PacketType.TheVariants.{ServerError};
 ghost use Rattle.rpc_journal.specs.Rows.{closed, dropped, ends_and_clears, queued, replied};
 ghost use Rattle.rpc_journal.specs.Table.{past};
@@ -14,7 +14,6 @@ ghost use Rattle.rpc_journal.specs.Moves.{row_of};
 use super::Calls;
 use crate::replies::{copy_packet, copy_with_event, reply};
 use crate::room::take_room;
-use crate::state_changes::{close_at, put_at, widen};
 use rpc_handlers::{Handler, Maker};
 use rpc_ids::Status;
 use rpc_journal::{ArriveRefused, Arrived, Entry, EntryKind, MAX_ENTRIES, Move, server_move};
@@ -56,7 +55,7 @@ impl<H: Handler> Calls<H> {
         ensures live { IsLiveMove (past self.now) result }
     {
         server_move(
-            &self.states,
+            self.states.all(),
             p,
             &self.setting.channels,
             &self.setting.registry,
@@ -69,7 +68,7 @@ impl<H: Handler> Calls<H> {
         ensures { result ≡ queue_full self.now.setting (past self.now) p.now }
     {
         let _ = p;
-        self.states.full_queue(arrival).map(|c| c as u32)
+        self.states.all().full_queue(arrival).map(|c| c as u32)
     }
 
     // The packet does this.
@@ -111,7 +110,7 @@ impl<H: Handler> Calls<H> {
         ensures setting { self.new.setting ≡ self.old.setting }
         ensures err { OnErr result (self.new ≡ self.old) }
     {
-        take_room(&mut self.journal, &mut self.items, &self.states.calls, 0, 1)?;
+        take_room(&mut self.journal, &mut self.items, self.states.owed(), 0, 1)?;
         let packet = copy_packet(p)?;
         self.journal.push(Entry {
             seat,
@@ -132,10 +131,10 @@ impl<H: Handler> Calls<H> {
         ensures setting { self.new.setting ≡ self.old.setting }
         ensures err { OnErr result (self.new ≡ self.old) }
     {
-        take_room(&mut self.journal, &mut self.items, &self.states.calls, 1, 1)?;
+        take_room(&mut self.journal, &mut self.items, self.states.owed(), 1, 1)?;
         let packet = copy_packet(p)?;
         reply(&mut self.items, p.name, status);
-        self.states.unflushed = self.items.len() as u64;
+        self.states.set_unflushed(self.items.len() as u64);
         self.journal.push(Entry {
             seat,
             kind: EntryKind::Arrive(packet),
@@ -158,9 +157,9 @@ impl<H: Handler> Calls<H> {
         ensures err { OnErr result (self.new ≡ self.old) }
     {
         let at = self.journal.len();
-        take_room(&mut self.journal, &mut self.items, &self.states.calls, 0, 1)?;
+        take_room(&mut self.journal, &mut self.items, self.states.owed(), 0, 1)?;
         let packet = copy_packet(p)?;
-        close_at(&mut self.states.calls, call as usize, at, status);
+        self.states.close(call, at, status);
         self.journal.push(Entry {
             seat,
             kind: EntryKind::Arrive(packet),
@@ -183,10 +182,10 @@ impl<H: Handler> Calls<H> {
         ensures err { OnErr result (self.new ≡ self.old) }
     {
         let at = self.journal.len();
-        widen(&mut self.states, call as usize)?;
-        take_room(&mut self.journal, &mut self.items, &self.states.calls, 0, 1)?;
+        self.states.widen(call)?;
+        take_room(&mut self.journal, &mut self.items, self.states.owed(), 0, 1)?;
         let (packet, event) = copy_with_event(p, completes)?;
-        put_at(&mut self.states.calls, call as usize, at, event);
+        self.states.put(call, at, event);
         self.journal.push(Entry {
             seat,
             kind: EntryKind::Arrive(packet),

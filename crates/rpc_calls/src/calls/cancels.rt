@@ -46,7 +46,7 @@ impl<H: Handler> Calls<H> {
     fn runner(&self, call: u32) -> Option<u32>
         ensures { result ≡ runner_of (past self.now) call }
     {
-        self.states.runner(call)
+        self.states.all().runner(call)
     }
 
     // Whether the call was cancelled.
@@ -54,7 +54,7 @@ impl<H: Handler> Calls<H> {
         ensures is { result ≡ is_cancelled (past self.now) call }
         ensures legal { IsLegal H.rule self.now.setting self.now.entries }
     {
-        self.states.is_cancelled(call)
+        self.states.all().is_cancelled(call)
     }
 
     // A call that wasn't cancelled is.
@@ -65,7 +65,7 @@ impl<H: Handler> Calls<H> {
         ensures setting { self.new.setting ≡ self.old.setting }
         ensures legal { IsLegal H.rule self.new.setting self.new.entries }
     {
-        let runs = self.states.calls[call as usize].run.is_some();
+        let runs = self.states.all().calls[call as usize].run.is_some();
         cancel_call(&mut self.states, &mut self.items, call);
         let_go(&mut self.handlers, call as usize, runs);
         self.journal.push(Entry {

@@ -33,8 +33,8 @@ impl<H: Handler> Calls<H> {
         ensures setting { self.new.setting ≡ self.old.setting }
         ensures legal { IsLegal H.rule self.new.setting self.new.entries }
     {
-        if self.states.halted.is_none() {
-            self.states.halted = Some(why);
+        if self.states.all().halted.is_none() {
+            self.states.halt(why);
             self.journal.push(Entry {
                 seat,
                 kind: EntryKind::Halt(why),

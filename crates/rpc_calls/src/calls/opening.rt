@@ -1,17 +1,16 @@
 //! Packets that open calls.
 ghost use Rattle.std.specs.Prelude.{◌≡◌, IfOk, OnErr};
+ghost use Rattle.rpc_ids.specs.declared.status.Status.TheVariants.{Cancelled};
 ghost use Rattle.rpc_journal.specs.Calls.{call_count};
 ghost use Rattle.rpc_journal.specs.Rows.{both, ends_and_clears, opened, opens_served};
 ghost use Rattle.rpc_journal.specs.Table.{past};
 ghost use Rattle.rpc_calls.specs.Arrivals.{CanTake, IsLiveCall, Took};
 
 use super::Calls;
-use crate::handlers::reserve_call;
 use crate::room::take_room;
 use crate::served::serve;
-use crate::state_changes::close_at;
 use rpc_handlers::Handler;
-use rpc_ids::{MethodRef, Status};
+use rpc_ids::MethodRef;
 use rpc_journal::{Arrived, Entry, EntryKind};
 use rpc_packet::Packet;
 use std::alloc::AllocError;
@@ -36,14 +35,14 @@ impl<H: Handler> Calls<H> {
         ensures err { OnErr result (self.new ≡ self.old) }
     {
         let at = self.journal.len();
-        let call = self.states.calls.len();
+        let call = self.states.all().calls.len();
         if call >= MAX_CALLS {
             return Err(AllocError);
         }
-        reserve_call(&mut self.states, &mut self.handlers)?;
-        take_room(&mut self.journal, &mut self.items, &self.states.calls, 2, 2)?;
+        self.handlers.reserve(1)?;
+        take_room(&mut self.journal, &mut self.items, self.states.owed(), 2, 2)?;
         let (packet, state) = serve(self.alloc, p, method, at)?;
-        self.states.calls.push_reserved(state);
+        self.states.open(state)?;
         self.handlers.push_reserved(Some(handler));
         self.journal.push(Entry {
             seat,
@@ -61,7 +60,7 @@ impl<H: Handler> Calls<H> {
         old: u32,
         handler: H,
     ) -> Result<Arrived, AllocError>
-        requires take { let n = call_count (past self.old) in CanTake self.old.setting self.old.entries seat p.now (opened n (both (ends_and_clears old Status.Cancelled) (opens_served p.now method n))) }
+        requires take { let n = call_count (past self.old) in CanTake self.old.setting self.old.entries seat p.now (opened n (both (ends_and_clears old Cancelled) (opens_served p.now method n))) }
         requires live { IsLiveCall (past self.old) old }
         requires able { H.can_act handler }
         requires first { H.now handler ≡ H.rule.first self.old.setting.seed method }
@@ -70,15 +69,14 @@ impl<H: Handler> Calls<H> {
         ensures err { OnErr result (self.new ≡ self.old) }
     {
         let at = self.journal.len();
-        let call = self.states.calls.len();
+        let call = self.states.all().calls.len();
         if call >= MAX_CALLS {
             return Err(AllocError);
         }
-        reserve_call(&mut self.states, &mut self.handlers)?;
-        take_room(&mut self.journal, &mut self.items, &self.states.calls, 2, 2)?;
+        self.handlers.reserve(1)?;
+        take_room(&mut self.journal, &mut self.items, self.states.owed(), 2, 2)?;
         let (packet, state) = serve(self.alloc, p, method, at)?;
-        close_at(&mut self.states.calls, old as usize, at, Status::Cancelled);
-        self.states.calls.push_reserved(state);
+        self.states.open_anew(old, at, state)?;
         self.handlers.push_reserved(Some(handler));
         self.journal.push(Entry {
             seat,

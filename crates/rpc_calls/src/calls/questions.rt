@@ -4,7 +4,8 @@ ghost use Rattle.rpc_journal.specs.Calls.{call_at, call_count, end_of};
 ghost use Rattle.rpc_journal.specs.Conditions.{IsCall};
 ghost use Rattle.rpc_journal.specs.Items.{halt_reason, input_ended as no_input_left};
 ghost use Rattle.rpc_journal.specs.Queues.{waiting_of};
-ghost use Rattle.rpc_journal.specs.Quiet.{is_settled as settles};
+ghost use Rattle.rpc_journal.specs.Marks.{is_empty};
+ghost use Rattle.rpc_journal.specs.Quiet.{all_below, is_settled as settles};
 ghost use Rattle.rpc_journal.specs.Table.{past};
 
 use super::Calls;
@@ -19,7 +20,7 @@ impl<H: Handler> Calls<H> {
     pub fn count(&self) -> u32
         ensures { result ≡ call_count (past self.now) }
     {
-        self.states.calls.len() as u32
+        self.states.all().calls.len() as u32
     }
 
     /// The name of this call.
@@ -27,7 +28,7 @@ impl<H: Handler> Calls<H> {
         requires { IsCall self.now.setting self.now.entries call }
         ensures { option_map (λ o. o.name) (call_at (past self.now) call) ≡ Some result }
     {
-        self.states.calls[call as usize].name
+        self.states.all().calls[call as usize].name
     }
 
     /// The method of this call.
@@ -35,7 +36,7 @@ impl<H: Handler> Calls<H> {
         requires { IsCall self.now.setting self.now.entries call }
         ensures { option_map (λ o. o.method) (call_at (past self.now) call) ≡ Some result }
     {
-        self.states.calls[call as usize].method
+        self.states.all().calls[call as usize].method
     }
 
     /// The status with which this call ended.
@@ -43,7 +44,7 @@ impl<H: Handler> Calls<H> {
         requires { IsCall self.now.setting self.now.entries call }
         ensures { result ≡ end_of (past self.now) call }
     {
-        match self.states.state(call) {
+        match self.states.all().state(call) {
             Some(state) => state.status,
             None => None,
         }
@@ -53,7 +54,7 @@ impl<H: Handler> Calls<H> {
     pub fn halted(&self) -> Option<Why>
         ensures { result ≡ halt_reason (past self.now) }
     {
-        self.states.halted
+        self.states.all().halted
     }
 
     // Whether the input has ended.
@@ -61,7 +62,7 @@ impl<H: Handler> Calls<H> {
     pub(crate) fn input_ended(&self) -> bool
         ensures { result ≡ no_input_left (past self.now) }
     {
-        self.states.input_ended
+        self.states.all().input_ended
     }
 
     /// How many events wait for this call.
@@ -69,10 +70,17 @@ impl<H: Handler> Calls<H> {
         requires { IsCall self.now.setting self.now.entries call }
         ensures { result ≡ length (waiting_of (past self.now) call) }
     {
-        match self.states.state(call) {
+        match self.states.all().state(call) {
             Some(state) => state.waiting.len() as u64,
             None => 0,
         }
+    }
+
+    /// Whether no event waits for any call.
+    pub fn none_waiting(&self) -> bool
+        ensures { result ≡ all_below (call_count (past self.now)) (λ c. is_empty (waiting_of (past self.now) c)) }
+    {
+        self.states.none_waiting()
     }
 
     /// Whether nothing is left to do: the input has ended, no call runs, no event of a call that wasn't cancelled waits,
@@ -80,9 +88,9 @@ impl<H: Handler> Calls<H> {
     pub fn settled(&self) -> bool
         ensures { result ≡ settles (past self.now) }
     {
-        let still = all_still(&self.states);
+        let still = all_still(self.states.all());
         let flushed = self.items.is_empty();
-        is_settled(self.states.input_ended, still, flushed)
+        is_settled(self.states.all().input_ended, still, flushed)
     }
 }
 

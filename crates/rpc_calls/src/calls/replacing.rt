@@ -1,8 +1,6 @@
 //! Handlers are replaced.
 ghost use Rattle.std.specs.Prelude.{◌≡◌, Ok, None, IfOk, OnOk, OnErr};
-ghost use Rattle.rpc_journal.specs.Calls.{end_of};
 ghost use Rattle.rpc_journal.specs.Changes.{ReplaceDid};
-ghost use Rattle.rpc_journal.specs.Conditions.{IsCall};
 ghost use Rattle.rpc_journal.specs.Lawful.{IsLegal};
 ghost use Rattle.rpc_journal.specs.Refusals.{replace_refusal as refusal_of};
 
@@ -67,12 +65,12 @@ impl<H: Handler> Calls<H> {
         ensures setting { self.new.setting ≡ self.old.setting }
         ensures err { OnErr result (self.new ≡ self.old) }
     {
-        if let Err(e) = take_room(&mut self.journal, &mut self.items, &self.states.calls, 0, 1) {
+        if let Err(e) = take_room(&mut self.journal, &mut self.items, self.states.owed(), 0, 1) {
             return Err((handler, e));
         }
         match handler.memo() {
             Ok(memo) => {
-                let runs = self.states.calls[call as usize].run.is_some();
+                let runs = self.states.all().calls[call as usize].run.is_some();
                 let old = swap_handler(&mut self.handlers, call as usize, handler, runs);
                 self.journal.push(Entry {
                     seat,

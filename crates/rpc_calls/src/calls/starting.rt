@@ -14,7 +14,6 @@ use crate::answer_items::MAX_RUN_ITEMS;
 use crate::handlers::take_handler;
 use crate::room::take_room;
 use crate::running::Running;
-use crate::state_changes::start_at;
 use rpc_handlers::Handler;
 use rpc_journal::{Entry, EntryKind, MAX_ENTRIES, StartOfRefused, StartRefused};
 use std::alloc::AllocError;
@@ -31,7 +30,7 @@ impl<H: Handler> Calls<H> {
         if self.journal.len() >= MAX_ENTRIES {
             return Err(StartOfRefused::JournalFull);
         }
-        if !self.states.is_ready(call) {
+        if !self.states.all().is_ready(call) {
             return Err(StartOfRefused::NotReady);
         }
         match self.begin(seat, call) {
@@ -66,10 +65,7 @@ impl<H: Handler> Calls<H> {
         ensures none { IfNone result (NoneReady (past self.now)) }
         ensures legal { IsLegal H.rule self.now.setting self.now.entries }
     {
-        match self.states.first_ready() {
-            Some(call) => Some(call as u32),
-            None => None,
-        }
+        self.states.first_ready()
     }
 
     // A run of a ready call.
@@ -86,12 +82,12 @@ impl<H: Handler> Calls<H> {
         take_room(
             &mut self.journal,
             &mut self.items,
-            &self.states.calls,
+            self.states.owed(),
             MAX_RUN_ITEMS,
             2,
         )?;
         let handler = take_handler(&mut self.handlers, call as usize);
-        let oldest = start_at(&mut self.states.calls, call as usize, seat);
+        let oldest = self.states.start(call, seat);
         self.journal.push(Entry {
             seat,
             kind: EntryKind::Start(call),

@@ -8,7 +8,6 @@ ghost use Rattle.rpc_journal.specs.Refusals.{is_full};
 
 use super::Calls;
 use crate::room::take_room;
-use crate::telling::{tell_time, widen_all};
 use rpc_handlers::Handler;
 use rpc_journal::{Entry, EntryKind, MAX_ENTRIES, StartRefused};
 use std::alloc::AllocError;
@@ -41,9 +40,9 @@ impl<H: Handler> Calls<H> {
         ensures err { OnErr result (self.new ≡ self.old) }
     {
         let at = self.journal.len();
-        widen_all(&mut self.states.calls)?;
-        take_room(&mut self.journal, &mut self.items, &self.states.calls, 0, 1)?;
-        tell_time(&mut self.states.calls, at, now);
+        self.states.widen_all()?;
+        take_room(&mut self.journal, &mut self.items, self.states.owed(), 0, 1)?;
+        self.states.tell_time(at, now);
         self.journal.push(Entry {
             seat,
             kind: EntryKind::Tick(now),

@@ -1,6 +1,5 @@
 //! A server with three methods on channel 1, and what comes to it.
 ghost use Rattle.std.specs.Prelude.{◌≡◌, IfOk};
-ghost use Rattle.rpc_handlers.specs.declared.event.Memo.{Memo};
 ghost use Rattle.rpc_ids.specs.declared.method.Role.TheVariants.{Server};
 ghost use Rattle.rpc_journal.specs.Lawful.{hears};
 

@@ -1,6 +1,5 @@
 //! Rows of outside values: what arrives, what its arrival answers, and what goes out.
 ghost use Rattle.std.specs.Prelude.{◌≡◌};
-ghost use Rattle.rpc_handlers.specs.declared.event.Memo.{Memo};
 ghost use Rattle.rpc_ids.specs.declared.method.Role.TheVariants.{Server};
 
 use super::desk::{arrive, letters, next_sent, open_table, packet_on};

@@ -1,6 +1,7 @@
-use Rattle.std.proofs.Common.{◌≡◌, ◌++◌, ◌∙◌, ap, subst, arith}
+use Rattle.std.proofs.Common.{◌≡◌, ◌++◌, ◌∙◌, length, slice_get, ap, sym, subst, arith}
 use Rattle.std.proofs.lemmas.Option.{get_or_from_slice_get}
 use Rattle.rpc_journal.specs.declared.call_state.CallState.{CallState}
+use Rattle.rpc_journal.specs.declared.call_states.CallStates.{CallStates}
 use Rattle.rpc_journal.specs.Touch.{finishing, hears_answer}
 use Rattle.rpc_calls.specs.AnswerItems.{answer_items, end_given}
 use Rattle.rpc_calls.specs.Handlers.{over_state}
@@ -9,19 +10,27 @@ use Rattle.rpc_calls.specs.Turns.{Turns}
 use Rattle.rpc_calls.proofs.run_end.end_run.Goals as goal
 
 pub index-requires-2 : goal.index-requires-2
-index-requires-2 c = omega (arith, c.finish_at.new.calls.ok.0, (c.finish_at.ensures.change 0).many, c.requires.there)
+index-requires-2 c = omega (
+  arith,
+  c.all-2.result.now.calls.ok.0,
+  ap (λ (t : CallStates). length t.calls.items) c.all-2.ensures,
+  ap (λ (t : CallStates). length t.calls.items) c.set_unflushed.ensures,
+  (c.finish.ensures.change 0).many,
+  c.requires.there,
+)
 
 pub returns-clause-items : goal.returns-clause-items
 returns-clause-items c = λ r is.
     subst (λ q. c.say_run-end.new.items.items ≡ c.args.items.now.items ++ answer_items c.args.call q.name q.method.kind q.cancelled (hears_answer q) c.args.copies.outs.items c.args.copies.end)
-    (c.index.ensures ∙ get_or_from_slice_get c.args.states.now.calls.items c.args.call r c.index.result.now is) c.say_run-end.ensures.items
+    (c.index.ensures ∙ get_or_from_slice_get c.all.result.now.calls.items c.args.call r c.index.result.now (ap (λ (t : CallStates). slice_get t.calls.items c.args.call) c.all.ensures ∙ is)) c.say_run-end.ensures.items
 
 pub returns-clause-change : goal.returns-clause-change
 returns-clause-change c = λ at r is.
-    subst (λ e. ChangesAt c.args.call (Turns at (finishing e)) c.args.states.now.calls.items c.finish_at.new.calls.items)
-    (c.say_run-end.ensures.end ∙ ap (λ (q : CallState). end_given q.cancelled (hears_answer q) c.args.copies.end) (c.index.ensures ∙ get_or_from_slice_get c.args.states.now.calls.items c.args.call r c.index.result.now is))
-    (c.finish_at.ensures.change at)
+    subst (λ e. ChangesAt c.args.call (Turns at (finishing e)) c.args.states.now.calls.items c.set_unflushed.new.self.calls.items)
+    (c.say_run-end.ensures.end ∙ ap (λ (q : CallState). end_given q.cancelled (hears_answer q) c.args.copies.end)
+    (c.index.ensures ∙ get_or_from_slice_get c.all.result.now.calls.items c.args.call r c.index.result.now (ap (λ (t : CallStates). slice_get t.calls.items c.args.call) c.all.ensures ∙ is)))
+    (subst (λ t. ChangesAt c.args.call (Turns at (finishing c.say_run-end.result)) c.args.states.now.calls.items t.calls.items) (sym c.set_unflushed.ensures) (c.finish.ensures.change at))
 
 pub returns-clause-over : goal.returns-clause-over
 returns-clause-over c = λ x is.
-    c.is_over.ensures ∙ ap over_state (c.index-2.ensures ∙ get_or_from_slice_get c.finish_at.new.calls.items c.args.call x c.index-2.result.now is)
+    c.is_over.ensures ∙ ap over_state (c.index-2.ensures ∙ get_or_from_slice_get c.all-2.result.now.calls.items c.args.call x c.index-2.result.now (ap (λ (t : CallStates). slice_get t.calls.items c.args.call) c.all-2.ensures ∙ is))

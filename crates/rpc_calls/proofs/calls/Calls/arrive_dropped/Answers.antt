@@ -5,7 +5,7 @@ use Rattle.rpc_journal.specs.declared.entry.EntryKind.TheVariants.{Arrive}
 use Rattle.rpc_journal.specs.History.{adding}
 use Rattle.rpc_journal.specs.Rows.{dropped}
 use Rattle.rpc_calls.specs.Arrivals.{CanTake, Took}
-use Rattle.rpc_calls.specs.Room.{items_owed, uncancelled, running}
+use Rattle.rpc_calls.specs.Owed.{items_of}
 use Rattle.rpc_calls.proofs.ArriveSteps.{arrives_dropped}
 use Rattle.rpc_calls.proofs.calls.Calls.arrive_dropped.Goals as goal
 
@@ -16,8 +16,8 @@ invariant_of-self-2 g c =
     c.in_ok-take_room.ensures.items
     (c.push.ensures.entries ∙ ap (λ es. adding es c.args.seat (Arrive c.in_ok-packet.packet)) c.in_ok-take_room.ensures.entries ∙ ap (λ q. adding c.self.inside.journal.entries c.args.seat (Arrive q)) c.in_ok-packet.ensures)
     c.push.ensures.spare
-    (subst (λ cs. length c.self.inside.items.items + items_owed cs + 0 ≤ deque_capacity c.take_room.new.items) c.deref.ensures.value c.in_ok-take_room.ensures.places)
-    (subst (λ cs. length c.self.inside.items.items + items_owed cs + 0 + (uncancelled cs + running cs + 2) + 1 ≤ c.take_room.new.journal.spare) c.deref.ensures.value c.in_ok-take_room.ensures.records)).table
+    (subst (λ o. length c.self.inside.items.items + items_of o + 0 ≤ deque_capacity c.take_room.new.items) c.owed.ensures.counts c.in_ok-take_room.ensures.places)
+    (subst (λ o. length c.self.inside.items.items + items_of o + 0 + (o.uncancelled + o.running + 2) + 1 ≤ c.take_room.new.journal.spare) c.owed.ensures.counts c.in_ok-take_room.ensures.records)).table
 
 pub returns-clause-took : goal.returns-clause-took
 returns-clause-took g c =
@@ -27,5 +27,5 @@ returns-clause-took g c =
     c.in_ok-take_room.ensures.items
     (c.push.ensures.entries ∙ ap (λ es. adding es c.args.seat (Arrive c.in_ok-packet.packet)) c.in_ok-take_room.ensures.entries ∙ ap (λ q. adding c.self.inside.journal.entries c.args.seat (Arrive q)) c.in_ok-packet.ensures)
     c.push.ensures.spare
-    (subst (λ cs. length c.self.inside.items.items + items_owed cs + 0 ≤ deque_capacity c.take_room.new.items) c.deref.ensures.value c.in_ok-take_room.ensures.places)
-    (subst (λ cs. length c.self.inside.items.items + items_owed cs + 0 + (uncancelled cs + running cs + 2) + 1 ≤ c.take_room.new.journal.spare) c.deref.ensures.value c.in_ok-take_room.ensures.records)).took
+    (subst (λ o. length c.self.inside.items.items + items_of o + 0 ≤ deque_capacity c.take_room.new.items) c.owed.ensures.counts c.in_ok-take_room.ensures.places)
+    (subst (λ o. length c.self.inside.items.items + items_of o + 0 + (o.uncancelled + o.running + 2) + 1 ≤ c.take_room.new.journal.spare) c.owed.ensures.counts c.in_ok-take_room.ensures.records)).took

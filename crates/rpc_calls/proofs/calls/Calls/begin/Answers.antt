@@ -1,8 +1,8 @@
-use Rattle.std.proofs.Common.{◌≡◌, ◌∙◌, ◌+◌, ◌≤◌, length, true, refl, ap, sym, subst}
+use Rattle.std.proofs.Common.{◌≡◌, ◌∙◌, ◌+◌, ◌≤◌, length, true, ap, sym, subst}
 use Rattle.std.specs.VecDeque.{deque_capacity}
 use Rattle.rpc_journal.specs.declared.entry.EntryKind.TheVariants.{Start}
 use Rattle.rpc_journal.specs.History.{adding}
-use Rattle.rpc_calls.specs.Room.{items_owed, uncancelled, running}
+use Rattle.rpc_calls.specs.Owed.{items_of}
 use Rattle.rpc_journal.specs.Items.{is_ready}
 use Rattle.rpc_journal.specs.Runs.{Begins}
 use Rattle.rpc_journal.specs.Table.{past}
@@ -14,8 +14,8 @@ pub take_handler-handler-requires-clause-kept : goal.take_handler-handler-requir
 take_handler-handler-requires-clause-kept g c = λ slot is.
     ready_slot _ _ _ _ _ _ _ _ _ slot c.self.invariant.stands (subst (λ t. is_ready (past t) c.args.call ≡ true) (sym c.self.view_is) c.requires) is
 
-pub start_at-oldest-requires-clause-waits : goal.start_at-oldest-requires-clause-waits
-start_at-oldest-requires-clause-waits g c = λ r is.
+pub start-oldest-requires-clause-waits : goal.start-oldest-requires-clause-waits
+start-oldest-requires-clause-waits g c = λ r is.
     (ready_row _ _ r (subst (λ t. is_ready (past t) c.args.call ≡ true) (sym c.self.view_is) c.requires) (c.self.invariant.stands.tells.calls.each _ r is)).waits
 
 pub begin-requires : goal.begin-requires
@@ -24,27 +24,27 @@ begin-requires g c =
 
 pub invariant_of-self-2 : goal.invariant_of-self-2
 invariant_of-self-2 g c =
-    table_started _ _ _ _ c.self.inside.journal c.push.new.self c.args.seat c.args.call c.self.inside.states (record c.self.inside.states { calls = c.start_at-oldest.new.calls }) _ _ _ _ _ _ _ c.self.invariant (subst (λ t. is_ready (past t) c.args.call ≡ true) (sym c.self.view_is) c.requires)
-    c.in_ok-take_room.ensures.items c.start_at-oldest.ensures.change (record { unflushed = refl; input = refl; halt = refl })
+    table_started _ _ _ _ c.self.inside.journal c.push.new.self c.args.seat c.args.call c.self.inside.states c.start-oldest.new.self _ _ _ _ _ _ _ c.self.invariant (subst (λ t. is_ready (past t) c.args.call ≡ true) (sym c.self.view_is) c.requires)
+    c.in_ok-take_room.ensures.items c.start-oldest.ensures.change c.start-oldest.ensures.outside
     c.take_handler-handler.ensures.many c.take_handler-handler.ensures.others c.take_handler-handler.ensures.left
     (c.push.ensures.entries ∙ ap (λ es. adding es c.args.seat (Start c.args.call)) c.in_ok-take_room.ensures.entries) c.push.ensures.spare
-    (subst (λ cs. length c.self.inside.items.items + items_owed cs + 513 ≤ deque_capacity c.take_room.new.items) c.deref.ensures.value c.in_ok-take_room.ensures.places)
-    (subst (λ cs. length c.self.inside.items.items + items_owed cs + 513 + (uncancelled cs + running cs + 2) + 2 ≤ c.take_room.new.journal.spare) c.deref.ensures.value c.in_ok-take_room.ensures.records)
+    (subst (λ o. length c.self.inside.items.items + items_of o + 513 ≤ deque_capacity c.take_room.new.items) c.owed.ensures.counts c.in_ok-take_room.ensures.places)
+    (subst (λ o. length c.self.inside.items.items + items_of o + 513 + (o.uncancelled + o.running + 2) + 2 ≤ c.take_room.new.journal.spare) c.owed.ensures.counts c.in_ok-take_room.ensures.records)
 
 pub returns-clause-begins : goal.returns-clause-begins
 returns-clause-begins g c =
     subst (λ t. Begins g.H.Handler.rule t.setting c.args.seat c.begin.result.run t.entries c.push.new.self.entries) c.self.view_is
     (subst (λ run. Begins g.H.Handler.rule c.self.inside.setting c.args.seat run c.self.inside.journal.entries c.push.new.self.entries)
-    (ap (λ n. record { call = c.args.call; seat = c.args.seat; place = n; event = c.start_at-oldest.result.event; state = g.H.Acts.now c.take_handler-handler.result }) (sym c.len-place.ensures.len) ∙ sym c.begin.ensures.run)
-    (begins_run g.H.Acts.now g.H.Acts.can_act _ _ c.self.inside.journal c.push.new.self c.args.seat c.args.call c.self.inside.states (record c.self.inside.states { calls = c.start_at-oldest.new.calls }) _ _ _ c.start_at-oldest.result c.take_handler-handler.result c.self.invariant (subst (λ t. is_ready (past t) c.args.call ≡ true) (sym c.self.view_is) c.requires)
-    c.start_at-oldest.ensures.change c.start_at-oldest.ensures.oldest c.take_handler-handler.ensures.it
+    (ap (λ n. record { call = c.args.call; seat = c.args.seat; place = n; event = c.start-oldest.result.event; state = g.H.Acts.now c.take_handler-handler.result }) (sym c.len-place.ensures.len) ∙ sym c.begin.ensures.run)
+    (begins_run g.H.Acts.now g.H.Acts.can_act _ _ c.self.inside.journal c.push.new.self c.args.seat c.args.call c.self.inside.states c.start-oldest.new.self _ _ _ c.start-oldest.result c.take_handler-handler.result c.self.invariant (subst (λ t. is_ready (past t) c.args.call ≡ true) (sym c.self.view_is) c.requires)
+    c.start-oldest.ensures.change c.start-oldest.ensures.oldest c.take_handler-handler.ensures.it
     (c.push.ensures.entries ∙ ap (λ es. adding es c.args.seat (Start c.args.call)) c.in_ok-take_room.ensures.entries)))
 
 pub returns-clause-legal : goal.returns-clause-legal
 returns-clause-legal g c =
-    (table_started _ _ _ _ c.self.inside.journal c.push.new.self c.args.seat c.args.call c.self.inside.states (record c.self.inside.states { calls = c.start_at-oldest.new.calls }) _ _ _ _ _ _ _ c.self.invariant (subst (λ t. is_ready (past t) c.args.call ≡ true) (sym c.self.view_is) c.requires)
-    c.in_ok-take_room.ensures.items c.start_at-oldest.ensures.change (record { unflushed = refl; input = refl; halt = refl })
+    (table_started _ _ _ _ c.self.inside.journal c.push.new.self c.args.seat c.args.call c.self.inside.states c.start-oldest.new.self _ _ _ _ _ _ _ c.self.invariant (subst (λ t. is_ready (past t) c.args.call ≡ true) (sym c.self.view_is) c.requires)
+    c.in_ok-take_room.ensures.items c.start-oldest.ensures.change c.start-oldest.ensures.outside
     c.take_handler-handler.ensures.many c.take_handler-handler.ensures.others c.take_handler-handler.ensures.left
     (c.push.ensures.entries ∙ ap (λ es. adding es c.args.seat (Start c.args.call)) c.in_ok-take_room.ensures.entries) c.push.ensures.spare
-    (subst (λ cs. length c.self.inside.items.items + items_owed cs + 513 ≤ deque_capacity c.take_room.new.items) c.deref.ensures.value c.in_ok-take_room.ensures.places)
-    (subst (λ cs. length c.self.inside.items.items + items_owed cs + 513 + (uncancelled cs + running cs + 2) + 2 ≤ c.take_room.new.journal.spare) c.deref.ensures.value c.in_ok-take_room.ensures.records)).legal
+    (subst (λ o. length c.self.inside.items.items + items_of o + 513 ≤ deque_capacity c.take_room.new.items) c.owed.ensures.counts c.in_ok-take_room.ensures.places)
+    (subst (λ o. length c.self.inside.items.items + items_of o + 513 + (o.uncancelled + o.running + 2) + 2 ≤ c.take_room.new.journal.spare) c.owed.ensures.counts c.in_ok-take_room.ensures.records)).legal

@@ -1,21 +1,19 @@
-use Rattle.std.proofs.Common.{◌∙◌, sym, subst}
+use Rattle.std.proofs.Common.{sym, subst}
 use Rattle.std.specs.VecDeque.{deque_capacity}
 use Rattle.rpc_journal.specs.Conditions.{IsInputOpen}
-use Rattle.rpc_journal.specs.History.{history}
-use Rattle.rpc_journal.proofs.VerdictLemmas.{history_length}
 use Rattle.rpc_calls.proofs.EndInSteps.{table_ended}
 use Rattle.rpc_calls.proofs.calls.Calls.end_in.Goals as goal
 
 pub invariant_of-self : goal.invariant_of-self
 invariant_of-self g c =
-    table_ended g.H.Acts.now g.H.Acts.can_act g.H.Handler.rule c.self.inside.setting c.self.inside.journal c.push.new.self c.args.seat c.self.inside.states c.end_in.new.self c.self.inside.handlers.items c.self.inside.items.items (deque_capacity c.self.inside.items) c.self.invariant
+    table_ended g.H.Acts.now g.H.Acts.can_act g.H.Handler.rule c.self.inside.setting c.self.inside.journal c.push.new.self c.args.seat c.len-at.result c.self.inside.states c.end_in.new.self c.self.inside.handlers.items c.self.inside.items.items (deque_capacity c.self.inside.items) c.self.invariant
     (subst (λ t. IsInputOpen t.setting t.entries c.args.seat) (sym c.self.view_is) c.requires)
-    (c.end_in.ensures.tells c.self.inside.setting (history c.self.inside.setting c.self.inside.journal.entries) c.args.seat (c.len-at.ensures.len ∙ sym (history_length c.self.inside.setting c.self.inside.journal.entries)) c.self.invariant.stands.tells)
+    c.len-at.ensures.len c.end_in.ensures.calls c.end_in.ensures.unflushed c.end_in.ensures.input c.end_in.ensures.halt c.end_in.ensures.newest
     c.push.ensures.entries c.push.ensures.spare
 
 pub returns-clause-legal : goal.returns-clause-legal
 returns-clause-legal g c =
-    (table_ended g.H.Acts.now g.H.Acts.can_act g.H.Handler.rule c.self.inside.setting c.self.inside.journal c.push.new.self c.args.seat c.self.inside.states c.end_in.new.self c.self.inside.handlers.items c.self.inside.items.items (deque_capacity c.self.inside.items) c.self.invariant
+    (table_ended g.H.Acts.now g.H.Acts.can_act g.H.Handler.rule c.self.inside.setting c.self.inside.journal c.push.new.self c.args.seat c.len-at.result c.self.inside.states c.end_in.new.self c.self.inside.handlers.items c.self.inside.items.items (deque_capacity c.self.inside.items) c.self.invariant
     (subst (λ t. IsInputOpen t.setting t.entries c.args.seat) (sym c.self.view_is) c.requires)
-    (c.end_in.ensures.tells c.self.inside.setting (history c.self.inside.setting c.self.inside.journal.entries) c.args.seat (c.len-at.ensures.len ∙ sym (history_length c.self.inside.setting c.self.inside.journal.entries)) c.self.invariant.stands.tells)
+    c.len-at.ensures.len c.end_in.ensures.calls c.end_in.ensures.unflushed c.end_in.ensures.input c.end_in.ensures.halt c.end_in.ensures.newest
     c.push.ensures.entries c.push.ensures.spare).legal

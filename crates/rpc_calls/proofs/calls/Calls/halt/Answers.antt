@@ -1,10 +1,14 @@
+use Rattle.std.proofs.Common.{◌≡◌, false, is_some, sym, subst}
+use Rattle.std.specs.VecDeque.{deque_capacity}
+use Rattle.rpc_calls.specs.TableHolds.{IsTable}
 use Rattle.rpc_calls.proofs.CalmSteps.{table_halted}
 use Rattle.rpc_calls.proofs.calls.Calls.halt.Goals as goal
 
 pub invariant_of-self : goal.invariant_of-self
 invariant_of-self g c =
-    table_halted _ _ _ _ _ _ _ _ _ _ _ _ c.self.invariant c.if-is_none.ensures c.requires c.push.ensures.entries c.push.ensures.spare
+    subst (λ t. IsTable g.H.Acts.now g.H.Acts.can_act g.H.Handler.rule c.self.inside.setting c.push.new.self t c.self.inside.handlers.items c.self.inside.items.items (deque_capacity c.self.inside.items)) (sym c.halt.ensures)
+    (table_halted _ _ _ _ _ _ _ _ _ _ _ _ c.self.invariant (subst (λ t. is_some t.halted ≡ false) c.all.ensures c.if-is_none.ensures) c.requires c.push.ensures.entries c.push.ensures.spare)
 
 pub returns-then-is_none-clause-legal : goal.returns-then-is_none-clause-legal
 returns-then-is_none-clause-legal g c =
-    (table_halted _ _ _ _ _ _ _ _ _ _ _ _ c.self.invariant c.if-is_none.ensures c.requires c.push.ensures.entries c.push.ensures.spare).legal
+    (table_halted _ _ _ _ _ _ _ _ _ _ _ _ c.self.invariant (subst (λ t. is_some t.halted ≡ false) c.all.ensures c.if-is_none.ensures) c.requires c.push.ensures.entries c.push.ensures.spare).legal

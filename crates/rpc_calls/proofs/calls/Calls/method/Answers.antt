@@ -1,4 +1,5 @@
-use Rattle.std.proofs.Common.{◌≡◌, ◌<◌, Some, option_map, subst, sym, arith}
+use Rattle.std.proofs.Common.{◌≡◌, ◌<◌, length, slice_get, Some, option_map, ap, subst, sym, arith}
+use Rattle.rpc_journal.specs.declared.call_states.CallStates.{CallStates}
 use Rattle.rpc_journal.specs.Calls.{call_at, call_count}
 use Rattle.rpc_journal.specs.Table.{past}
 use Rattle.rpc_journal.proofs.PlaceLemmas.{get_read}
@@ -10,4 +11,5 @@ returns g c =
     let calls = c.self.invariant.stands.tells.calls in
     let below = subst (λ t. c.args.call < call_count (past t)) (sym c.self.view_is) c.requires.below in
     subst (λ t. option_map (λ o. o.method) (call_at (past t) c.args.call) ≡ Some c.index.result.now.method) c.self.view_is
-    (method_is _ _ _ (calls.each _ _ (get_read c.self.inside.states.calls.items c.args.call c.index.result.now (omega (arith, below, calls.many)) c.index.ensures)))
+    (method_is _ _ _ (calls.each _ _ (subst (λ t. slice_get t.calls.items c.args.call ≡ Some c.index.result.now) c.all.ensures
+    (get_read c.all.result.now.calls.items c.args.call c.index.result.now (omega (arith, below, calls.many, ap (λ (t : CallStates). length t.calls.items) c.all.ensures)) c.index.ensures))))

@@ -1,4 +1,5 @@
 use Rattle.std.proofs.Common.{subst}
+use Rattle.rpc_journal.specs.Moves.{IsOpenMove}
 use Rattle.rpc_journal.specs.Table.{past}
 use Rattle.rpc_calls.specs.Arrivals.{IsLiveMove}
 use Rattle.rpc_calls.proofs.MoveLemmas.{live_move}
@@ -7,4 +8,4 @@ use Rattle.rpc_calls.proofs.calls.Calls.move_of.Goals as goal
 pub returns-clause-live : goal.returns-clause-live
 returns-clause-live g c =
     subst (λ t. IsLiveMove (past t) c.server_move.result) c.self.view_is
-    (live_move _ _ _ c.self.invariant.stands.tells.calls c.self.invariant.room.few c.server_move.ensures.call)
+    (live_move _ _ _ c.self.invariant.stands.tells.calls c.self.invariant.room.few (subst (λ t. IsOpenMove t.calls.items c.server_move.result) c.all.ensures c.server_move.ensures.call))

@@ -1,12 +1,13 @@
-use Rattle.std.proofs.Common.{◌≡◌, ◌∙◌, ◌+◌, ◌≤◌, None, Ok, length, is_some, ap, sym, subst, arith}
+use Rattle.std.proofs.Common.{◌≡◌, ◌∙◌, ◌+◌, ◌≤◌, None, Ok, length, is_some, slice_get, ap, sym, subst, arith}
 use Rattle.std.specs.VecDeque.{deque_capacity}
 use Rattle.std.proofs.lemmas.Option.{get_or_from_slice_get}
 use Rattle.rpc_journal.specs.declared.call_state.CallState.{CallState}
+use Rattle.rpc_journal.specs.declared.call_states.CallStates.{CallStates}
 use Rattle.rpc_journal.specs.declared.entry.EntryKind.TheVariants.{Replace}
 use Rattle.rpc_journal.specs.Changes.{ReplaceDid}
 use Rattle.rpc_journal.specs.History.{adding}
 use Rattle.rpc_journal.specs.Refusals.{replace_refusal}
-use Rattle.rpc_calls.specs.Room.{items_owed, uncancelled, running}
+use Rattle.rpc_calls.specs.Owed.{items_of}
 use Rattle.rpc_calls.proofs.ArriveSteps.{table_roomier}
 use Rattle.rpc_calls.proofs.ReplaceSteps.{table_replaced}
 use Rattle.rpc_calls.proofs.ReplaceTables.{handler_back, replaceable}
@@ -18,12 +19,12 @@ invariant_of-self-in-Ok g c =
     (table_replaced g.H.Acts.now g.H.Acts.can_act g.H.Handler.rule c.self.inside.setting c.self.inside.journal c.push.new.self c.args.seat c.args.call c.in-Ok.memo c.args.handler c.swap_handler-old.result c.self.inside.states c.self.inside.handlers.items c.swap_handler-old.new.handlers.items c.self.inside.items.items c.take_room.new.items.items _ _ c.take_room.new.journal.spare c.self.invariant unrefused
     (omega (arith, (replaceable c.self.inside.setting c.self.inside.journal.entries c.args.call unrefused).there, c.self.invariant.stands.tells.calls.many)) c.requires.able c.in-Ok.ensures
     (handler_back g.H.Acts.now g.H.Acts.can_act g.H.Handler.rule c.self.inside.setting c.self.inside.journal c.self.inside.states c.self.inside.handlers.items c.self.inside.items.items _ c.args.call c.is_some-runs.result c.swap_handler-old.result c.self.invariant unrefused
-    (λ r is. c.is_some-runs.ensures ∙ ap (λ (q : CallState). is_some q.run) (c.index.ensures ∙ get_or_from_slice_get c.self.inside.states.calls.items c.args.call r c.index.result.now is))
+    (λ r is. c.is_some-runs.ensures ∙ ap (λ (q : CallState). is_some q.run) (c.index.ensures ∙ get_or_from_slice_get c.all.result.now.calls.items c.args.call r c.index.result.now (ap (λ (t : CallStates). slice_get t.calls.items c.args.call) c.all.ensures ∙ is)))
     c.swap_handler-old.ensures.back)
     c.swap_handler-old.ensures.many c.swap_handler-old.ensures.others c.swap_handler-old.ensures.put c.in_default.ensures.items
     (c.push.ensures.entries ∙ ap (λ es. adding es c.args.seat (Replace c.args.call c.in-Ok.memo)) c.in_default.ensures.entries) c.push.ensures.spare
-    (subst (λ cs. length c.self.inside.items.items + items_owed cs + 0 ≤ deque_capacity c.take_room.new.items) c.deref.ensures.value c.in_default.ensures.places)
-    (subst (λ cs. length c.self.inside.items.items + items_owed cs + 0 + (uncancelled cs + running cs + 2) + 1 ≤ c.take_room.new.journal.spare) c.deref.ensures.value c.in_default.ensures.records)).table
+    (subst (λ o. length c.self.inside.items.items + items_of o + 0 ≤ deque_capacity c.take_room.new.items) c.owed.ensures.counts c.in_default.ensures.places)
+    (subst (λ o. length c.self.inside.items.items + items_of o + 0 + (o.uncancelled + o.running + 2) + 1 ≤ c.take_room.new.journal.spare) c.owed.ensures.counts c.in_default.ensures.records)).table
 
 pub invariant_of-self-in-Err-memo : goal.invariant_of-self-in-Err-memo
 invariant_of-self-in-Err-memo g c =
@@ -38,12 +39,12 @@ returns-in-Ok-clause-did g c =
     (table_replaced g.H.Acts.now g.H.Acts.can_act g.H.Handler.rule c.self.inside.setting c.self.inside.journal c.push.new.self c.args.seat c.args.call c.in-Ok.memo c.args.handler c.swap_handler-old.result c.self.inside.states c.self.inside.handlers.items c.swap_handler-old.new.handlers.items c.self.inside.items.items c.take_room.new.items.items _ (deque_capacity c.take_room.new.items) c.take_room.new.journal.spare c.self.invariant unrefused
     (omega (arith, (replaceable c.self.inside.setting c.self.inside.journal.entries c.args.call unrefused).there, c.self.invariant.stands.tells.calls.many)) c.requires.able c.in-Ok.ensures
     (handler_back g.H.Acts.now g.H.Acts.can_act g.H.Handler.rule c.self.inside.setting c.self.inside.journal c.self.inside.states c.self.inside.handlers.items c.self.inside.items.items _ c.args.call c.is_some-runs.result c.swap_handler-old.result c.self.invariant unrefused
-    (λ r is. c.is_some-runs.ensures ∙ ap (λ (q : CallState). is_some q.run) (c.index.ensures ∙ get_or_from_slice_get c.self.inside.states.calls.items c.args.call r c.index.result.now is))
+    (λ r is. c.is_some-runs.ensures ∙ ap (λ (q : CallState). is_some q.run) (c.index.ensures ∙ get_or_from_slice_get c.all.result.now.calls.items c.args.call r c.index.result.now (ap (λ (t : CallStates). slice_get t.calls.items c.args.call) c.all.ensures ∙ is)))
     c.swap_handler-old.ensures.back)
     c.swap_handler-old.ensures.many c.swap_handler-old.ensures.others c.swap_handler-old.ensures.put c.in_default.ensures.items
     (c.push.ensures.entries ∙ ap (λ es. adding es c.args.seat (Replace c.args.call c.in-Ok.memo)) c.in_default.ensures.entries) c.push.ensures.spare
-    (subst (λ cs. length c.self.inside.items.items + items_owed cs + 0 ≤ deque_capacity c.take_room.new.items) c.deref.ensures.value c.in_default.ensures.places)
-    (subst (λ cs. length c.self.inside.items.items + items_owed cs + 0 + (uncancelled cs + running cs + 2) + 1 ≤ c.take_room.new.journal.spare) c.deref.ensures.value c.in_default.ensures.records)).did)
+    (subst (λ o. length c.self.inside.items.items + items_of o + 0 ≤ deque_capacity c.take_room.new.items) c.owed.ensures.counts c.in_default.ensures.places)
+    (subst (λ o. length c.self.inside.items.items + items_of o + 0 + (o.uncancelled + o.running + 2) + 1 ≤ c.take_room.new.journal.spare) c.owed.ensures.counts c.in_default.ensures.records)).did)
 
 pub returns-in-Ok-clause-legal : goal.returns-in-Ok-clause-legal
 returns-in-Ok-clause-legal g c =
@@ -51,9 +52,9 @@ returns-in-Ok-clause-legal g c =
     (table_replaced g.H.Acts.now g.H.Acts.can_act g.H.Handler.rule c.self.inside.setting c.self.inside.journal c.push.new.self c.args.seat c.args.call c.in-Ok.memo c.args.handler c.swap_handler-old.result c.self.inside.states c.self.inside.handlers.items c.swap_handler-old.new.handlers.items c.self.inside.items.items c.take_room.new.items.items _ (deque_capacity c.take_room.new.items) c.take_room.new.journal.spare c.self.invariant unrefused
     (omega (arith, (replaceable c.self.inside.setting c.self.inside.journal.entries c.args.call unrefused).there, c.self.invariant.stands.tells.calls.many)) c.requires.able c.in-Ok.ensures
     (handler_back g.H.Acts.now g.H.Acts.can_act g.H.Handler.rule c.self.inside.setting c.self.inside.journal c.self.inside.states c.self.inside.handlers.items c.self.inside.items.items _ c.args.call c.is_some-runs.result c.swap_handler-old.result c.self.invariant unrefused
-    (λ r is. c.is_some-runs.ensures ∙ ap (λ (q : CallState). is_some q.run) (c.index.ensures ∙ get_or_from_slice_get c.self.inside.states.calls.items c.args.call r c.index.result.now is))
+    (λ r is. c.is_some-runs.ensures ∙ ap (λ (q : CallState). is_some q.run) (c.index.ensures ∙ get_or_from_slice_get c.all.result.now.calls.items c.args.call r c.index.result.now (ap (λ (t : CallStates). slice_get t.calls.items c.args.call) c.all.ensures ∙ is)))
     c.swap_handler-old.ensures.back)
     c.swap_handler-old.ensures.many c.swap_handler-old.ensures.others c.swap_handler-old.ensures.put c.in_default.ensures.items
     (c.push.ensures.entries ∙ ap (λ es. adding es c.args.seat (Replace c.args.call c.in-Ok.memo)) c.in_default.ensures.entries) c.push.ensures.spare
-    (subst (λ cs. length c.self.inside.items.items + items_owed cs + 0 ≤ deque_capacity c.take_room.new.items) c.deref.ensures.value c.in_default.ensures.places)
-    (subst (λ cs. length c.self.inside.items.items + items_owed cs + 0 + (uncancelled cs + running cs + 2) + 1 ≤ c.take_room.new.journal.spare) c.deref.ensures.value c.in_default.ensures.records)).table.legal
+    (subst (λ o. length c.self.inside.items.items + items_of o + 0 ≤ deque_capacity c.take_room.new.items) c.owed.ensures.counts c.in_default.ensures.places)
+    (subst (λ o. length c.self.inside.items.items + items_of o + 0 + (o.uncancelled + o.running + 2) + 1 ≤ c.take_room.new.journal.spare) c.owed.ensures.counts c.in_default.ensures.records)).table.legal

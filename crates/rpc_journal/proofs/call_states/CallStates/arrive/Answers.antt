@@ -1,5 +1,5 @@
 -- Each move is made as its row says, over a table with more room.
-use Rattle.std.proofs.Common.{◌∷◌, length, refl, ap, sym, ◌∙◌, subst, arith}
+use Rattle.std.proofs.Common.{◌∷◌, length, refl, ap, ◌∙◌, subst, arith}
 use Rattle.rpc_journal.specs.declared.arrival_move.Move.TheVariants.{Drop, Reply, Close, Open, OpenAnew, Queue, Complete}
 use Rattle.rpc_handlers.specs.declared.event.Event.TheVariants.{Message}
 use Rattle.rpc_journal.specs.Rows.{no_effect, puts_event}
@@ -9,27 +9,25 @@ use Rattle.rpc_journal.specs.declared.entry.EntryKind.TheVariants.{Arrive}
 use Rattle.rpc_journal.specs.Tells.{IsOpenAt, Tells}
 use Rattle.rpc_journal.specs.Touch.{IsServed, deed_by}
 use Rattle.rpc_journal.proofs.OpenLemmas.{arrived}
-use Rattle.rpc_journal.proofs.RoomLemmas.{items_same, on_err_of, on_ok, same_table_open, same_table_tells, same_table_trans}
+use Rattle.rpc_journal.proofs.RoomLemmas.{on_err, on_ok, same_table_open, same_table_tells, same_table_trans}
 use Rattle.rpc_journal.proofs.TableSteps.{table_idle}
 use Rattle.rpc_journal.proofs.call_states.CallStates.arrive.Goals as goal
-
-pub returns-in_err-reserve-in-OpenAnew-clause-err : goal.returns-in_err-reserve-in-OpenAnew-clause-err
-returns-in_err-reserve-in-OpenAnew-clause-err c =
-    on_err_of _ (same_table_trans c.args.self.now c.make_room-in-OpenAnew.new.self _ c.make_room-in-OpenAnew.ensures.same
-    (items_same c.make_room-in-OpenAnew.new.self _ c.reserve.ensures.items refl refl refl))
 
 pub open_anew-requires-clause-live : goal.open_anew-requires-clause-live
 open_anew-requires-clause-live c =
     let opened : IsOpenAt c.args.self.now.calls.items c.in-OpenAnew.call = rw c.in-OpenAnew.is at c.requires in
-    subst (λ xs. IsOpenAt xs c.in-OpenAnew.call) (sym c.reserve.ensures.items)
-    (same_table_open c.args.self.now c.make_room-in-OpenAnew.new.self c.in-OpenAnew.call c.make_room-in-OpenAnew.ensures.same opened)
+    same_table_open c.args.self.now c.make_room-in-OpenAnew.new.self c.in-OpenAnew.call c.make_room-in-OpenAnew.ensures.same opened
+
+pub returns-in_ok-make_room-in-OpenAnew-clause-err : goal.returns-in_ok-make_room-in-OpenAnew-clause-err
+returns-in_ok-make_room-in-OpenAnew-clause-err c =
+    on_err c.open_anew.result (same_table_trans c.args.self.now c.make_room-in-OpenAnew.new.self _ c.make_room-in-OpenAnew.ensures.same) c.open_anew.ensures.err
 
 pub returns-in-Drop-clause-tells : goal.returns-in-Drop-clause-tells
 returns-in-Drop-clause-tells c = λ set ds seat place row tells.
     arrived set ds seat c.args.p.now Drop c.args.self.now (row ∙ ap (λ m. row_of m c.args.p.now (call_count ds)) c.in-Drop.is)
     (table_idle ds (deed_by seat (Arrive c.args.p.now) no_effect) c.args.self.now c.args.self.now tells
     (record { start = λ k. refl; finish = λ k. refl; cancel = λ k. refl; ends = refl; drops = refl; puts = refl; says = λ k. refl })
-    refl (record { unflushing = refl; going_on = refl; running = refl }) refl (omega arith) refl refl)
+    refl (record { unflushing = refl; going_on = refl; running = refl }) refl refl (omega arith) refl refl)
 
 pub returns-in-Reply-clause-tells : goal.returns-in-Reply-clause-tells
 returns-in-Reply-clause-tells c =
@@ -54,13 +52,14 @@ returns-in_ok-state-in-Open-clause-tells c =
     (inner ds seat c.args.p.now c.in-Open.method tells served))
     c.open.ensures.tells
 
-pub returns-in_ok-reserve-in-OpenAnew-clause-tells : goal.returns-in_ok-reserve-in-OpenAnew-clause-tells
-returns-in_ok-reserve-in-OpenAnew-clause-tells c = λ set ds seat place row tells.
+pub returns-in_ok-make_room-in-OpenAnew-clause-tells : goal.returns-in_ok-make_room-in-OpenAnew-clause-tells
+returns-in_ok-make_room-in-OpenAnew-clause-tells c =
+    on_ok c.open_anew.result
+    (λ inner set ds seat place row tells.
     arrived set ds seat c.args.p.now (OpenAnew c.in-OpenAnew.method c.in-OpenAnew.call) c.open_anew.new.self (row ∙ ap (λ m. row_of m c.args.p.now (call_count ds)) c.in-OpenAnew.is)
-    (c.open_anew.ensures.tells ds seat c.args.p.now c.in-OpenAnew.method place
-    (same_table_tells ds c.make_room-in-OpenAnew.new.self _ (items_same c.make_room-in-OpenAnew.new.self _ c.reserve.ensures.items refl refl refl)
-    (same_table_tells ds _ _ c.make_room-in-OpenAnew.ensures.same tells))
-    c.in_ok-state-in-OpenAnew.ensures)
+    (inner ds seat c.args.p.now c.in-OpenAnew.method place (same_table_tells ds _ _ c.make_room-in-OpenAnew.ensures.same tells)
+    c.in_ok-state-in-OpenAnew.ensures))
+    c.open_anew.ensures.tells
 
 pub returns-in_ok-make_room-in-Queue-clause-tells : goal.returns-in_ok-make_room-in-Queue-clause-tells
 returns-in_ok-make_room-in-Queue-clause-tells c = λ set ds seat place row tells.

@@ -15,6 +15,6 @@ returns c = record {
       let its = tells.calls.each _ _ there in
       table_one ds (deed_by seat (Cancel c.args.call) (cancel_effect set ds c.args.call (call_at ds c.args.call))) c.args.self.now _ c.args.call _ _ c.cancel.new.self tells there
       (cancel_one set ds seat c.args.call _ its role)
-      (c.cancel.ensures.state (length ds)) (record { unflushing = refl; going_on = refl; running = refl }) refl
+      (c.cancel.ensures.state (length ds)) (record { unflushing = refl; going_on = refl; running = refl }) refl refl
       (ap (λ n. c.args.self.now.unflushed + n) (c.items_of_cancel-items.ensures ∙ sym (cancel_many set ds c.args.call _ its role))) refl refl;
 }

@@ -18,6 +18,6 @@ returns c = record {
       subst (λ end. IsTouched (length ds) (finishing end) c.index_mut-state.result.now c.finish.new.self) c.end_given-end.ensures (c.finish.ensures.state (length ds)) in
       table_one ds (deed_by seat (Finish c.args.call c.args.a.now) (finish_effect set ds c.args.call c.args.a.now (call_at ds c.args.call))) c.args.self.now _ c.args.call _ _ c.finish.new.self tells there
       (finish_touches seat c.args.call c.args.a.now _ _ _ so)
-      touched (record { unflushing = refl; going_on = refl; running = refl }) refl
+      touched (record { unflushing = refl; going_on = refl; running = refl }) refl refl
       (ap (λ n. c.args.self.now.unflushed + n) (c.items_given-items.ensures ∙ sym so.many)) refl refl;
 }

@@ -9,6 +9,7 @@ returns-clause-same c =
     record {
       many = length-set c.args.self.now.calls.items c.args.call c.make_room.new.self;
       each = one_same c.args.self.now.calls.items c.args.call c.index_mut.result.now c.make_room.new.self there c.make_room.ensures.same;
+      newest = λ name. refl;
       unflushed = refl;
       input = refl;
       halt = refl;

@@ -10,4 +10,4 @@ pub returns-in-Some-clause-tells : goal.returns-in-Some-clause-tells
 returns-in-Some-clause-tells c = λ ds seat p status tells.
     table_idle ds (deed_by seat (Arrive p) (replied ServerError p status).does) c.args.self.now _ tells
     (record { start = λ k. refl; finish = λ k. refl; cancel = λ k. refl; ends = refl; drops = refl; puts = refl; says = λ k. refl })
-    refl (record { unflushing = refl; going_on = refl; running = refl }) refl c.in-Some.ensures.1 refl refl
+    refl (record { unflushing = refl; going_on = refl; running = refl }) refl refl c.in-Some.ensures.1 refl refl

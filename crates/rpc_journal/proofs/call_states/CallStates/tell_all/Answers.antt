@@ -14,6 +14,7 @@ loop-call-preserved c =
       told = told_more c.args.at c.args.notice _ c.loop-call.self.calls.items c.loop-call.call c.index_mut-state.result.now c.tell.new.self there
           c.loop-call.invariant.told (c.loop-call.invariant.rest c.loop-call.call (omega arith)) c.tell.ensures.state;
       rest = λ k from. get_other c.loop-call.self.calls.items c.loop-call.call k c.tell.new.self (λ same. omega (arith, same, from)) ∙ c.loop-call.invariant.rest k (omega (arith, from));
+      newest = c.loop-call.invariant.newest;
       unflushed = c.loop-call.invariant.unflushed;
       input = c.loop-call.invariant.input;
       halt = c.loop-call.invariant.halt;

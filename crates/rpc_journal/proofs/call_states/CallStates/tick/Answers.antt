@@ -3,6 +3,7 @@ use Rattle.rpc_journal.specs.declared.entry.EntryKind.TheVariants.{Tick}
 use Rattle.rpc_journal.specs.declared.notice.Notice.TheVariants.{Time}
 use Rattle.rpc_journal.specs.Tells.{IsToldAll}
 use Rattle.rpc_journal.specs.Touch.{deed_by}
+use Rattle.rpc_journal.proofs.NewestLemmas.{newest_kept}
 use Rattle.rpc_journal.proofs.NoticeLemmas.{notice_effect, step_told}
 use Rattle.rpc_journal.proofs.TableSteps.{tells_with}
 use Rattle.rpc_journal.proofs.call_states.CallStates.tick.Goals as goal
@@ -14,5 +15,6 @@ returns c = record {
       subst (λ n. IsToldAll n (Time c.args.now) c.args.self.now.calls.items c.tell_all.new.self.calls.items) place c.tell_all.ensures.calls in
       tells_with ds (deed_by seat (Tick c.args.now) (notice_effect ds (Time c.args.now))) c.args.self.now c.tell_all.new.self tells
       (step_told ds seat (Tick c.args.now) (Time c.args.now) _ _ (record { start = λ k. refl; finish = λ k. refl; cancel = λ k. refl }) tells.calls told)
+      (newest_kept ds (deed_by seat (Tick c.args.now) (notice_effect ds (Time c.args.now))) c.args.self.now.newest c.tell_all.new.self.newest tells.newest refl c.tell_all.ensures.newest)
       (record { unflushing = refl; going_on = refl; running = refl }) (omega (arith, c.tell_all.ensures.unflushed)) c.tell_all.ensures.input c.tell_all.ensures.halt;
 }

@@ -1,6 +1,0 @@
-use Rattle.std.proofs.Common.{◌≡◌, ◌≤◌, take}
-use Rattle.rpc_calls.specs.Room.{uncancelled}
-use Rattle.rpc_calls.proofs.room.count_uncancelled.Given as goal
-
-abbrev pub invariant-loop-state : goal.invariant-loop-state
-invariant-loop-state l = record { is : l.count ≡ uncancelled (take l.state-index l.calls); few : l.count ≤ l.state-index }

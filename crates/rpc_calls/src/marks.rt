@@ -1,0 +1,49 @@
+//! What a table's counts and its list of waiting calls know of one call.
+ghost use Rattle.std.specs.Prelude.{◌≡◌, ◌<◌, length, slice_get, Some};
+ghost use Rattle.rpc_journal.specs.declared.call_state.CallState.{CallState};
+ghost use Rattle.rpc_calls.specs.Marks.{marks_of, no_marks};
+
+use rpc_journal::{CallState, CallStates};
+
+/// What a table's counts and its list of waiting calls know of one call.
+#[derive(Clone, Copy, Debug)]
+pub struct Marks {
+    /// It can still be cancelled.
+    pub uncancelled: bool,
+    /// It runs.
+    pub runs: bool,
+    /// An event waits for it.
+    pub waits: bool,
+}
+
+impl Marks {
+    /// Those of a call that isn't there.
+    pub fn none() -> Marks
+        ensures { result ≡ no_marks }
+    {
+        Marks {
+            uncancelled: false,
+            runs: false,
+            waits: false,
+        }
+    }
+
+    /// Those of this call.
+    pub fn at(states: &CallStates, call: u32) -> Marks
+        requires { call < length states.now.calls.items }
+        ensures { (r : CallState) → slice_get states.now.calls.items call ≡ Some r → result ≡ marks_of r }
+    {
+        Marks::of(&states.calls[call as usize])
+    }
+
+    /// Those of a call in this state.
+    pub fn of(state: &CallState) -> Marks
+        ensures { result ≡ marks_of state.now }
+    {
+        Marks {
+            uncancelled: !state.cancelled,
+            runs: state.run.is_some(),
+            waits: !state.waiting.is_empty(),
+        }
+    }
+}
