@@ -3,6 +3,7 @@ use Rattle.std.proofs.Common.{◌≡◌, ◌⊎◌, ℕ, zero, suc, ◌+◌, ◌
 use Rattle.std.proofs.lemmas.Bool.{true≢false, and_parts, not-true}
 use Rattle.std.proofs.lemmas.List.{append-nil}
 use Rattle.rpc_journal.specs.declared.entry.Entry.{Entry}
+use Rattle.rpc_journal.specs.declared.entry.TheConstants.{MAX_ENTRIES}
 use Rattle.rpc_journal.specs.declared.setting.Setting.{Setting}
 use Rattle.rpc_journal.specs.Calls.{call_count}
 use Rattle.rpc_journal.specs.Choice.{NoneReady}
@@ -36,10 +37,10 @@ get_push (y ∷ h) e x (suc at) is = later (get_push h e x at is)
     later (inl there) = inl there
     later (inr last) = inr (ap suc last.0, last.1)
 
-pub room-push : (h : List Entry) (e : Entry) → HasRoom h → (takes_room e.kind ≡ true → length h < 1000000) → HasRoom (h ++ e ∷ [])
+pub room-push : (h : List Entry) (e : Entry) → HasRoom h → (takes_room e.kind ≡ true → length h < MAX_ENTRIES) → HasRoom (h ++ e ∷ [])
 room-push h e room fits at x there takes = by_place (get_push h e x at there)
   where
-    by_place : (slice_get h at ≡ Some x) ⊎ ((at ≡ length h) × (e ≡ x)) → at < 1000000
+    by_place : (slice_get h at ≡ Some x) ⊎ ((at ≡ length h) × (e ≡ x)) → at < MAX_ENTRIES
     by_place (inl before) = room at x before takes
     by_place (inr last) = omega (arith, last.0, fits (subst (λ y. takes_room y.kind ≡ true) (sym last.1) takes))
 

@@ -5,6 +5,7 @@ use Rattle.rpc_handlers.specs.HandlerRule.{HandlerRule}
 use Rattle.rpc_journal.specs.declared.answers.StartRefused.{StartRefused}
 use Rattle.rpc_journal.specs.declared.answers.StartRefused.TheVariants.{JournalFull, Memory}
 use Rattle.rpc_journal.specs.declared.entry.Entry.{Entry}
+use Rattle.rpc_journal.specs.declared.entry.TheConstants.{MAX_ENTRIES}
 use Rattle.rpc_journal.specs.declared.item.Item.{Item}
 use Rattle.rpc_journal.specs.declared.setting.Setting.{Setting}
 use Rattle.rpc_journal.specs.Choice.{NoneReady, SomeReady}
@@ -47,7 +48,7 @@ pub record RunsOn (rule : HandlerRule) (old now : Serving) : Type 0 where
   pub orderly : IsOrderly now
   pub same_items : items_flushed (deeds now) ≡ items_flushed (deeds old)
   pub leads : LeadsTo rule old (running old.table.entries) (running now.table.entries)
-  pub grew : (now ≡ old) ⊎ ((length old.table.entries < 1000000) × (length old.table.entries < length now.table.entries))
+  pub grew : (now ≡ old) ⊎ ((length old.table.entries < MAX_ENTRIES) × (length old.table.entries < length now.table.entries))
 
 pub runs_on_from : (rule : HandlerRule) (s : Serving) → IsOrderly s → RunsOn rule s s
 runs_on_from rule s orderly = record {
@@ -79,7 +80,7 @@ pub runs_on_more : (rule : HandlerRule) (old now next : Serving) → RunsOn rule
 runs_on_more rule old now next on works = runs_on_step rule old now next on (worked rule now next on.orderly works)
 
 pub runs_smaller : (rule : HandlerRule) (now next : Serving) → IsOrderly now → Works rule now (Ok true) next
-    → 1000000 - length next.table.entries < 1000000 - length now.table.entries
+    → MAX_ENTRIES - length next.table.entries < MAX_ENTRIES - length now.table.entries
 runs_smaller rule now next orderly works =
     let step = worked rule now next orderly works in omega (arith, step.below, step.grows)
 
@@ -92,8 +93,8 @@ runs_all rule old now next on works = subst (RunsAll rule old) (sym works.same) 
   grows = λ some. at some on.grew;
 }
   where
-    at : SomeReady (deeds old) → (now ≡ old) ⊎ ((length old.table.entries < 1000000) × (length old.table.entries < length now.table.entries))
-        → (length old.table.entries < 1000000) × (length old.table.entries < length now.table.entries)
+    at : SomeReady (deeds old) → (now ≡ old) ⊎ ((length old.table.entries < MAX_ENTRIES) × (length old.table.entries < length now.table.entries))
+        → (length old.table.entries < MAX_ENTRIES) × (length old.table.entries < length now.table.entries)
     at some (inl same) = absurd (not_ready (subst (λ s. NoneReady (deeds s)) same works.none_ready some.0) some.1)
       where
         not_ready : {b : Bool} → b ≡ false → b ≡ true → ⊥

@@ -6,6 +6,7 @@ use Rattle.std.proofs.lemmas.Option.{slice_get_within}
 use Rattle.rpc_handlers.specs.declared.answer.Answer.{Answer}
 use Rattle.rpc_handlers.specs.HandlerRule.{HandlerRule}
 use Rattle.rpc_journal.specs.declared.entry.Entry.{Entry}
+use Rattle.rpc_journal.specs.declared.entry.TheConstants.{MAX_ENTRIES}
 use Rattle.rpc_journal.specs.declared.entry.EntryKind.{EntryKind}
 use Rattle.rpc_journal.specs.declared.entry.EntryKind.TheVariants.{Start, Finish, Flush}
 use Rattle.rpc_journal.specs.declared.item.Item.{Item}
@@ -32,7 +33,7 @@ pub record StepsRun (rule : HandlerRule) (old new : Serving) : Type 0 where
   pub orderly : IsOrderly new
   pub same_items : items_flushed (deeds new) ≡ items_flushed (deeds old)
   pub ran : Ran rule old.table.setting old.table.entries new.table.entries
-  pub below : length old.table.entries < 1000000
+  pub below : length old.table.entries < MAX_ENTRIES
   pub grows : length old.table.entries < length new.table.entries
 
 -- one flush, as a step
@@ -75,8 +76,8 @@ run_runs_none set ds c a none k = at (c == k)
 more_within : {A : Type 0} (n : ℕ) (xs ys : List A) → n ≤ length xs → n ≤ length (xs ++ ys)
 more_within n xs ys within = omega (arith, within, length-append xs ys)
 
-pub below_full : (h : List Entry) → is_full h ≡ false → length h < 1000000
-below_full h room = leb-false 1000000 (length h) room
+pub below_full : (h : List Entry) → is_full h ≡ false → length h < MAX_ENTRIES
+below_full h room = leb-false MAX_ENTRIES (length h) room
 
 -- call c runs
 step_run : (rule : HandlerRule) (old : Serving) (c : ℕ) (a : Answer) → IsOrderly old → is_full old.table.entries ≡ false → IsFirstReady (deeds old) c
@@ -165,7 +166,7 @@ pub record StepsInput (kind : EntryKind) (old new : Serving) : Type 0 where
   pub same_items : items_flushed (deeds new) ≡ items_flushed (deeds old)
 
 pub input_steps : (old : Serving) (kind : EntryKind) → IsOrderly old → ((k : ℕ) → is_start_of k kind ≡ false) → ((k : ℕ) → is_finish_of k kind ≡ false)
-    → is_flush kind ≡ false → (takes_room kind ≡ true → length old.table.entries < 1000000) → StepsInput kind old (with_entry old input_seat kind)
+    → is_flush kind ≡ false → (takes_room kind ≡ true → length old.table.entries < MAX_ENTRIES) → StepsInput kind old (with_entry old input_seat kind)
 input_steps old kind orderly not_start not_finish not_flush room =
     let set = old.table.setting in
     let h = old.table.entries in

@@ -5,6 +5,7 @@ use mathlib.Core.List.{IsPrefix}
 use Rattle.rpc_packet.specs.declared.owned.Packet.{Packet}
 use Rattle.rpc_handlers.specs.HandlerRule.{HandlerRule}
 use Rattle.rpc_journal.specs.declared.entry.Entry.{Entry}
+use Rattle.rpc_journal.specs.declared.entry.TheConstants.{MAX_ENTRIES}
 use Rattle.rpc_journal.specs.declared.entry.EntryKind.{EntryKind}
 use Rattle.rpc_journal.specs.declared.entry.EntryKind.TheVariants.{Arrive, Start, Finish, Flush, EndIn}
 use Rattle.rpc_journal.specs.declared.setting.Setting.{Setting}
@@ -67,7 +68,7 @@ takes_room _ = false
 
 -- each Arrive and each Start stands at a place below 1,000,000
 abbrev pub HasRoom : List Entry → Type 0
-HasRoom h = (at : ℕ) (e : Entry) → slice_get h at ≡ Some e → takes_room e.kind ≡ true → at < 1000000
+HasRoom h = (at : ℕ) (e : Entry) → slice_get h at ≡ Some e → takes_room e.kind ≡ true → at < MAX_ENTRIES
 
 -- of the history of these packets, the shortest beginning that has 1,000,000 entries or more and that an Arrive or a
 -- Start follows

@@ -2,6 +2,7 @@
 use Rattle.std.specs.Prelude.{◌≡◌, ℕ, ◌<◌, ◌≤◌, true, false, List, ◌++◌, length, reverse, take, None}
 use Rattle.rpc_packet.specs.declared.owned.Packet.{Packet}
 use Rattle.rpc_handlers.specs.HandlerRule.{HandlerRule}
+use Rattle.rpc_journal.specs.declared.entry.TheConstants.{MAX_ENTRIES}
 use Rattle.rpc_journal.specs.Calls.{runner_of}
 use Rattle.rpc_journal.specs.Choice.{SomeReady}
 use Rattle.rpc_journal.specs.Items.{arrivals, flush_count, input_ended, items_flushed, items_sent}
@@ -34,7 +35,7 @@ LeadsTo rule s stage now = Reaches rule s.table.setting stage now
 -- where a call was ready, one ran below 1,000,000 entries
 abbrev pub Grows : Serving → Serving → Type 0
 Grows old new =
-    SomeReady (deeds old) → (length old.table.entries < 1000000) × (length old.table.entries < length new.table.entries)
+    SomeReady (deeds old) → (length old.table.entries < MAX_ENTRIES) × (length old.table.entries < length new.table.entries)
 
 -- all ready calls ran
 pub record RunsAll (rule : HandlerRule) (old new : Serving) : Type 0 where

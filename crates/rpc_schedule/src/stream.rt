@@ -3,7 +3,7 @@ ghost use Rattle.std.specs.Prelude.{◌≡◌, ℕ, ◌≤◌, [], ◌++◌, Err
 ghost use Rattle.link_io.specs.Causes.{Rose};
 ghost use Rattle.link_io.specs.Reading.{ConsumesUpTo};
 ghost use Rattle.link_io.specs.declared.reading.Ending.TheVariants.{Failed};
-ghost use Rattle.rpc_journal.specs.Items.{arrivals, items_flushed, items_sent};
+ghost use Rattle.rpc_journal.specs.Items.{items_flushed, items_sent};
 ghost use Rattle.rpc_schedule.specs.declared.ending.Ending.TheVariants.{SourceFault};
 ghost use Rattle.rpc_schedule.specs.declared.stop.Stop.TheVariants.{Journal};
 ghost use Rattle.rpc_schedule.specs.Fresh.{IsFresh};

@@ -1,11 +1,8 @@
 //! A replay with a server that hears no packet.
-ghost use Rattle.std.specs.Prelude.{◌≡◌, ℕ, ◌<◌, ◌≤◌, true, false, List, [], ◌∷◌, ◌++◌, length, take, None, IfOk, OnErr, if◌then◌else◌};
+ghost use Rattle.std.specs.Prelude.{◌≡◌, ◌<◌, true, false, [], ◌∷◌, None, IfOk, if◌then◌else◌};
 ghost use Rattle.rpc_journal.specs.declared.entry.EntryKind.TheVariants as kind;
-ghost use Rattle.rpc_journal.specs.Choice.{SomeReady};
 ghost use Rattle.rpc_journal.specs.History.{entry_by};
-ghost use Rattle.rpc_journal.specs.Items.{arrivals, input_ended};
-ghost use Rattle.rpc_schedule.specs.Schedule.{NoneWaits};
-ghost use Rattle.rpc_schedule.specs.Serving.{EndsInput, Feeds, Gives, Works, deeds, is_idle};
+ghost use Rattle.rpc_journal.specs.Items.{arrivals};
 
 use super::*;
 use link_io::{Failed, MemSource, Source};

@@ -1,4 +1,5 @@
 use Rattle.std.proofs.Common.{ℕ, ◌-◌, List, length}
+use Rattle.rpc_journal.specs.declared.entry.TheConstants.{MAX_ENTRIES}
 use Rattle.rpc_schedule.proofs.LoopLemmas.{RunsOn}
 use Rattle.rpc_schedule.proofs.settling.run_all.Given as goal
 
@@ -9,4 +10,4 @@ invariant-runs g l = record {
 }
 
 abbrev pub decreases-runs : goal.decreases-runs
-decreases-runs g l = 1000000 - length (g.T.Serves.seen l.server).table.entries
+decreases-runs g l = MAX_ENTRIES - length (g.T.Serves.seen l.server).table.entries

@@ -1,4 +1,5 @@
 use Rattle.std.proofs.Common.{◌≡◌, ℕ, ◌-◌, List, length}
+use Rattle.rpc_journal.specs.declared.entry.TheConstants.{MAX_ENTRIES}
 use Rattle.rpc_journal.specs.Items.{items_flushed}
 use Rattle.rpc_schedule.specs.Serving.{deeds}
 use Rattle.rpc_schedule.specs.Settling.{RunsAndFlushes}
@@ -12,4 +13,4 @@ invariant-rounds g l = record {
 }
 
 abbrev pub decreases-rounds : goal.decreases-rounds
-decreases-rounds g l = 1000000 - length (g.T.Serves.seen l.server).table.entries
+decreases-rounds g l = MAX_ENTRIES - length (g.T.Serves.seen l.server).table.entries
