@@ -7,6 +7,7 @@ use Rattle.rpc_handlers.specs.declared.event.Memo.{Memo}
 use Rattle.rpc_handlers.specs.HandlerRule.{HandlerRule}
 use Rattle.rpc_journal.specs.declared.answers.StartRefused.{StartRefused}
 use Rattle.rpc_journal.specs.declared.entry.Entry.{Entry}
+use Rattle.rpc_journal.specs.declared.entry.TheConstants.{MAX_ENTRIES}
 use Rattle.rpc_journal.specs.declared.entry.EntryKind.{EntryKind}
 use Rattle.rpc_journal.specs.declared.entry.EntryKind.TheVariants.{Start, Finish}
 use Rattle.rpc_journal.specs.Calls.{is_start_of, is_finish_of, runner_of}
@@ -32,7 +33,7 @@ past-adds t u seat kind adds = rw (adds.setting, adds.entries) (history-push t.s
 
 -- a full journal stays full
 pub still_full : (h : List Entry) (e : Entry) → is_full h ≡ true → is_full (h ++ e ∷ []) ≡ true
-still_full h e full = le-leb 1000000 (length (h ++ e ∷ [])) (omega (arith, leb-true 1000000 (length h) full, length-append h (e ∷ [])))
+still_full h e full = le-leb MAX_ENTRIES (length (h ++ e ∷ [])) (omega (arith, leb-true MAX_ENTRIES (length h) full, length-append h (e ∷ [])))
 
 module _ (rule : HandlerRule) (seed : Memo) (t u : Table) (refused : Option StartRefused) where
   -- what no entry changes

@@ -125,16 +125,6 @@ pub no_full_queue : (rule : HandlerRule) (seed : Memo) (t : Table) (refused : Op
 no_full_queue rule seed t refused p is all =
     none_full (past t) (arrive_row t.setting (past t) p).does.puts (λ c. none_waits rule seed t refused c is all)
 
--- what the loop of `has_no_event` finds
-pub some_waits : (ds : List Deed) (c n : ℕ) → n ≡ length (waiting_of ds c) → 0 < n → c < call_count ds → false ≡ none_waiting ds
-some_waits ds c n many some below = at (none_waiting ds) refl
-  where
-    at : (b : Bool) → none_waiting ds ≡ b → false ≡ b
-    at false is = refl
-    at true all =
-        let none = nothing_in (waiting_of ds c) (all_at (call_count ds) c (λ k. is_empty (waiting_of ds k)) all below) in
-        absurd (omega (arith, some, many, ap length none))
-
 few_items : (ds : List Deed) → NoneWaits ds → items_waiting ds < 65536
 few_items ds none = at (slice_get_cases (items_sent ds) (flush_count ds)).1
   where

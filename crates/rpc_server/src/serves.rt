@@ -1,5 +1,4 @@
 //! The server, as the loops of a replay ask of it.
-ghost use Rattle.std.specs.Prelude.{◌≡◌};
 ghost use Rattle.rpc_server.specs.Served.{WasFed, heard as heard_in};
 
 use crate::Server;

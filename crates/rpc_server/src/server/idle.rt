@@ -2,32 +2,20 @@
 ghost use Rattle.std.specs.Prelude.{◌≡◌, false, None};
 ghost use Rattle.rpc_journal.specs.Choice.{SomeReady};
 ghost use Rattle.rpc_schedule.specs.Schedule.{NoneWaits};
-ghost use Rattle.rpc_schedule.specs.Serving.{deeds, is_idle, none_waiting};
+ghost use Rattle.rpc_schedule.specs.Serving.{deeds, is_idle};
 
 use super::Server;
 use rpc_handlers::Maker;
 
 impl<M: Maker> Server<M> {
-    /// Whether no run is kept and no event waits for a call. It looks at each call that was opened.
+    /// Whether no run is kept and no event waits for a call.
     pub fn idle(&self) -> bool
         ensures is { result ≡ is_idle self.now.serving }
         ensures ready { result ≡ false → self.now.serving.kept ≡ None → NoneWaits (deeds self.now.serving) → SomeReady (deeds self.now.serving) }
     {
         match self.kept {
             Some(_) => false,
-            None => self.has_no_event(),
+            None => self.calls.none_waiting(),
         }
-    }
-
-    // Whether no event waits for a call.
-    fn has_no_event(&self) -> bool
-        ensures { result ≡ none_waiting (deeds self.now.serving) }
-    {
-        for call in 0..self.calls.count() {
-            if self.calls.waiting(call) > 0 {
-                return false;
-            }
-        }
-        true
     }
 }

@@ -1,5 +1,5 @@
 //! What comes in.
-ghost use Rattle.std.specs.Prelude.{◌≡◌, ℕ, ◌<◌, ◌≤◌, true, false, List, ◌++◌, length, take, Some, None, Err, IfOk, IfSome, OnErr};
+ghost use Rattle.std.specs.Prelude.{◌≡◌, ℕ, ◌<◌, ◌≤◌, true, false, List, ◌++◌, length, take, Some, Err, IfOk, IfSome, OnErr};
 ghost use Rattle.rpc_journal.specs.declared.answers.StartRefused.{StartRefused};
 ghost use Rattle.rpc_journal.specs.Conditions.{IsHeard};
 ghost use Rattle.rpc_journal.specs.Items.{input_ended};

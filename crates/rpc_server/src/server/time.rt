@@ -1,5 +1,4 @@
 //! Time goes on.
-ghost use Rattle.std.specs.Prelude.{◌≡◌};
 ghost use Rattle.rpc_journal.specs.Changes.{TickDid};
 ghost use Rattle.rpc_server.specs.Served.{KeepsAside};
 
