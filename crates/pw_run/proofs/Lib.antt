@@ -1,4 +1,8 @@
 mod ChannelLemmas
+mod DemoSizes
+mod FullLemmas
+mod HeardLemmas
+mod LoadSizes
 mod ServedLemmas
 mod UnbuiltLemmas
 mod WritesLemmas

@@ -67,3 +67,10 @@ pub at_limit_of : {rule : HandlerRule} {heard : List ℕ → List Packet} {P : L
     → Replayed rule heard P left_old left_new ending table items → Replays rule heard P left_old left_new InputLimit table items
 at_limit_of {rule} {heard} {P} {left_old} {left_new} {table} items ending is =
     subst (λ (e : Ending). Replayed rule heard P left_old left_new e table items → Replays rule heard P left_old left_new InputLimit table items) (sym is) (λ r. r)
+
+-- what was served of a stream that filled the journal
+pub at_full_of : {rule : HandlerRule} {heard : List ℕ → List Packet} {P : List ℕ → Type 0} {left_old left_new : Option (List ℕ)} {table : Table}
+    (items : List Item) (ending : Ending) → ending ≡ JournalLimit
+    → Replayed rule heard P left_old left_new ending table items → FillsJournal rule heard P left_old left_new table items
+at_full_of {rule} {heard} {P} {left_old} {left_new} {table} items ending is =
+    subst (λ (e : Ending). Replayed rule heard P left_old left_new e table items → FillsJournal rule heard P left_old left_new table items) (sym is) (λ r. r)

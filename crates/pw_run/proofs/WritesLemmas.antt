@@ -1,12 +1,12 @@
 -- What is written of a text, by outcome.
-use Rattle.std.proofs.Common.{ℕ, List, Option, inl, inr}
+use Rattle.std.proofs.Common.{ℕ, List, Option}
 use Rattle.rpc_schedule.specs.declared.ending.Ending.TheVariants as ended
 use Rattle.run_report.specs.Lines.{ending_line}
 use Rattle.pw_run.specs.declared.command.Form.{Form}
 use Rattle.pw_run.specs.declared.outcome.Outcome.{Outcome}
 use Rattle.pw_run.specs.declared.outcome.Outcome.TheVariants.{NoMemory, InputLimit}
 use Rattle.pw_run.specs.Check.{WritesLimit}
-use Rattle.pw_run.specs.Load.{DidLoad, FillsJournal, ServesLoad, WritesLoad}
+use Rattle.pw_run.specs.Load.{DidLoad, ServesLoad, WritesLoad}
 use Rattle.pw_run.specs.Replay.{DidReplay, RunsReplay}
 use Rattle.pw_run.specs.Writes.{Writes}
 
@@ -14,11 +14,6 @@ pub limit_told : (old new : Option (List ℕ)) (outcome : Outcome)
     → Writes old new (ending_line ended.InputLimit) InputLimit outcome → WritesLimit old new outcome
 limit_told old new NoMemory writes = tt
 limit_told old new _ writes = writes
-
-pub load_told : (text : List ℕ) (own : Outcome) (old new : Option (List ℕ)) (outcome : Outcome)
-    → Writes old new text own outcome → WritesLoad text own old new outcome
-load_told text own old new NoMemory writes = tt
-load_told text own old new _ writes = writes
 
 pub replay_did : (form : Form) (left_old left_new old new : Option (List ℕ)) (outcome : Outcome)
     → RunsReplay form left_old left_new old new outcome → DidReplay form left_old left_new old new outcome
@@ -30,10 +25,4 @@ pub load_served : (calls seed : ℕ) (text : List ℕ) (own : Outcome) (old new 
     → (Writes old new text own outcome → ServesLoad calls seed old new outcome) → WritesLoad text own old new outcome
     → DidLoad calls seed old new outcome
 load_served calls seed text own old new NoMemory serves writes = tt
-load_served calls seed text own old new _ serves writes = inl (serves writes)
-
-pub load_filled : (calls seed : ℕ) (text : List ℕ) (own : Outcome) (old new : Option (List ℕ)) (outcome : Outcome)
-    → (Writes old new text own outcome → FillsJournal calls seed old new outcome) → WritesLoad text own old new outcome
-    → DidLoad calls seed old new outcome
-load_filled calls seed text own old new NoMemory fills writes = tt
-load_filled calls seed text own old new _ fills writes = inr (fills writes)
+load_served calls seed text own old new _ serves writes = serves writes

@@ -1,18 +1,15 @@
 -- What a run of `load` wrote.
-use Rattle.std.specs.Prelude.{◌≡◌, ℕ, ◌⊎◌, List, ◌++◌, Option}
+use Rattle.std.specs.Prelude.{ℕ, List, Option}
 use Rattle.rpc_journal.specs.declared.entry.Entry.{Entry}
 use Rattle.rpc_journal.specs.History.{history}
 use Rattle.rpc_journal.specs.Items.{items_sent}
-use Rattle.rpc_schedule.specs.declared.ending.Ending.TheVariants as ended
-use Rattle.rpc_schedule.specs.OneThread.{IsFullBeginning, IsOneThreadHistory}
+use Rattle.rpc_schedule.specs.OneThread.{IsOneThreadHistory}
 use Rattle.demo_services.specs.DemoRule.{demo_rule}
-use Rattle.load_stream.specs.Load.{load_packets, load_stream}
-use Rattle.run_report.specs.Lines.{ending_line}
+use Rattle.load_stream.specs.Load.{load_packets}
 use Rattle.run_report.specs.Load.{load_report}
 use Rattle.pw_run.specs.declared.outcome.Outcome.{Outcome}
-use Rattle.pw_run.specs.declared.outcome.Outcome.TheVariants.{Done, NoMemory, JournalLimit}
+use Rattle.pw_run.specs.declared.outcome.Outcome.TheVariants.{Done, NoMemory}
 use Rattle.pw_run.specs.Demo.{demo_setting}
-use Rattle.pw_run.specs.Replay.{heard}
 use Rattle.pw_run.specs.Writes.{Writes}
 
 -- what was written of this text, where there was memory
@@ -27,17 +24,7 @@ pub record ServesLoad (calls seed : ℕ) (written_old written_new : Option (List
   pub writes :
       Writes written_old written_new (load_report calls seed (items_sent (history demo_setting entries))) Done outcome
 
--- the journal was full before all calls were served, and that was told alone
-pub record FillsJournal (calls seed : ℕ) (written_old written_new : Option (List ℕ)) (outcome : Outcome) : Type 0 where
-  pub bytes : List ℕ
-  pub unfed : List ℕ
-  pub stream : load_stream calls seed ≡ bytes ++ unfed
-  pub entries : List Entry
-  pub beginning : IsFullBeginning demo_rule demo_setting (heard bytes) entries
-  pub writes : Writes written_old written_new (ending_line ended.JournalLimit) JournalLimit outcome
-
 -- what was written, where there was memory
 abbrev pub DidLoad : ℕ → ℕ → Option (List ℕ) → Option (List ℕ) → Outcome → Type 0
 DidLoad calls seed written_old written_new NoMemory = Unit {0}
-DidLoad calls seed written_old written_new outcome =
-    ServesLoad calls seed written_old written_new outcome ⊎ FillsJournal calls seed written_old written_new outcome
+DidLoad calls seed written_old written_new outcome = ServesLoad calls seed written_old written_new outcome

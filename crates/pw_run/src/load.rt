@@ -1,7 +1,6 @@
 //! The command `load`: a stream of calls, made from a number, is served.
 ghost use Rattle.std.specs.Prelude.{◌≡◌, ◌≢◌, ◌≤◌};
 ghost use Rattle.link_io.specs.Causes.{Rose};
-ghost use Rattle.run_report.specs.Lines.{ending_line};
 ghost use Rattle.run_report.specs.Load.{load_report};
 ghost use Rattle.pw_run.specs.declared.command.TheConstants.{MAX_LOAD};
 ghost use Rattle.pw_run.specs.declared.outcome.Outcome.TheVariants.{BadWords, SinkFault, SourceFault};
@@ -14,11 +13,11 @@ use link_io::Sink;
 use load_stream::LoadSource;
 use rpc_journal::Item;
 use rpc_schedule::Ending;
-use run_report::{last_line, load_text};
+use run_report::load_text;
 use std::alloc::{AllocError, Global};
 
 /// Serves the stream of so many calls that is made from this seed, and writes the totals of what was answered. No read of
-/// that stream fails, and it is far shorter than an input may be.
+/// that stream fails, it is far shorter than an input may be, and what it brings never fills the journal.
 pub(crate) fn load<O: Sink>(alloc: Global, calls: u32, seed: u64, output: &mut O) -> Outcome
     requires { calls ≤ MAX_LOAD }
     ensures words { result ≢ BadWords }
@@ -37,9 +36,9 @@ pub(crate) fn load<O: Sink>(alloc: Global, calls: u32, seed: u64, output: &mut O
     let mut items = Vec::new(alloc);
     match rpc_schedule::replay(&mut server, &mut source, &mut items) {
         Ok(Ending::AtEnd) => write_load(alloc, calls, seed, &items, output),
-        Ok(Ending::JournalLimit) => write_full(alloc, output),
         Ok(Ending::SourceFault) => unreachable!(),
         Ok(Ending::InputLimit) => unreachable!(),
+        Ok(Ending::JournalLimit) => unreachable!(),
         Err(_) => Outcome::NoMemory,
     }
 }
@@ -60,18 +59,5 @@ fn write_load<O: Sink>(
     match load_text(alloc, calls, seed, items) {
         Err(_) => Outcome::NoMemory,
         Ok(text) => write_text(output, text.as_bytes(), Outcome::Done),
-    }
-}
-
-// Writes that the journal was full.
-fn write_full<O: Sink>(alloc: Global, output: &mut O) -> Outcome
-    ensures writes { WritesLoad (ending_line Ending.JournalLimit) Outcome.JournalLimit (O.written output.old) (O.written output.new) result }
-    ensures silent { IsSilent result → output.new ≡ output.old }
-    ensures sink { result ≡ SinkFault → Rose (O.faults output.old) (O.faults output.new) }
-    ensures sink_later { O.faults output.old ≤ O.faults output.new }
-{
-    match last_line(alloc, Ending::JournalLimit) {
-        Err(_) => Outcome::NoMemory,
-        Ok(line) => write_text(output, line.as_bytes(), Outcome::JournalLimit),
     }
 }

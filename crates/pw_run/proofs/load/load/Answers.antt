@@ -1,4 +1,4 @@
-use Rattle.std.proofs.Common.{◌≡◌, List, ◌++◌, length, refl, ap, sym, ◌∙◌, subst, arith, length-append}
+use Rattle.std.proofs.Common.{◌≡◌, ℕ, List, ◌++◌, length, refl, ap, sym, ◌∙◌, subst, arith, append_assoc, length-append}
 use Rattle.rpc_journal.specs.declared.item.Item.{Item}
 use Rattle.rpc_journal.specs.declared.setting.Setting.{Setting}
 use Rattle.rpc_journal.specs.History.{history}
@@ -14,7 +14,8 @@ use Rattle.pw_run.specs.declared.outcome.Outcome.TheVariants.{Done}
 use Rattle.pw_run.specs.Demo.{demo_setting}
 use Rattle.pw_run.specs.Replay.{heard}
 use Rattle.pw_run.specs.Writes.{Writes}
-use Rattle.pw_run.proofs.ServedLemmas.{all_taken, at_end_of, at_limit_of}
+use Rattle.pw_run.proofs.FullLemmas.{never_full}
+use Rattle.pw_run.proofs.ServedLemmas.{all_taken, at_end_of, at_full_of, at_limit_of}
 use Rattle.pw_run.proofs.WritesLemmas.{load_served}
 use Rattle.pw_run.proofs.load.load.Goals as goal
 
@@ -49,3 +50,13 @@ unreachable-requires-in-Ok-InputLimit g c =
     let taken : c.in-Ok-new.source ≡ done.bytes ++ c.replay.new.input = done.taken in
     let long = ap length (sym c.in-Ok-new.ensures ∙ taken) ∙ length-append done.bytes c.replay.new.input in
     omega (arith, long, done.at_limit refl, load_most c.args.calls c.args.seed, c.requires)
+
+pub unreachable-requires-in-Ok-JournalLimit : goal.unreachable-requires-in-Ok-JournalLimit
+unreachable-requires-in-Ok-JournalLimit g c =
+    let table : Table = c.replay.new.server.serving.table in
+    let left : List ℕ = c.replay.new.input in
+    let full = at_full_of _ c.in-Ok-JournalLimit.field-0 c.in-Ok-JournalLimit.field-0-is c.in-Ok-JournalLimit.ensures.replayed in
+    let taken : c.in-Ok-new.source ≡ (full.bytes ++ full.unfed) ++ left = full.taken in
+    let setting : table.setting ≡ demo_setting = c.in-Ok-JournalLimit.ensures.setting ∙ c.in-Ok.ensures.setting in
+    never_full c.args.calls c.args.seed table.setting table.entries full.bytes (full.unfed ++ left) c.requires (ap (λ (set : Setting). set.role) setting)
+    (sym c.in-Ok-new.ensures ∙ (taken ∙ append_assoc full.bytes full.unfed left)) full.beginning
