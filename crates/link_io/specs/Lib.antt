@@ -1,4 +1,10 @@
 pub mod Causes
 pub mod Counted
 pub mod Device
+pub mod LinkDevice
+pub mod Links
+pub mod Moments
 pub mod Reading
+pub mod Resources
+pub mod Stored
+pub mod StoreDevice

@@ -1,7 +1,7 @@
 ghost use Rattle.std.specs.Prelude.{◌≡◌, ◌<◌, ◌↔◌, length, min, Some, IsErr, IfOk, Contains};
 ghost use Rattle.std.specs.Io.{ReadsAtMost};
 ghost use Rattle.std.specs.Io.KnownBytes.{ReadConsumes};
-ghost use Rattle.link_io.specs.Causes.{HasCause, counted};
+ghost use Rattle.link_io.specs.Causes.{HasCause, Counts, counted};
 ghost use Rattle.link_io.specs.Device.{Device, fresh};
 
 use crate::{Failed, Source};
@@ -46,6 +46,13 @@ impl MemSource {
             faults: 0,
         }
     }
+
+    /// How many reads failed.
+    pub(crate) fn faults(&self) -> u64
+        ensures { result ≡ self.now.faults }
+    {
+        self.faults
+    }
 }
 
 impl Source for MemSource {
@@ -58,6 +65,7 @@ impl Source for MemSource {
         ensures bound { ReadsAtMost result buf.new }
         ensures bytes { ReadConsumes (Some self.old.bytes) (Some self.new.bytes) result buf.new }
         ensures cause { HasCause self.old.faults self.new.faults result }
+        ensures counts { Counts self.old.faults self.new.faults result }
         ensures fails { IsErr result ↔ Contains self.old.fails (counted self.old.calls) }
         ensures count { IfOk result (λ n. n ≡ min (length buf.old) (length self.old.bytes)) }
         ensures calls { self.new.calls ≡ counted self.old.calls }

@@ -1,3 +1,6 @@
+mod links;
+mod stores;
+
 use crate::{
     Ending, Failed, MemSink, MemSource, Sink, Source, StdIn, StdOut, read_to_limit, write_whole,
 };
@@ -29,6 +32,18 @@ fn a_sink_fails_at_the_chosen_call_and_keeps_the_rest(rt: HostRuntime) -> Result
     assert_eq!(rt; sink.flush(), Ok(()));
     assert_eq!(rt; write_whole(&mut sink, &[4, 5]), Ok(()));
     assert_eq!(rt; sink.bytes(), [9, 1, 2, 4, 5].as_slice());
+    Ok(())
+}
+
+#[test]
+fn a_sink_that_failed_to_finish_takes_more(rt: HostRuntime) -> Result<(), AllocError> {
+    let fails = Vec::from_slice(rt.alloc(), &[1])?;
+    let mut sink = MemSink::new(Vec::new(rt.alloc()), fails);
+    if sink.finish().is_err() {
+        assert_eq!(rt; write_whole(&mut sink, &[4]), Ok(()));
+        assert_eq!(rt; sink.finish(), Ok(()));
+    }
+    assert_eq!(rt; sink.bytes(), [4].as_slice());
     Ok(())
 }
 
@@ -110,6 +125,11 @@ fn the_standard_ends_pass_bytes_on_and_turn_errors_into_faults(
         );
         assert_eq!(rt;
             output.flush(),
+            Err(Failed),
+            "takes nothing: {takes_nothing}"
+        );
+        assert_eq!(rt;
+            output.finish(),
             Err(Failed),
             "takes nothing: {takes_nothing}"
         );

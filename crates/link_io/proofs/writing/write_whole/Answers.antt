@@ -9,4 +9,5 @@ pieces-preserved g c =
       omega (arith, c.in_ok-done.ensures.bound, length-take {A = ℕ}, length-drop {A = ℕ}),
       Appends-piece (written c.args.sink.now) (written c.pieces.sink) (written c.write.new.self) c.args.bytes.now c.pieces.done c.in_ok-done.field-0 c.pieces.invariant.1 c.in_ok-done.ensures.bytes,
       omega arith,
+      c.in_ok-done.ensures.open,
     )
