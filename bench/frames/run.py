@@ -1,8 +1,9 @@
 #!/usr/bin/env python3
-"""Decodes 64 MB of frames by this repository's decoder, by a plain decoder in C and by memcpy, and prints MB/s.
+"""Decodes 64 MB of frames by this repository's decoder, by two plain decoders and by memcpy, and prints MB/s.
 
-Builds bench/frames/plain_decoder.c with cc, and the program crates/frame_speed with rt (proved, by LLVM). Each is run
-with a few rounds and with one, and the difference is measured, so reading the file and starting don't count.
+Builds bench/frames/plain_decoder.c with cc, bench/frames/table_decoder with cargo on Debian's librust-memchr-dev and
+librust-crc32fast-dev (left out where they aren't there), and the program crates/frame_speed with rt (proved, by LLVM).
+Each is run with a few rounds and with one, and the difference is measured, so reading the file and starting don't count.
 """
 import os
 import random
@@ -49,16 +50,31 @@ def speed(command, size):
     return size * ROUNDS / best / 1e6
 
 
+def table_decoder():
+    """The command of the decoder on memchr and tables of sixteen lanes, or none where it can't be built."""
+    registry = "/usr/share/cargo/registry"
+    names = os.listdir(registry) if os.path.isdir(registry) else []
+    if not all(any(name.startswith(crate) for name in names) for crate in ("memchr-", "crc32fast-")):
+        print("librust-memchr-dev and librust-crc32fast-dev aren't there, so the decoder on memchr and tables is left out")
+        return None
+    config = ["--config", "source.crates-io.replace-with='debian'", "--config", f"source.debian.directory='{registry}'"]
+    target = os.path.join(BUILD, "table_decoder")
+    subprocess.run(["cargo", "build", "--release", "--offline", "--quiet", "--target-dir", target] + config,
+                   cwd=os.path.join(HERE, "table_decoder"), check=True)
+    return os.path.join(target, "release", "table_decoder")
+
+
 def main():
     os.makedirs(BUILD, exist_ok=True)
+    table = table_decoder()
     plain = os.path.join(BUILD, "plain_decoder")
     subprocess.run(["cc", "-O2", "-o", plain, os.path.join(HERE, "plain_decoder.c")], check=True)
     crate = os.path.join(TOP, "crates", "frame_speed")
     subprocess.run(["rt", "run"], cwd=crate, check=True, stdout=subprocess.DEVNULL, stderr=subprocess.DEVNULL)
     ours = os.path.join(crate, "out", "frame_speed")
     print(f"{os.cpu_count()} processors, MB/s of stream, best of 3")
-    print("| payload | escapes | this decoder | plain C | ratio | memcpy |")
-    print("|---|---|---|---|---|---|")
+    print("| payload | escapes | this decoder | plain C | ratio | memchr and tables | ratio | memcpy |")
+    print("|---|---|---|---|---|---|---|---|")
     for length in (16, 256, 4096):
         for escapes in (False, True):
             path = os.path.join(BUILD, "stream")
@@ -66,12 +82,16 @@ def main():
                 file.write(stream(length, escapes))
             size = os.path.getsize(path)
             told = {seconds([ours, path, "1"])[1], seconds([plain, "plain", path, "1"])[1]}
+            if table:
+                told.add(seconds([table, path, "1"])[1])
             if len(told) != 1:
                 sys.exit(f"the decoders differ: {told}")
             a = speed([ours, path], size)
             b = speed([plain, "plain", path], size)
             c = speed([plain, "memcpy", path], size)
-            print(f"| {length} | {'many' if escapes else 'few'} | {a:.0f} | {b:.0f} | {a / b:.2f} | {c:.0f} |", flush=True)
+            d = speed([table, path], size) if table else None
+            beside = f"{d:.0f} | {a / d:.2f}" if d else "- | -"
+            print(f"| {length} | {'many' if escapes else 'few'} | {a:.0f} | {b:.0f} | {a / b:.2f} | {beside} | {c:.0f} |", flush=True)
 
 
 if __name__ == "__main__":

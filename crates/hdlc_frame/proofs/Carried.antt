@@ -44,7 +44,7 @@ abbrev number_of : Option (ℕ × List ℕ) → ℕ
 number_of None = 0
 number_of (Some read) = read.0
 
-abbrev rest_of : Option (ℕ × List ℕ) → List ℕ
+abbrev pub rest_of : Option (ℕ × List ℕ) → List ℕ
 rest_of None = []
 rest_of (Some read) = read.1
 
@@ -129,7 +129,7 @@ passed false true c rest carried h = absurd (cc)
 passed false false true rest carried h = (refl, refl, refl, h)
 passed false false false rest carried h = absurd (cc)
 
-content_passed :
+pub content_passed :
     (limit : ℕ) (content : List ℕ) (carried : FrameParts) → found_in_content limit content ≡ frame carried →
     (ltb limit (length content) ≡ false) × (ltb (length content) 6 ≡ false) × (is_checked content ≡ true) ×
     (framed (number_at 5 (head_of content)) ≡ frame carried)
@@ -144,11 +144,11 @@ framed_if :
 framed_if true address control payload carried h = (refl, cc)
 framed_if false address control payload carried h = absurd (cc)
 
-record Framed (read : Option (ℕ × List ℕ)) (carried : FrameParts) : Type 0 where
-  is : read ≡ Some (carried.address, carried.control ∷ carried.payload)
-  low : carried.address < 2 ^ 32
+pub record Framed (read : Option (ℕ × List ℕ)) (carried : FrameParts) : Type 0 where
+  pub is : read ≡ Some (carried.address, carried.control ∷ carried.payload)
+  pub low : carried.address < 2 ^ 32
 
-framed_is : (read : Option (ℕ × List ℕ)) (carried : FrameParts) → framed read ≡ frame carried → Framed read carried
+pub framed_is : (read : Option (ℕ × List ℕ)) (carried : FrameParts) → framed read ≡ frame carried → Framed read carried
 framed_is None carried h = absurd (cc)
 framed_is (Some (address, [])) carried h = absurd (cc)
 framed_is (Some (address, control ∷ payload)) carried h =

@@ -7,6 +7,8 @@ mod Tables
 pub mod Machines
 pub mod Numbers
 pub mod Parting
+mod Laying
+mod Placed
 pub mod ReadBack
 pub mod Register
 mod Words

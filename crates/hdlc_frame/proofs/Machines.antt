@@ -10,15 +10,16 @@ use Rattle.hdlc_frame.specs.declared.phase.Phase.{Phase}
 use Rattle.hdlc_frame.specs.declared.phase.Phase.TheVariants.{Outside, Start, Plain, Escaped, Broken}
 use Rattle.hdlc_frame.specs.declared.octets.TheConstants.{ESCAPE, ESCAPE_BIT, FLAG}
 use Rattle.hdlc_frame.specs.Content.{unescaped}
-use Rattle.hdlc_frame.specs.declared.decoder.Closed.{Closed}
-use Rattle.hdlc_frame.specs.declared.decoder.Closed.TheVariants.{Whole}
+use Rattle.hdlc_frame.specs.declared.closed.Closed.{Closed}
+use Rattle.hdlc_frame.specs.declared.closed.Closed.TheVariants.{Whole}
 use Rattle.hdlc_frame.specs.declared.found.Bad.TheVariants.{Long}
 use Rattle.hdlc_frame.specs.Found.{Found, found, found_in, found_in_content, found_in_unescaped}
 use Rattle.hdlc_frame.specs.Found.Found.{fault}
-use Rattle.hdlc_frame.specs.Pushed.{closed_by, closed_found}
 use Rattle.hdlc_frame.specs.Laws.{ended}
-use Rattle.hdlc_frame.specs.Machine.{HasRead, HasReadIn, HasReadText, IsOrdinary, Moves, Reading, after_escape, after_run, begun, content_behind, escape_in, keeping, run_in}
+use Rattle.hdlc_frame.specs.declared.machine.Machine.{Machine}
+use Rattle.hdlc_frame.specs.Machine.{HasRead, HasReadIn, HasReadText, Reading, content_behind, reading_at}
 use Rattle.hdlc_frame.specs.Segments.{has_octets, is_flag, open_text}
+use Rattle.hdlc_frame.specs.Steps.{IsOrdinary, Moves, after_escape, after_run, begun, closed_by, closed_found, escape_in, keeping, run_in}
 use Rattle.hdlc_frame.proofs.Contents.{neq-eqb, walk_cut, walk_end, walk_escape, walk_escaped, walk_itself, walk_twice}
 use Rattle.hdlc_frame.proofs.Parting.{NoFlag, found_flag, found_text, open_text_flag, open_text_text}
 
@@ -532,3 +533,44 @@ pub moves_crawled :
 moves_crawled a b c piece rest at n e m1 m2 =
     let P : List ℕ → Type 0 = λ l. Moves a c l [] in
     subst P (ap (λ l. take at piece ++ take n l) e ∙ sym (take-add at n piece)) (moves_then a b c (take at piece) (take n rest) [] m1 m2)
+
+-- octets that were added to the content in the buffer
+pub kept_in :
+    (machine : Machine) (buffer later octets : List ℕ) (n : ℕ) → machine.len ≤ length buffer → n ≡ min (length octets) (length buffer - machine.len) →
+    length later ≡ length buffer → take (machine.len + n) later ≡ take machine.len buffer ++ take n octets →
+    let after : Machine =
+    record {
+      phase = machine.phase;
+      is_long = machine.is_long || ltb (length buffer - machine.len) (length octets);
+      len = machine.len + n;
+    }
+    in
+    reading_at after later ≡ keeping (reading_at machine buffer) octets
+kept_in machine buffer later octets n within part same added =
+    let content = take machine.len buffer in
+    let len : length content ≡ machine.len = length-take-le machine.len buffer within in
+    let with_limit : ℕ → Reading =
+    λ limit. record {
+      limit = limit;
+      phase = machine.phase;
+      is_long = machine.is_long || ltb (length buffer - machine.len) (length octets);
+      content = take (machine.len + n) later;
+    }
+    in
+    ap with_limit same ∙
+    keep_is (length buffer) machine.len n machine.phase machine.is_long content octets (take (machine.len + n) later) (omega (arith, len)) (sym len) part added
+
+-- a length past the buffer's counts as that
+pub clamped :
+    (machine : Machine) (buffer : List ℕ) (len : ℕ) → len ≡ min machine.len (length buffer) →
+    reading_at (record machine { len = len }) buffer ≡ reading_at machine buffer
+clamped machine buffer len is =
+    let with_content : List ℕ → Reading =
+    λ l. record { limit = length buffer; phase = machine.phase; is_long = machine.is_long; content = l }
+    in
+    let same : take len buffer ≡ take machine.len buffer = elim (cases_lt machine.len (length buffer)) [
+      | inl w ↦ let e : len ≡ machine.len = omega arith in ap (λ n. take n buffer) e
+      | inr w ↦ let e : len ≡ length buffer = omega arith in ap (λ n. take n buffer) e ∙ take_all (length buffer) buffer (omega arith) ∙ sym (take_all machine.len buffer w)
+    ]
+    in
+    ap with_content same

@@ -3,8 +3,11 @@ pub mod Content
 pub mod Encoded
 pub mod Found
 pub mod Laws
+pub mod Laid
 pub mod Lent
 pub mod Machine
 pub mod Owned
 pub mod Pushed
 pub mod Segments
+pub mod Steps
+pub mod Told

@@ -1,13 +1,12 @@
 //! The writer of frames.
 
-ghost use Rattle.std.specs.Prelude.{◌≡◌, ◌++◌, ◌∷◌, [], IfOk, OnOk, OnErr, List, ℕ};
-ghost use Rattle.std.specs.Int.{to_le_bytes};
-ghost use Rattle.hdlc_frame.specs.CheckSequence.{after_octets};
-ghost use Rattle.hdlc_frame.specs.Encoded.{encoded_ui, shortest_address, text_of};
+ghost use Rattle.std.specs.Prelude.{◌≡◌, ◌<◌, ◌≤◌, ◌++◌, IfSome, IsNone, OnOk, OnErr, List, ℕ, length, take};
+ghost use Rattle.hdlc_frame.specs.Encoded.{encoded_ui};
+ghost use Rattle.hdlc_frame.specs.Laid.{Lays};
 
-use crate::crc::{ALL_ONES, register_after};
-use crate::octets::{FLAG, UI_CONTROL};
-use crate::text::{push_octet, push_text};
+use crate::header::{LONGEST_HEADER, check_of, spell_header};
+use crate::octets::FLAG;
+use crate::text::{push_text, put, put_text};
 use std::alloc::AllocError;
 
 /// Appends an unnumbered information frame: a flag, the text of address, control octet 03, `payload` and check
@@ -27,35 +26,41 @@ pub fn encode_ui(address: u32, payload: &[u8], out: &mut Vec<u8>) -> Result<(), 
     }
 }
 
+/// Writes the same frame to the front of `out`. Answers how many bytes it has, and `None` where `out` is shorter than
+/// that: some of the frame may then stand in it. A frame has at most 22 bytes more than twice those of its payload.
+pub fn encode_ui_into(address: u32, payload: &[u8], out: &mut [u8]) -> Option<usize>
+    ensures written { IfSome result (λ n. (n ≤ length out.new) × (take n out.new ≡ encoded_ui address payload.now)) }
+    ensures short { IsNone result → length out.new < length (encoded_ui address payload.now) }
+{
+    put_ui(address, payload, out)
+}
+
 fn push_ui(address: u32, payload: &[u8], out: &mut Vec<u8>) -> Result<(), AllocError>
     ensures ok { OnOk result (out.new.items ≡ out.old.items ++ encoded_ui address payload.now) }
     ensures kept { (more : List ℕ) × (out.new.items ≡ out.old.items ++ more) }
 {
+    let mut octets = [0; LONGEST_HEADER];
+    let len = spell_header(&mut octets, address);
+    let header = &octets[..len];
+    let check = check_of(header, payload).to_le_bytes();
     out.push(FLAG)?;
-    let header = push_header(address, out)?;
+    push_text(header, out)?;
     push_text(payload, out)?;
-    let check = register_after(header, payload) ^ ALL_ONES;
-    push_text(&check.to_le_bytes(), out)?;
+    push_text(&check, out)?;
     out.push(FLAG)?;
     Ok(())
 }
 
-// Address and control octet. Answers what they make of the check sequence's register.
-fn push_header(address: u32, out: &mut Vec<u8>) -> Result<u32, AllocError>
-    ensures ok { OnOk result (out.new.items ≡ out.old.items ++ text_of (shortest_address address ++ UI_CONTROL ∷ [])) }
-    ensures register { IfOk result (λ register. register ≡ after_octets ALL_ONES (shortest_address address ++ UI_CONTROL ∷ [])) }
-    ensures kept { (more : List ℕ) × (out.new.items ≡ out.old.items ++ more) }
+fn put_ui(address: u32, payload: &[u8], out: &mut [u8]) -> Option<usize>
+    ensures { Lays out.old 0 (encoded_ui address payload.now) result out.new }
 {
-    let mut register = ALL_ONES;
-    let mut rest = address;
-    while rest >= 0x80 {
-        let group = (rest % 0x80) as u8 * 2;
-        push_octet(group, out)?;
-        register = register_after(register, &[group]);
-        rest /= 0x80;
-    }
-    let last = rest as u8 * 2 + 1;
-    push_octet(last, out)?;
-    push_octet(UI_CONTROL, out)?;
-    Ok(register_after(register, &[last, UI_CONTROL]))
+    let mut octets = [0; LONGEST_HEADER];
+    let len = spell_header(&mut octets, address);
+    let header = &octets[..len];
+    let check = check_of(header, payload).to_le_bytes();
+    let begun = put(out, 0, FLAG)?;
+    let behind_header = put_text(out, begun, header)?;
+    let behind_payload = put_text(out, behind_header, payload)?;
+    let behind_check = put_text(out, behind_payload, &check)?;
+    put(out, behind_check, FLAG)
 }

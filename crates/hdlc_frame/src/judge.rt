@@ -1,12 +1,14 @@
 //! A content's faults, and the frame that is left where it has none.
 
-ghost use Rattle.std.specs.Prelude.{◌≡◌, ◌+◌, ◌*◌, ◌<◌};
+ghost use Rattle.std.specs.Prelude.{◌≡◌, ◌+◌, ◌*◌, ◌<◌, ◌≤◌, length};
 ghost use Rattle.std.specs.Option.{option_map};
 ghost use Rattle.hdlc_frame.specs.Found.{found_in_content, framed, number_at};
 ghost use Rattle.hdlc_frame.specs.Lent.{found_of};
+ghost use Rattle.hdlc_frame.specs.Steps.{placed};
 
 use crate::crc::crc32;
 use crate::found::{Bad, Frame, Got};
+use crate::told::{Place, PlacedFrame, Segment};
 
 /// The fewest octets that a content can have: an address octet, a control octet and the check sequence.
 pub const SHORTEST_CONTENT: usize = 1 + 1 + 4;
@@ -29,6 +31,24 @@ pub(crate) fn judge(content: &[u8], limit: usize) -> Got<'_>
         return Got::Bad(Bad::Check);
     }
     judge_head(head)
+}
+
+/// What a content carries, with at most `limit` octets, that ends at the offset `end` of the slice that it lies in. Its
+/// payload stands right in front of the check sequence.
+pub(crate) fn judge_at(content: &[u8], limit: usize, place: Place, end: usize) -> Segment
+    requires { length content.now ≤ end }
+    ensures { result ≡ placed place end (found_in_content limit content.now) }
+{
+    match judge(content, limit) {
+        Got::Frame(frame) => Segment::Frame(PlacedFrame {
+            address: frame.address,
+            control: frame.control,
+            place,
+            at: end - 4 - frame.payload.len(),
+            len: frame.payload.len(),
+        }),
+        Got::Bad(bad) => Segment::Bad(bad),
+    }
 }
 
 // What stands in front of the check sequence.

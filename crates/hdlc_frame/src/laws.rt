@@ -1,7 +1,22 @@
 //! Laws of the definitions, for callers' proofs. Nothing runs here.
 
-ghost use Rattle.std.specs.Prelude.{ℕ, ◌^◌, ◌<◌, List};
+ghost use Rattle.std.specs.Prelude.{◌≡◌, ℕ, ◌^◌, ◌<◌, List};
 ghost use Rattle.hdlc_frame.specs.Laws.{AreOctets, IsFoundIn, IsReadBack, SegmentsGrow};
+
+use crate::crc::{ALL_ONES, POLYNOMIAL};
+use crate::judge::SHORTEST_CONTENT;
+use crate::octets::{ESCAPE, ESCAPE_BIT, FLAG, UI_CONTROL};
+
+/// The numbers of the standard.
+pub fn numbers_of_frames()
+    ensures flag { FLAG ≡ 126 }
+    ensures escape { ESCAPE ≡ 125 }
+    ensures escape_bit { ESCAPE_BIT ≡ 32 }
+    ensures control { UI_CONTROL ≡ 3 }
+    ensures shortest { SHORTEST_CONTENT ≡ 6 }
+    ensures polynomial { POLYNOMIAL ≡ 3988292384 }
+    ensures all_ones { ALL_ONES ≡ 4294967295 }
+{}
 
 /// What the reader finds in a text is what the relation of text, content and frame says.
 pub fn found_is_carried()

@@ -1,7 +1,7 @@
 //! The octets that the framing standard names (RFC 1662, section 4.1).
 
 ghost use Rattle.std.specs.Prelude.{◌≡◌, ◌<◌, ◌≤◌, ◌⊎◌, length, slice_index, take};
-ghost use Rattle.hdlc_frame.specs.Machine.{IsOrdinary};
+ghost use Rattle.hdlc_frame.specs.Steps.{IsOrdinary};
 
 use memchr::memchr2;
 

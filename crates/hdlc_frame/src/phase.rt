@@ -1,10 +1,10 @@
 //! Where a decoder stands in a segment.
 
 ghost use Rattle.std.specs.Prelude.{◌≡◌};
-ghost use Rattle.hdlc_frame.specs.Machine.{phase_in_text};
+ghost use Rattle.hdlc_frame.specs.Steps.{phase_in_text};
 
-#[derive(Clone, Copy)]
-pub(crate) enum Phase {
+#[derive(Clone, Copy, Debug, PartialEq, Eq)]
+pub enum Phase {
     /// No flag came yet.
     Outside,
     /// A flag came last.
@@ -18,7 +18,7 @@ pub(crate) enum Phase {
 }
 
 impl Phase {
-    /// Inside a segment's text.
+    // Inside a segment's text.
     pub(crate) fn in_text(is_escaped: bool) -> Phase
         ensures { result ≡ phase_in_text is_escaped }
     {

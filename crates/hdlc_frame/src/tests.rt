@@ -1,6 +1,9 @@
 //! Bytes from outside: the vectors of the format, and streams with the faults that each of them has.
 
-use crate::{Bad, Decoded, Decoder, Got, crc32, decode_pieces, encode_ui};
+use crate::{
+    Bad, Decoded, Decoder, Got, Machine, Phase, Place, PlacedFrame, Segment, Told, crc32,
+    decode_pieces, encode_ui, encode_ui_into,
+};
 use std::alloc::Global;
 use std::test::Fail;
 
@@ -412,4 +415,56 @@ fn limits(rt: HostRuntime) -> Result<(), Fail> {
         }
     }
     Ok(())
+}
+
+#[test]
+fn frames_in_the_memory_of_the_caller(rt: HostRuntime) {
+    let expected: [u8; 10] = [0x7e, 0xa5, 0x03, 0x7d, 0x5e, 0x61, 0x49, 0x62, 0xbc, 0x7e];
+    let mut text = [0; 32];
+    assert!(rt; encode_ui_into(82, &[0x7e], &mut text[..9]).is_none());
+    assert_eq!(rt; encode_ui_into(82, &[0x7e], &mut text), Some(10));
+    assert_eq!(rt; &text[..10], &expected[..]);
+
+    let mut buffer = [0; 8];
+    let mut machine = Machine::new();
+    let frame = |place: Place, len: usize| Segment::Frame(PlacedFrame {
+        address: 82,
+        control: 3,
+        place,
+        at: 2,
+        len,
+    });
+    assert_eq!(rt;
+        machine.push(&mut buffer, &text[..10]),
+        Told {
+            taken: 10,
+            segment: Some(frame(Place::Buffer, 1)),
+        }
+    );
+    assert_eq!(rt; buffer[2], 0x7e);
+    let told = machine.push(
+        &mut buffer,
+        &[0xa5, 0x03, 0xe9, 0x0b, 0xa0, 0x0b, 0x7e, 0x61],
+    );
+    assert_eq!(rt;
+        told,
+        Told {
+            taken: 7,
+            segment: Some(frame(Place::Piece, 0)),
+        }
+    );
+
+    // A state that no stream leads to is one of some decoder.
+    let mut other = Machine {
+        phase: Phase::Plain,
+        is_long: false,
+        len: 100,
+    };
+    assert_eq!(rt;
+        other.push(&mut buffer, &[0x7e]),
+        Told {
+            taken: 1,
+            segment: Some(Segment::Bad(Bad::Check)),
+        }
+    );
 }

@@ -1,13 +1,13 @@
 use Rattle.std.proofs.Common.{◌≡◌, ◌∙◌, ℕ, List, [], ◌++◌, ap, sym, refl, Option, Some, None, arith}
 use Rattle.std.specs.Option.{IsNone}
 use Rattle.std.proofs.lemmas.List.{length-take-le}
-use Rattle.hdlc_frame.specs.declared.decoder.Closed.{Closed}
-use Rattle.hdlc_frame.specs.declared.decoder.Closed.TheVariants.{Faulty, Kept, Open, Whole}
+use Rattle.hdlc_frame.specs.declared.closed.Closed.{Closed}
+use Rattle.hdlc_frame.specs.declared.closed.Closed.TheVariants.{Faulty, Kept, Open, Whole}
 use Rattle.hdlc_frame.specs.declared.found.Got.{Got}
 use Rattle.hdlc_frame.specs.Found.{found}
 use Rattle.hdlc_frame.specs.Lent.{found_in_got}
 use Rattle.hdlc_frame.specs.Machine.{Reading}
-use Rattle.hdlc_frame.specs.Pushed.{closed_found}
+use Rattle.hdlc_frame.specs.Steps.{closed_found}
 use Rattle.hdlc_frame.proofs.Machines.{take_within}
 use Rattle.hdlc_frame.proofs.decoder.Decoder.push.Goals as goal
 

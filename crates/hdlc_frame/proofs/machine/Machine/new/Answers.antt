@@ -1,7 +1,7 @@
 use Rattle.hdlc_frame.proofs.Parting.{open_text_none}
 use Rattle.hdlc_frame.specs.Machine.{HasRead}
-use Rattle.hdlc_frame.proofs.decoder.Decoder.new.Goals as goal
+use Rattle.hdlc_frame.proofs.machine.Machine.new.Goals as goal
 
 pub returns-clause-read : goal.returns-clause-read
 unfolding HasRead
-returns-clause-read c = open_text_none
+returns-clause-read c = λ buffer. open_text_none
