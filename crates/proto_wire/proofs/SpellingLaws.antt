@@ -54,6 +54,10 @@ unfolding groups_of
 groups_short zero n = omega arith
 groups_short (suc k) n = short_by k n (cases_lt n 128) (groups_short k (n / 128))
 
+pub varint_text_short : (n : ℕ) → length (varint_text n) ≤ 10
+unfolding varint_text
+varint_text_short n = groups_short 10 n
+
 -- the shortest varint of a number is a varint of it
 pub varint_text_spelled : (n : ℕ) → n < 2 ^ 64 → IsVarint (varint_text n) n
 unfolding varint_text

@@ -4,7 +4,9 @@ pub mod Field
 pub mod Front
 pub mod Gives
 pub mod Message
+pub mod Places
 pub mod Reading
+pub mod Reads
 pub mod Spelling
 pub mod Typed
 pub mod Varint

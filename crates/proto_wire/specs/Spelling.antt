@@ -1,5 +1,6 @@
 -- How fields are written: each in its shortest spelling.
 use Rattle.std.specs.Prelude.{ℕ, ◌<◌, ◌≤◌, ◌^◌, List, ◌++◌, length}
+use Rattle.std.specs.List.{All}
 use Rattle.byteorder.specs.Endian.{little_bytes}
 use Rattle.proto_wire.specs.Varint.{varint_text}
 use Rattle.proto_wire.specs.Field.{WireValue, Varint, Fixed64, Bytes, Fixed32, WireField, tag_of}
@@ -26,3 +27,6 @@ pub record IsWritable (f : WireField) : Type 0 where
   pub low : 1 ≤ f.number
   pub high : f.number ≤ 536870911
   pub fits : FitsWire f.value
+
+abbrev pub AreBytes : List ℕ → Type 0
+AreBytes bytes = All (λ byte. byte < 256) bytes

@@ -78,8 +78,5 @@ last_after read before number (f ∷ fs) = last_after read (if f.number == numbe
 abbrev pub last_number : ℕ → List WireField → ℕ
 last_number number fs = last_after number_in 0 number fs
 
-abbrev pub last_option : ℕ → List WireField → Option ℕ
-last_option number fs = last_after some_number_in None number fs
-
 abbrev pub last_content : ℕ → List WireField → List ℕ
 last_content number fs = last_after content_in [] number fs

@@ -7,11 +7,18 @@ mod field;
 mod fields;
 mod laws;
 mod reader;
+mod slice_writer;
 #[cfg(test)]
 mod tests;
+mod varint;
 mod writer;
 
 pub use field::{Field, Value};
 pub use fields::{Fields, Malformed};
-pub use laws::{bytes_are_read_in_one_way, written_field_is_read};
-pub use writer::{OptionalField, Writer, write_fields};
+pub use laws::{
+    bytes_are_read_in_one_way, content_ends_its_field, no_spelling_is_shorter,
+    written_field_is_read,
+};
+pub use reader::read_varint;
+pub use slice_writer::write_fields_into;
+pub use writer::{OptionalField, Writer, push_varint, write_fields};

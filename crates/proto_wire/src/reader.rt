@@ -5,13 +5,12 @@ ghost use Rattle.proto_wire.specs.Varint.{varint_front};
 ghost use Rattle.proto_wire.specs.Views.{wire_field, wire_value};
 
 use crate::field::{Field, Value};
+use crate::varint::LONGEST_VARINT;
 use byteorder::{ByteOrder, LittleEndian};
 
-/// A varint has at most so many bytes.
-const LONGEST_VARINT: usize = 10;
-
-// The varint at the front, and the bytes behind it.
-fn read_varint(bytes: &[u8]) -> Option<(u64, &[u8])>
+/// The varint at the front, and the bytes behind it. It has at most ten bytes and a value below 2^64, and needn't be
+/// the shortest spelling.
+pub fn read_varint(bytes: &[u8]) -> Option<(u64, &[u8])>
     ensures { option_map (λ r. record { value = r.0; rest = r.1.now }) result ≡ varint_front bytes.now }
 {
     let mut value: u64 = 0;

@@ -1,4 +1,6 @@
-use crate::{Field, Fields, Malformed, OptionalField, Value, Writer, write_fields};
+use crate::{
+    Field, Fields, Malformed, OptionalField, Value, Writer, write_fields, write_fields_into,
+};
 
 // How many fields are read, and the offset where none can be read.
 fn walk(bytes: &[u8]) -> (usize, Option<usize>) {
@@ -169,4 +171,8 @@ fn values_are_read_by_their_types(rt: HostRuntime) {
         0, 0,
     ];
     assert_eq!(rt; out.as_slice(), &expected[..]);
+    let mut room = [0xff; 22];
+    assert_eq!(rt; write_fields_into(&mut room, &fields), Some(21));
+    assert_eq!(rt; &room[..21], &expected[..]);
+    assert!(rt; write_fields_into(&mut room[..20], &fields).is_none());
 }

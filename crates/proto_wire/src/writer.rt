@@ -8,6 +8,7 @@ ghost use Rattle.proto_wire.specs.Views.{wire_value};
 ghost use Rattle.proto_wire.specs.Writing.{written, HasSameOut};
 
 use crate::field::Value;
+use crate::varint::{LONGEST_VARINT, spell_varint};
 use std::alloc::AllocError;
 
 /// Appends fields to `out`, each in its shortest spelling.
@@ -123,7 +124,7 @@ fn push_entry(out: &mut Vec<u8>, field: &OptionalField<'_>) -> Result<(), AllocE
     }
 }
 
-fn wire_type(value: &Value<'_>) -> u64
+pub(crate) fn wire_type(value: &Value<'_>) -> u64
     ensures { result ≡ wire_type_of (wire_value value.now) }
 {
     match value {
@@ -134,18 +135,14 @@ fn wire_type(value: &Value<'_>) -> u64
     }
 }
 
-// Appends a varint. After an `Err` a part of it may stand there.
-fn push_varint(out: &mut Vec<u8>, value: u64) -> Result<(), AllocError>
+/// Appends the shortest varint of a number. After an `Err` a part of it may stand there.
+pub fn push_varint(out: &mut Vec<u8>, value: u64) -> Result<(), AllocError>
     ensures ok { OnOk result (out.new.items ≡ out.old.items ++ varint_text value) }
     ensures begun { (part : List ℕ) × (out.new.items ≡ out.old.items ++ part) }
 {
-    let mut rest = value;
-    while rest >= 128 {
-        out.push(128 + (rest % 128) as u8)?;
-        rest /= 128;
-    }
-    out.push(rest as u8)?;
-    Ok(())
+    let mut bytes = [0; LONGEST_VARINT];
+    let len = spell_varint(&mut bytes, value);
+    out.extend_from_slice(&bytes[..len])
 }
 
 // Appends a field. After an `Err` a part of it may stand there.

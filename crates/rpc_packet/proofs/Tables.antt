@@ -8,7 +8,8 @@ use Rattle.proto_wire.specs.Message.{Placed}
 use Rattle.proto_wire.specs.Typed.{uint64_of, uint32_of, fixed32_of, bytes_of, may_have, fault_among, number_in, content_in, last_after}
 use Rattle.rpc_packet.specs.Message.{Message}
 use Rattle.rpc_packet.specs.Table.{packet_fields, message_in}
-use Rattle.rpc_packet.specs.Reading.{unless_fault, with_field, read_on, nothing_said}
+use Rattle.rpc_packet.specs.Reading.{unless_fault}
+use Rattle.rpc_packet.specs.Steps.{nothing_said, read_on, with_field}
 
 last_after-more : {X : Type 0} (view : WireValue → X) (before : X) (number : ℕ) (fields : List WireField) (f : WireField) → last_after view before number (fields ++ f ∷ []) ≡ cond (eqb f.number number) (view f.value) (last_after view before number fields)
 last_after-more view before number [] f = refl

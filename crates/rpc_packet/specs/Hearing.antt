@@ -1,11 +1,10 @@
 -- Which packets an endpoint takes.
-use Rattle.std.specs.Prelude.{◌≡◌, ℕ, ◌<◌, List, Option, Some, None, option_and_then, Result, Ok, Err, ◌==◌, if◌then◌else◌}
+use Rattle.std.specs.Prelude.{◌≡◌, ◌<◌, Option, Some, None, option_and_then, ◌==◌, if◌then◌else◌}
 use Rattle.rpc_ids.specs.declared.method.Role.{Role}
 use Rattle.rpc_ids.specs.declared.method.Role.TheVariants.{Server, Client}
 use Rattle.rpc_packet.specs.declared.packet_type.PacketType.{PacketType}
 use Rattle.rpc_packet.specs.Message.{Message}
 use Rattle.rpc_packet.specs.PacketType.{type_number, type_of, receiver_of}
-use Rattle.rpc_packet.specs.Reading.{packet_of}
 
 -- The endpoint takes the packet as one of this type: it receives that type, and channel, service and method have ids.
 pub record Hears (role : Role) (m : Message) (t : PacketType) : Type 0 where
@@ -29,16 +28,3 @@ heard_as role m =
     else if m.name.service == 0 then None
     else if m.name.method == 0 then None
     else option_and_then (λ t. if_received role (receiver_of t) t) (type_of m.ptype)
-
--- the message, where the endpoint takes it as a packet of some type
-abbrev pub if_heard : Message → Option PacketType → Option Message
-if_heard m None = None
-if_heard m (Some t) = Some m
-
-abbrev pub heard_answer : Role → Result Message ℕ → Option Message
-heard_answer role (Ok m) = if_heard m (heard_as role m)
-heard_answer role (Err at) = None
-
--- the packet that these bytes are, if they are one and the endpoint takes it
-unfoldable pub heard_packet : Role → List ℕ → Option Message
-heard_packet role bytes = heard_answer role (packet_of bytes)

@@ -1,14 +1,18 @@
-ghost use Rattle.std.specs.Prelude.{◌≡◌, IfOk, IfErr, IfSome, Ok, Some, option_map};
+ghost use Rattle.std.specs.Prelude.{◌≡◌, ◌<◌, ◌≤◌, IfOk, IfErr, IfSome, IsNone, Ok, Some, length, option_map, take};
 ghost use Rattle.proto_wire.specs.Views.{wire_field};
 ghost use Rattle.rpc_packet.specs.Message.{Message, message_of, lent_message};
 ghost use Rattle.rpc_packet.specs.PacketType.{type_number};
 ghost use Rattle.rpc_packet.specs.Hearing.{Hears, heard_as};
-ghost use Rattle.rpc_packet.specs.Reading.{IsPacket, IsFaultAt, packet_of, seen, with_field, nothing_said};
+ghost use Rattle.rpc_packet.specs.Reading.{IsPacket, IsFaultAt, packet_of, seen};
+ghost use Rattle.rpc_packet.specs.Spelling.{spelling_of};
+ghost use Rattle.rpc_packet.specs.Steps.{nothing_said, with_field};
 
 use crate::field_number::{CALL_ID, CHANNEL_ID, METHOD_ID, PAYLOAD, SERVICE_ID, STATUS, TYPE};
+use crate::placed::read_placed;
+use crate::spelling::optional_fields;
 use crate::{CallName, Packet, PacketType};
 use bytes::Bytes;
-use proto_wire::{Field, Fields, Malformed};
+use proto_wire::{Field, Malformed, write_fields_into};
 use rpc_ids::Role;
 use std::alloc::{AllocError, Global};
 
@@ -38,22 +42,13 @@ impl<'a> PacketRef<'a> {
         PacketRef::read_fields(bytes)
     }
 
-    // The answer of `read`, field by field.
+    // The answer of `read`.
     fn read_fields(bytes: &'a [u8]) -> Result<PacketRef<'a>, Malformed>
         ensures { seen result ≡ packet_of bytes.now }
     {
-        let mut packet = PacketRef::unsaid();
-        let mut fields = Fields::new(bytes);
-        'fields: loop {
-            let at = fields.at();
-            let Some(next) = fields.next() else {
-                return Ok(packet);
-            };
-            let field = next?;
-            let Some(longer) = packet.with_field(field) else {
-                return Err(Malformed { at });
-            };
-            packet = longer;
+        match read_placed(bytes) {
+            Ok((packet, _)) => Ok(packet),
+            Err(malformed) => Err(malformed),
         }
     }
 
@@ -82,6 +77,18 @@ impl<'a> PacketRef<'a> {
         }
     }
 
+    /// Writes the packet's one spelling to the front of `out`, as `Packet::write` does. Answers how many bytes it has,
+    /// and `None` where `out` is shorter than that: some of the packet may then stand in it.
+    #[tactic(auto, unfolding(crate::specs::Spelling::spelling_of))]
+    pub fn write_into(&self, out: &mut [u8]) -> Option<usize>
+        ensures written { IfSome result (λ n. (n ≤ length out.new) × (take n out.new ≡ spelling_of (lent_message self.now))) }
+        ensures short { IsNone result → length out.new < length (spelling_of (lent_message self.now)) }
+        ensures again { packet_of (spelling_of (lent_message self.now)) ≡ Ok (lent_message self.now) }
+    {
+        let fields = optional_fields(self.ptype, self.name, self.payload, self.status);
+        write_fields_into(out, &fields)
+    }
+
     /// The packet with a payload of its own, as one of this type.
     pub fn own(&self, alloc: Global, ptype: PacketType) -> Result<Packet, AllocError>
         ensures { IfOk result (λ p. message_of p ≡ record (lent_message self.now) { ptype = type_number ptype }) }
@@ -95,7 +102,7 @@ impl<'a> PacketRef<'a> {
     }
 
     // The packet that no field says anything of.
-    fn unsaid() -> PacketRef<'a>
+    pub(crate) fn unsaid() -> PacketRef<'a>
         ensures { lent_message result ≡ nothing_said }
     {
         let name = CallName {
@@ -113,8 +120,8 @@ impl<'a> PacketRef<'a> {
     }
 
     // The packet with one more field, or `None` where the field isn't as RpcPacket declares it.
-    #[tactic(auto, unfolding(crate::specs::Reading::with_field))]
-    fn with_field(self, field: Field<'a>) -> Option<PacketRef<'a>>
+    #[tactic(auto, unfolding(crate::specs::Steps::with_field))]
+    pub(crate) fn with_field(self, field: Field<'a>) -> Option<PacketRef<'a>>
         ensures { option_map lent_message result ≡ with_field (lent_message self.entry) (wire_field field.entry) }
     {
         match field.number {

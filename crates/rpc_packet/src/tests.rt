@@ -1,4 +1,4 @@
-use crate::{CallName, PacketRef, PacketType};
+use crate::{CallName, PacketRef, PacketType, PlacedPacket};
 use bytes::Bytes;
 use proto_wire::Malformed;
 use rpc_ids::Role;
@@ -57,6 +57,13 @@ fn reads_and_writes_packets_of_echo(rt: HostRuntime) {
     for (bytes, ptype, role, call) in rows {
         let want = packet(ptype.number(), name(1, call), b"abc", 0);
         assert_eq!(rt; PacketRef::read(bytes), Ok(want));
+        let placed = PlacedPacket::read(bytes).map(|p| (p.name, p.payload_at, p.payload_len));
+        assert_eq!(rt; placed, Ok((name(1, call), bytes.len() - 5, 3)));
+        let mut out = [0; 21];
+        let written = want.write_into(&mut out);
+        assert_eq!(rt; written, Some(bytes.len()));
+        assert_eq!(rt; &out[..bytes.len()], bytes);
+        assert!(rt; want.write_into(&mut out[..18]).is_none());
         assert_eq!(rt; want.hear(role), Some(ptype));
         let owned = want.own(rt.alloc(), ptype);
         assert!(rt; owned.is_ok());
