@@ -7,7 +7,7 @@ fn a_channel_is_there_once_and_65_are_too_many(rt: HostRuntime) -> Result<(), Fa
     assert!(rt; channels.add(1).is_ok());
     assert_eq!(rt; channels.add(1), Err(ChannelRefused::There));
     for id in 2..65u32 {
-        assert!(rt; channels.add(id).is_ok(), "id");
+        assert!(rt; channels.add(id).is_ok(), "{id}");
     }
     assert_eq!(rt; channels.add(65), Err(ChannelRefused::Full));
     assert_eq!(rt; channels.add(64), Err(ChannelRefused::There));

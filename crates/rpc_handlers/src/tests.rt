@@ -3,7 +3,7 @@ ghost use Rattle.std.specs.Prelude.{◌≡◌, [], ◌∷◌, ◌++◌, IfOk, No
 
 use super::*;
 use bytes::Bytes;
-use rpc_ids::{MethodRef, Status};
+use rpc_ids::{Kind, MethodRef};
 use std::alloc::{AllocError, Global};
 use std::test::Fail;
 use std::thread::join;
@@ -32,6 +32,15 @@ fn count_event(alloc: Global, m: &Memo) -> Result<(Answer, Memo), AllocError>
     Ok((answer, next))
 }
 
+// Asks once more, and gives the state.
+fn ask_again<H: Acts>(handler: H) -> Result<Memo, AllocError>
+    requires { H.can_act handler }
+{
+    let mut handler = handler;
+    let _ = handler.on(&Event::Completion)?;
+    handler.memo()
+}
+
 #[test]
 fn a_stored_closure_is_asked_on_two_threads(rt: HostRuntime) -> Result<(), Fail> {
     let alloc = rt.alloc();
@@ -44,8 +53,8 @@ fn a_stored_closure_is_asked_on_two_threads(rt: HostRuntime) -> Result<(), Fail>
         first,
     );
     assert!(rt; counter.on(&Event::Completion)?.end.is_none());
-    let moved = join(&rt, move || counter.memo(), || ());
-    assert_eq!(rt; moved.0?.words.as_slice(), [1u64].as_slice());
+    let (memo, _) = join(&rt, move || ask_again(counter), || ());
+    assert_eq!(rt; memo?.words.as_slice(), [1u64, 1].as_slice());
     Ok(())
 }
 
@@ -62,5 +71,12 @@ fn lists_and_makers_at_work(rt: HostRuntime) -> Result<(), Fail> {
     let nobody: Nobody<Fun<fn(&Memo, &Event) -> Result<(Answer, Memo), AllocError>, CountsEvents>> =
         Nobody::new(alloc);
     assert!(rt; nobody.seed()?.words.as_slice().is_empty());
+    let method = MethodRef {
+        service: 1,
+        method: 2,
+        kind: Kind::Unary,
+        ticks: false,
+    };
+    assert!(rt; nobody.make(method).is_err());
     Ok(())
 }

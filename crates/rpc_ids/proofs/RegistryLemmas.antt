@@ -1,11 +1,12 @@
 -- What a registry knows after one more method.
-use Rattle.std.proofs.Common.{◌≡◌, ℕ, List, [], ◌∷◌, ◌++◌, Bool, true, cond, Option, Some, None, IsSome, IsNone, refl, ◌∙◌, ap, eqb, eq-eqb, ◌&&◌, sym}
+use Rattle.std.proofs.Common.{◌≡◌, ℕ, List, [], ◌∷◌, ◌++◌, Bool, true, cond, is_some, slice_index_or, Option, Some, None, IsSome, IsNone, refl, ◌∙◌, ap, eqb, eq-eqb, ◌&&◌, sym}
 use Rattle.std.proofs.lemmas.Bool.{false≢true}
+use Rattle.std.proofs.lemmas.List.Elements.{All-nil, All-append, All-cons}
 use Rattle.std.proofs.lemmas.List.Folds.{find-append}
-use Rattle.std.specs.List.{find}
+use Rattle.std.specs.List.{All, find}
 use Rattle.std.specs.Option.{option_or}
 use Rattle.rpc_ids.specs.declared.method.MethodRef.{MethodRef}
-use Rattle.rpc_ids.specs.Registry.{method_of, has_ids}
+use Rattle.rpc_ids.specs.Registry.{method_of, has_ids, FindsEach}
 
 first_of_both : {T : Type 0} (a b : Option T) → IsSome a → option_or a b ≡ a
 first_of_both (Some x) b h = refl
@@ -36,3 +37,11 @@ added_is_found rows m none = find_last (has_ids m.service m.method) rows m none 
 -- and each other one as before
 pub others_are_found : (rows : List MethodRef) (m : MethodRef) (s t : ℕ) → IsSome (method_of rows s t) → method_of (rows ++ m ∷ []) s t ≡ method_of rows s t
 others_are_found rows m s t h = find_longer (has_ids s t) rows (m ∷ []) h
+
+-- so each one is found by its ids still
+pub finds_each_added : (rows : List MethodRef) (m : MethodRef) → IsNone (method_of rows m.service m.method) → FindsEach rows → FindsEach (rows ++ m ∷ [])
+finds_each_added rows m none each =
+    let longer = rows ++ m ∷ [] in
+    let Found : MethodRef → Type 0 = λ r. method_of longer r.service r.method ≡ Some r in
+    let still : (r : MethodRef) → method_of rows r.service r.method ≡ Some r → Found r = λ r is. others_are_found rows m r.service r.method (ap is_some is) ∙ is in
+    All-append Found rows (m ∷ []) (λ k d h. still (slice_index_or rows k d) (each k d h)) (All-cons Found m [] (added_is_found rows m none) (All-nil Found))

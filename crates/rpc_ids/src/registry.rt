@@ -1,7 +1,7 @@
 //! The methods that an endpoint knows.
 ghost use Rattle.std.specs.Prelude.{◌≡◌, ℕ, ◌↔◌, [], ◌∷◌, ◌++◌, IsSome, IfOk, OnErr};
 ghost use Rattle.rpc_ids.specs.Names.{name_id};
-ghost use Rattle.rpc_ids.specs.Registry.{method_of, has_ids as ids_match};
+ghost use Rattle.rpc_ids.specs.Registry.{method_of, has_ids as ids_match, FindsEach};
 
 use crate::method::{Kind, MethodRef};
 use crate::name_hash::hash_name;
@@ -29,10 +29,13 @@ pub struct Registry {
 impl Model for Registry {
     ghost use Rattle.std.specs.Prelude.{List};
     ghost use Rattle.rpc_ids.specs.declared.method.MethodRef.{MethodRef};
+    ghost use Rattle.rpc_ids.specs.Registry.{FindsEach};
 
     ghost Value = { List MethodRef };
 
     ghost view = { λ r. r.methods.items };
+
+    ghost invariant = { λ r. FindsEach r.methods.items };
 }
 
 impl Registry {
@@ -78,7 +81,8 @@ impl Registry {
 
     /// The method with these ids, if it was added.
     pub fn find(&self, service: u32, method: u32) -> Option<MethodRef>
-        ensures { result ≡ method_of self.now service method }
+        ensures value { result ≡ method_of self.now service method }
+        ensures rows { FindsEach self.now }
     {
         self.methods
             .iter()

@@ -11,7 +11,7 @@ use Rattle.entry_lists.specs.Entries.{made_by}
 use Rattle.turn_cell.specs.declared.view.Known.{Known}
 use Rattle.turn_cell.specs.declared.view.View.{View}
 use Rattle.turn_cell.specs.Views.{Fits, starting, gone_view, giving, given_out, keeping}
-use Rattle.turn_cell.specs.Rule.{AtHome, Kept, Ruled}
+use Rattle.turn_cell.specs.Rule.{IsFree, KeepsOneLog, Ruled}
 use Rattle.turn_cell.proofs.Places.{set_at, at_end, Stayed, stayed, Places, place_stays, place_longer}
 
 module _ {X E B : Type 0} (log : X → List E) (maker : E → ℕ) (base : X → B) (fixed : B) where
@@ -21,22 +21,22 @@ module _ {X E B : Type 0} (log : X → List E) (maker : E → ℕ) (base : X →
   wider : (whole : List E) (given : ℕ) (p : Known E) → Fits maker whole given p → Fits maker whole (given + 1) p
   wider whole given p f = let below = f.below in record { below = omega arith; begins = f.begins; own = f.own; shown = f.shown }
 
-  module _ (n : ℕ) (h : maybe.Option (Option X)) (vs : List (View E B)) (k : Kept log maker base fixed n h vs) (id : ℕ) (v : View E B) (at : get_elem? vs id ≡ some v) (live : v.spent ≡ false) (zero_is : v.known.number ≡ 0) where
+  module _ (n : ℕ) (h : maybe.Option (Option X)) (vs : List (View E B)) (k : KeepsOneLog log maker base fixed n h vs) (id : ℕ) (v : View E B) (at : get_elem? vs id ≡ some v) (live : v.spent ≡ false) (zero_is : v.known.number ≡ 0) where
     -- the view with number 0 is the first
     first_is : id ≡ 0
-    first_is = k.apart id 0 v k.chief at k.first live k.chief_is.lives (zero_is ∙ sym k.chief_is.zero)
+    first_is = k.numbers_differ id 0 v k.first_pass at k.first live k.first_pass_is.lives (zero_is ∙ sym k.first_pass_is.zero)
 
-    chief_is : v ≡ k.chief
-    chief_is = some-injective v k.chief (sym at ∙ (ap (λ i. get_elem? vs i) first_is ∙ k.first))
+    first_pass_is : v ≡ k.first_pass
+    first_pass_is = some-injective v k.first_pass (sym at ∙ (ap (λ i. get_elem? vs i) first_is ∙ k.first))
 
     given_is : v.given ≡ k.given
-    given_is = ap (λ (z : View E B). z.given) chief_is ∙ k.chief_is.counts
+    given_is = ap (λ (z : View E B). z.given) first_pass_is ∙ k.first_pass_is.counts
 
     ended_is : v.ended ≡ k.ended
-    ended_is = ap (λ (z : View E B). z.ended) chief_is ∙ k.chief_is.keeps
+    ended_is = ap (λ (z : View E B). z.ended) first_pass_is ∙ k.first_pass_is.keeps
 
     module _ (idle : v.holds ≡ false) where
-      kept_split : Kept log maker base fixed n h (set vs id (giving v) ++ given_out v ∷ [])
+      kept_split : KeepsOneLog log maker base fixed n h (set vs id (giving v) ++ given_out v ∷ [])
       kept_split =
           let w : View E B = giving v in
           let new : View E B = given_out v in
@@ -45,9 +45,9 @@ module _ {X E B : Type 0} (log : X → List E) (maker : E → ℕ) (base : X →
             whole = k.whole;
             given = k.given + 1;
             ended = k.ended;
-            chief = w;
+            first_pass = w;
             first = at_longer (set vs id w) (new ∷ []) 0 w (subst (λ i. get_elem? (set vs id w) i ≡ some w) first_is (set_at vs id w v at));
-            chief_is = record { lives = live; zero = zero_is; counts = ap (λ (m : ℕ). m + 1) given_is; keeps = ended_is };
+            first_pass_is = record { lives = live; zero = zero_is; counts = ap (λ (m : ℕ). m + 1) given_is; keeps = ended_is };
             based = λ j u e lives. ⊎_elim
                 (λ (t : get_elem? (set vs id w) j ≡ some u). let o = before j u t in o.base ∙ k.based j o.old o.there (sym o.spent ∙ lives))
                 (λ (t : (j ≡ length (set vs id w)) × (new ≡ u)). ap (λ (z : View E B). z.base) (sym t.1) ∙ k.based id v at live)
@@ -57,16 +57,16 @@ module _ {X E B : Type 0} (log : X → List E) (maker : E → ℕ) (base : X →
                 (λ (t : (j ≡ length (set vs id w)) × (new ≡ u)). subst (λ (z : View E B). Fits maker k.whole (k.given + 1) z.known) t.1 record {
                   below = omega (arith, given_is);
                   begins = (k.whole, refl);
-                  own = k.strangers v.given (omega (arith, given_is));
+                  own = k.ungiven_have_none v.given (omega (arith, given_is));
                   shown = refl;
                 })
                 (at_end (set vs id w) new u j e);
-            apart = λ i j u u' e e' lives lives' same.
+            numbers_differ = λ i j u u' e e' lives lives' same.
                 let old_below : (a : ℕ) (z : View E B) → get_elem? (set vs id w) a ≡ some z → z.spent ≡ false → z.known.number < k.given = λ a z t l. let o = before a z t in subst (λ (m : Known E). m.number < k.given) (sym o.known) (k.fits a o.old o.there (sym o.spent ∙ l)).below in
                 ⊎_elim
                 (λ (t : get_elem? (set vs id w) i ≡ some u). ⊎_elim
                 (λ (t' : get_elem? (set vs id w) j ≡ some u'). let o = before i u t in let o' = before j u' t' in
-                k.apart i j o.old o'.old o.there o'.there (sym o.spent ∙ lives) (sym o'.spent ∙ lives') (ap (λ (m : Known E). m.number) (sym o.known) ∙ (same ∙ ap (λ (m : Known E). m.number) o'.known)))
+                k.numbers_differ i j o.old o'.old o.there o'.there (sym o.spent ∙ lives) (sym o'.spent ∙ lives') (ap (λ (m : Known E). m.number) (sym o.known) ∙ (same ∙ ap (λ (m : Known E). m.number) o'.known)))
                 (λ (t' : (j ≡ length (set vs id w)) × (new ≡ u')). let lt = old_below i u t lives in let eq = is_new j u' t' in absurd (omega (arith, lt, eq, same)))
                 (at_end (set vs id w) new u' j e'))
                 (λ (t : (i ≡ length (set vs id w)) × (new ≡ u)). ⊎_elim
@@ -74,12 +74,12 @@ module _ {X E B : Type 0} (log : X → List E) (maker : E → ℕ) (base : X →
                 (λ (t' : (j ≡ length (set vs id w)) × (new ≡ u')). t.0 ∙ sym t'.0)
                 (at_end (set vs id w) new u' j e'))
                 (at_end (set vs id w) new u i e);
-            past = λ i p e. wider k.whole k.given p (k.past i p e);
-            gone = λ j u e lives i p e'. ⊎_elim
-                (λ (t : get_elem? (set vs id w) j ≡ some u). let o = before j u t in λ is. k.gone j o.old o.there (sym o.spent ∙ lives) i p e' (ap (λ (m : Known E). m.number) (sym o.known) ∙ is))
-                (λ (t : (j ≡ length (set vs id w)) × (new ≡ u)). let eq = is_new j u t in let lt = (k.past i p e').below in λ is. omega (arith, eq, lt, is))
+            ended_fit = λ i p e. wider k.whole k.given p (k.ended_fit i p e);
+            ended_differ = λ j u e lives i p e'. ⊎_elim
+                (λ (t : get_elem? (set vs id w) j ≡ some u). let o = before j u t in λ is. k.ended_differ j o.old o.there (sym o.spent ∙ lives) i p e' (ap (λ (m : Known E). m.number) (sym o.known) ∙ is))
+                (λ (t : (j ≡ length (set vs id w)) × (new ≡ u)). let eq = is_new j u t in let lt = (k.ended_fit i p e').below in λ is. omega (arith, eq, lt, is))
                 (at_end (set vs id w) new u j e);
-            strangers = λ j big. k.strangers j (omega arith);
+            ungiven_have_none = λ j big. k.ungiven_have_none j (omega arith);
             place = place_longer log maker base fixed k.whole n h (set vs id w) new refl (place_stays log maker base fixed k.whole n h vs id v w at idle idle k.place);
           }
 
@@ -94,26 +94,26 @@ module _ {X E B : Type 0} (log : X → List E) (maker : E → ℕ) (base : X →
         was_there : get_elem? vs other ≡ some w
         was_there = sym (set_else vs id other (keeping v w) ne) ∙ there
 
-        kept_join : Kept log maker base fixed n h (set (set vs id (keeping v w)) other gone_view)
+        kept_join : KeepsOneLog log maker base fixed n h (set (set vs id (keeping v w)) other gone_view)
         kept_join = record {
           whole = k.whole;
           given = k.given;
           ended = k.ended ++ w.known ∷ [];
-          chief = keeping v w;
+          first_pass = keeping v w;
           first =
               set_else (set vs id (keeping v w)) other 0 gone_view (λ e. ne (sym e ∙ sym first_is))
               ∙ subst (λ i. get_elem? (set vs id (keeping v w)) i ≡ some (keeping v w)) first_is (set_at vs id (keeping v w) v at);
-          chief_is = record { lives = live; zero = zero_is; counts = given_is; keeps = ap (λ (l : List (Known E)). l ++ w.known ∷ []) ended_is };
+          first_pass_is = record { lives = live; zero = zero_is; counts = given_is; keeps = ap (λ (l : List (Known E)). l ++ w.known ∷ []) ended_is };
           based = λ j u e lives. let o = (still j u e lives).1 in o.base ∙ k.based j o.old o.there (sym o.spent ∙ lives);
           fits = λ j u e lives. let o = (still j u e lives).1 in subst (λ p. Fits maker k.whole k.given p) (sym o.known) (k.fits j o.old o.there (sym o.spent ∙ lives));
-          apart = λ i j u u' e e' lives lives' same. let o = (still i u e lives).1 in let o' = (still j u' e' lives').1 in
-              k.apart i j o.old o'.old o.there o'.there (sym o.spent ∙ lives) (sym o'.spent ∙ lives') (ap (λ (m : Known E). m.number) (sym o.known) ∙ (same ∙ ap (λ (m : Known E). m.number) o'.known));
-          past = λ i p e. ⊎_elim (k.past i p) (λ (t : w.known ≡ p). subst (λ z. Fits maker k.whole k.given z) t (k.fits other w was_there lived)) (at_snoc k.ended w.known p i e);
-          gone = λ j u e lives i p e'. let s = still j u e lives in let o = s.1 in let same : u.known.number ≡ o.old.known.number = ap (λ (m : Known E). m.number) o.known in λ is. ⊎_elim
-              (λ (t : get_elem? k.ended i ≡ some p). k.gone j o.old o.there (sym o.spent ∙ lives) i p t (sym same ∙ is))
-              (λ (t : w.known ≡ p). s.0 (k.apart j other o.old w o.there was_there (sym o.spent ∙ lives) lived (sym same ∙ (is ∙ ap (λ (m : Known E). m.number) (sym t)))))
+          numbers_differ = λ i j u u' e e' lives lives' same. let o = (still i u e lives).1 in let o' = (still j u' e' lives').1 in
+              k.numbers_differ i j o.old o'.old o.there o'.there (sym o.spent ∙ lives) (sym o'.spent ∙ lives') (ap (λ (m : Known E). m.number) (sym o.known) ∙ (same ∙ ap (λ (m : Known E). m.number) o'.known));
+          ended_fit = λ i p e. ⊎_elim (k.ended_fit i p) (λ (t : w.known ≡ p). subst (λ z. Fits maker k.whole k.given z) t (k.fits other w was_there lived)) (at_snoc k.ended w.known p i e);
+          ended_differ = λ j u e lives i p e'. let s = still j u e lives in let o = s.1 in let same : u.known.number ≡ o.old.known.number = ap (λ (m : Known E). m.number) o.known in λ is. ⊎_elim
+              (λ (t : get_elem? k.ended i ≡ some p). k.ended_differ j o.old o.there (sym o.spent ∙ lives) i p t (sym same ∙ is))
+              (λ (t : w.known ≡ p). s.0 (k.numbers_differ j other o.old w o.there was_there (sym o.spent ∙ lives) lived (sym same ∙ (is ∙ ap (λ (m : Known E). m.number) (sym t)))))
               (at_snoc k.ended w.known p i e');
-          strangers = k.strangers;
+          ungiven_have_none = k.ungiven_have_none;
           place = place_stays log maker base fixed k.whole n h (set vs id (keeping v w)) other w gone_view there free refl (place_stays log maker base fixed k.whole n h vs id v (keeping v w) at idle idle k.place);
         }
 
@@ -139,15 +139,15 @@ module _ {X E B : Type 0} (log : X → List E) (maker : E → ℕ) (base : X →
           whole = [];
           given = 1;
           ended = [];
-          chief = first;
+          first_pass = first;
           first = refl;
-          chief_is = record { lives = refl; zero = refl; counts = refl; keeps = refl };
+          first_pass_is = record { lives = refl; zero = refl; counts = refl; keeps = refl };
           based = λ j u e _. ap (λ (z : View E B). z.base) (sym (only j u e).1);
           fits = λ j u e _. subst (λ (z : View E B). Fits maker [] 1 z.known) (only j u e).1 record { below = omega arith; begins = ([], refl); own = refl; shown = refl };
-          apart = λ i j u u' e e' _ _ _. (only i u e).0 ∙ sym (only j u' e').0;
-          past = λ i p e. absurd (some-ne-none p (sym e));
-          gone = λ j u e _ i p e'. absurd (some-ne-none p (sym e'));
-          strangers = λ _ _. refl;
+          numbers_differ = λ i j u u' e e' _ _ _. (only i u e).0 ∙ sym (only j u' e').0;
+          ended_fit = λ i p e. absurd (some-ne-none p (sym e));
+          ended_differ = λ j u e _ i p e'. absurd (some-ne-none p (sym e'));
+          ungiven_have_none = λ _ _. refl;
           place = inl record {
             value = x;
             here = refl;
@@ -165,22 +165,22 @@ module _ {X E B : Type 0} (log : X → List E) (maker : E → ℕ) (base : X →
     pub here : get_elem? xs 0 ≡ some (Some value)
     pub based : Some (base value) ≡ v.base
     pub own : Fits maker (log value) v.given v.known
-    pub past : (i : ℕ) (p : Known E) → get_elem? v.ended i ≡ some p → Fits maker (log value) v.given p
-    pub strangers : (number : ℕ) → v.given ≤ number → made_by maker number (log value) ≡ []
+    pub ended_fit : (i : ℕ) (p : Known E) → get_elem? v.ended i ≡ some p → Fits maker (log value) v.given p
+    pub ungiven_have_none : (number : ℕ) → v.given ≤ number → made_by maker number (log value) ≡ []
 
   -- nobody holds where pass 0 doesn't and all other numbers have ended
-  all_home : (n : ℕ) (h : maybe.Option (Option X)) (vs : List (View E B)) (k : Kept log maker base fixed n h vs) (id : ℕ) (v : View E B) → get_elem? vs id ≡ some v → v.spent ≡ false → v.known.number ≡ 0 → v.holds ≡ false
+  all_home : (n : ℕ) (h : maybe.Option (Option X)) (vs : List (View E B)) (k : KeepsOneLog log maker base fixed n h vs) (id : ℕ) (v : View E B) → get_elem? vs id ≡ some v → v.spent ≡ false → v.known.number ≡ 0 → v.holds ≡ false
       → ((number : ℕ) → 0 < number → number < k.given → (i : ℕ) × (p : Known E) × (get_elem? k.ended i ≡ some p) × (p.number ≡ number))
-      → Places log maker base fixed k.whole n h vs → AtHome log maker base fixed k.whole n h vs
+      → Places log maker base fixed k.whole n h vs → IsFree log maker base fixed k.whole n h vs
   all_home n h vs k id v at live zero_is idle all (inl a) = a
   all_home n h vs k id v at live zero_is idle all (inr a) =
       let number : ℕ = a.holder.known.number in
       let below : number < k.given = (k.fits a.seat a.holder a.sits a.lives).below in
       absurd (dite (ℕ_discrete number 0)
-      (λ z. let same = k.apart a.seat id a.holder v a.sits at a.lives live (z ∙ sym zero_is) in
+      (λ z. let same = k.numbers_differ a.seat id a.holder v a.sits at a.lives live (z ∙ sym zero_is) in
       let is : a.holder ≡ v = some-injective a.holder v (sym a.sits ∙ (ap (λ i. get_elem? vs i) same ∙ at)) in
       let q : true ≡ false = sym a.holds ∙ (ap (λ (z : View E B). z.holds) is ∙ idle) in absurd cc)
-      (λ nz. let p = all number (omega arith) below in k.gone a.seat a.holder a.sits a.lives p.0 p.1 p.2 (sym p.3)))
+      (λ nz. let p = all number (omega arith) below in k.ended_differ a.seat a.holder a.sits a.lives p.0 p.1 p.2 (sym p.3)))
 
   pub ends : (id : ℕ) (v : View E B) (ws : List ℕ) (xs : List (Option X)) → v.spent ≡ false → v.known.number ≡ 0 → v.holds ≡ false
       → ((number : ℕ) → 0 < number → number < v.given → (i : ℕ) × (p : Known E) × (get_elem? v.ended i ≡ some p) × (p.number ≡ number))
@@ -200,6 +200,6 @@ module _ {X E B : Type 0} (log : X → List E) (maker : E → ℕ) (base : X →
         here = f.4 0 (Some a.value) (ap (λ hs. get_elem? hs 0) r.homes ∙ ap some a.here);
         based = ap Some a.based ∙ sym (k.based id v at live);
         own = fit v.known (k.fits id v at live);
-        past = λ i p e. fit p (k.past i p (subst (λ l. get_elem? l i ≡ some p) ended e));
-        strangers = λ number big. ap (λ l. made_by maker number l) a.logged ∙ k.strangers number (omega (arith, given, big));
+        ended_fit = λ i p e. fit p (k.ended_fit i p (subst (λ l. get_elem? l i ≡ some p) ended e));
+        ungiven_have_none = λ number big. ap (λ l. made_by maker number l) a.logged ∙ k.ungiven_have_none number (omega (arith, given, big));
       }

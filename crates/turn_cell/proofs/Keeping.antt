@@ -12,7 +12,7 @@ use Rattle.entry_lists.proofs.Prefixes.{prefix_self, prefix_trans, prefix_length
 use Rattle.entry_lists.proofs.Makers.{goes_on_other, goes_on_prefix}
 use Rattle.turn_cell.specs.declared.view.View.{View}
 use Rattle.turn_cell.specs.Views.{Fits, looked_view, lost_view, holding_view, giving_view}
-use Rattle.turn_cell.specs.Rule.{AtHome, Away, Kept, Ruled}
+use Rattle.turn_cell.specs.Rule.{IsFree, IsHeld, KeepsOneLog, Ruled}
 use Rattle.turn_cell.specs.Steps.{looked, Took, grabbed, gave}
 use Rattle.turn_cell.proofs.Places.{set_at, Alike, Places, place_stays, renew}
 
@@ -24,7 +24,7 @@ module _ {X E B : Type 0} (log : X → List E) (maker : E → ℕ) (base : X →
   Home = maybe.Option (Option X)
 
   abbrev K : ℕ → Home → List (View E B) → Type 0
-  K = Kept log maker base fixed
+  K = KeepsOneLog log maker base fixed
 
   abbrev Rule : State (Option X) (View E B) → Type 0
   Rule = Ruled log maker base fixed
@@ -60,13 +60,13 @@ module _ {X E B : Type 0} (log : X → List E) (maker : E → ℕ) (base : X →
           home = h;
           words = refl;
           homes = refl;
-          kept = renew log maker base fixed n h vs k id me.0 w at same k.whole (k.fits id me.0 at live) (λ p _ f. f) k.strangers n h (place_stays log maker base fixed k.whole n h vs id me.0 w at idle idle k.place);
+          kept = renew log maker base fixed n h vs k id me.0 w at same k.whole (k.fits id me.0 at live) (λ p _ f. f) k.ungiven_have_none n h (place_stays log maker base fixed k.whole n h vs id me.0 w at idle idle k.place);
         },
         (refl, refl, seen_within n h vs k id me.0 at live k.place),
       )
 
   -- a held lock is found odd
-  even_is_home : (n : ℕ) (h : maybe.Option (Option X)) (vs : List (View E B)) (whole : List E) → n % 2 ≡ 0 → Places log maker base fixed whole n h vs → AtHome log maker base fixed whole n h vs
+  even_is_home : (n : ℕ) (h : maybe.Option (Option X)) (vs : List (View E B)) (whole : List E) → n % 2 ≡ 0 → Places log maker base fixed whole n h vs → IsFree log maker base fixed whole n h vs
   even_is_home n h vs whole even (inl a) = a
   even_is_home n h vs whole even (inr a) = let odd = a.odd in absurd (omega arith)
 
@@ -103,7 +103,7 @@ module _ {X E B : Type 0} (log : X → List E) (maker : E → ℕ) (base : X →
             home = none;
             words = refl;
             homes = refl;
-            kept = renew log maker base fixed n h vs k id me.0 w at same k.whole mine (λ p _ g. g) k.strangers new none (inr record {
+            kept = renew log maker base fixed n h vs k id me.0 w at same k.whole mine (λ p _ g. g) k.ungiven_have_none new none (inr record {
               seat = id;
               holder = w;
               sits = set_at vs id w me.0 at;
@@ -129,7 +129,7 @@ module _ {X E B : Type 0} (log : X → List E) (maker : E → ℕ) (base : X →
             home = h;
             words = refl;
             homes = refl;
-            kept = renew log maker base fixed n h vs k id me.0 w at same k.whole (k.fits id me.0 at live) (λ p _ f. f) k.strangers n h (place_stays log maker base fixed k.whole n h vs id me.0 w at idle idle k.place);
+            kept = renew log maker base fixed n h vs k id me.0 w at same k.whole (k.fits id me.0 at live) (λ p _ f. f) k.ungiven_have_none n h (place_stays log maker base fixed k.whole n h vs id me.0 w at idle idle k.place);
           },
           ((λ hit. absurd (miss hit)), (λ _. (refl, refl))),
         )
@@ -139,7 +139,7 @@ module _ {X E B : Type 0} (log : X → List E) (maker : E → ℕ) (base : X →
 
   -- the seat that holds is the holder, and has seen the whole log
   holder_of : (n : ℕ) (h : maybe.Option (Option X)) (vs : List (View E B)) (whole : List E) (id : ℕ) (v : View E B) → get_elem? vs id ≡ some v → v.holds ≡ true → Places log maker base fixed whole n h vs
-      → (a : Away log maker base fixed whole n vs) × (id ≡ a.seat) × (v.known.seen ≡ whole)
+      → (a : IsHeld log maker base fixed whole n vs) × (id ≡ a.seat) × (v.known.seen ≡ whole)
   holder_of n h vs whole id v at holds (inl a) = let q : true ≡ false = sym holds ∙ a.free id v at in absurd cc
   holder_of n h vs whole id v at holds (inr a) =
       let here = a.only id v at holds in
@@ -191,7 +191,7 @@ module _ {X E B : Type 0} (log : X → List E) (maker : E → ℕ) (base : X →
                   own = goes_on_other maker number p.number k.whole (log x) longer ne ∙ g.own;
                   shown = g.shown;
                 })
-                (λ j big. goes_on_other maker number j k.whole (log x) longer (λ e. let below = f.below in absurd (omega arith)) ∙ k.strangers j big)
+                (λ j big. goes_on_other maker number j k.whole (log x) longer (λ e. let below = f.below in absurd (omega arith)) ∙ k.ungiven_have_none j big)
                 new
                 (some (Some x))
                 (inl record {

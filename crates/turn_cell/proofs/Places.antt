@@ -10,7 +10,7 @@ use Rattle.entry_lists.specs.Entries.{made_by}
 use Rattle.turn_cell.specs.declared.view.Known.{Known}
 use Rattle.turn_cell.specs.declared.view.View.{View}
 use Rattle.turn_cell.specs.Views.{Fits}
-use Rattle.turn_cell.specs.Rule.{AtHome, Away, IsChief, Kept}
+use Rattle.turn_cell.specs.Rule.{IsFree, IsHeld, IsFirstPass, KeepsOneLog}
 
 module _ {A : Type 0} where
   pub set_at : (l : List A) (i : ℕ) (a b : A) → get_elem? l i ≡ some b → get_elem? (set l i a) i ≡ some a
@@ -81,7 +81,7 @@ module _ {X E B : Type 0} (log : X → List E) (maker : E → ℕ) (base : X →
   Home = maybe.Option (Option X)
 
   abbrev pub Places : List E → ℕ → Home → List (View E B) → Type 0
-  Places whole n h vs = AtHome log maker base fixed whole n h vs ⊎ Away log maker base fixed whole n vs
+  Places whole n h vs = IsFree log maker base fixed whole n h vs ⊎ IsHeld log maker base fixed whole n vs
 
   -- a seat that doesn't hold before and after leaves the value where it is
   pub place_stays : (whole : List E) (n : ℕ) (h : maybe.Option (Option X)) (vs : List (View E B)) (id : ℕ) (v w : View E B) → get_elem? vs id ≡ some v → v.holds ≡ false → w.holds ≡ false → Places whole n h vs → Places whole n h (set vs id w)
@@ -127,47 +127,47 @@ module _ {X E B : Type 0} (log : X → List E) (maker : E → ℕ) (base : X →
     only = λ j u e up. ⊎_elim (λ (t : get_elem? vs j ≡ some u). a.only j u t up) (λ (t : (j ≡ length vs) × (w ≡ u)). let q : true ≡ false = sym up ∙ (ap (λ (z : View E B). z.holds) (sym t.1) ∙ idle) in absurd cc) (at_end vs w u j e);
   }
 
-  module _ (n : ℕ) (h : Home) (vs : List (View E B)) (k : Kept log maker base fixed n h vs) (id : ℕ) (v w : View E B) (at : get_elem? vs id ≡ some v) where
-    pub chief_after : Alike v w → (c : View E B) × (get_elem? (set vs id w) 0 ≡ some c) × IsChief k.given k.ended c
+  module _ (n : ℕ) (h : Home) (vs : List (View E B)) (k : KeepsOneLog log maker base fixed n h vs) (id : ℕ) (v w : View E B) (at : get_elem? vs id ≡ some v) where
+    pub chief_after : Alike v w → (c : View E B) × (get_elem? (set vs id w) 0 ≡ some c) × IsFirstPass k.given k.ended c
     chief_after same = dite (ℕ_discrete id 0)
         (λ z. let at0 : get_elem? vs 0 ≡ some v = subst (λ i. get_elem? vs i ≡ some v) z at in
-        let is : v ≡ k.chief = some-injective v k.chief (sym at0 ∙ k.first) in (
+        let is : v ≡ k.first_pass = some-injective v k.first_pass (sym at0 ∙ k.first) in (
           w,
           subst (λ i. get_elem? (set vs i w) 0 ≡ some w) (sym z) (set_at vs 0 w v at0),
           record {
             lives = same.after;
-            zero = same.number ∙ (ap (λ (z : View E B). z.known.number) is ∙ k.chief_is.zero);
-            counts = same.given ∙ (ap (λ (z : View E B). z.given) is ∙ k.chief_is.counts);
-            keeps = same.ended ∙ (ap (λ (z : View E B). z.ended) is ∙ k.chief_is.keeps);
+            zero = same.number ∙ (ap (λ (z : View E B). z.known.number) is ∙ k.first_pass_is.zero);
+            counts = same.given ∙ (ap (λ (z : View E B). z.given) is ∙ k.first_pass_is.counts);
+            keeps = same.ended ∙ (ap (λ (z : View E B). z.ended) is ∙ k.first_pass_is.keeps);
           },
         ))
-        (λ nz. (k.chief, set_else vs id 0 w (λ e. nz (sym e)) ∙ k.first, k.chief_is))
+        (λ nz. (k.first_pass, set_else vs id 0 w (λ e. nz (sym e)) ∙ k.first, k.first_pass_is))
 
     -- the seat has a new view, and the log may have grown by entries of its number
     pub renew : Alike v w → (whole : List E) → Fits maker whole k.given w.known
         → ((p : Known E) → p.number ≢ v.known.number → Fits maker k.whole k.given p → Fits maker whole k.given p)
         → ((j : ℕ) → k.given ≤ j → made_by maker j whole ≡ [])
-        → (n' : ℕ) (h' : Home) → Places whole n' h' (set vs id w) → Kept log maker base fixed n' h' (set vs id w)
-    renew same whole mine others strangers n' h' place =
+        → (n' : ℕ) (h' : Home) → Places whole n' h' (set vs id w) → KeepsOneLog log maker base fixed n' h' (set vs id w)
+    renew same whole mine others ungiven_have_none n' h' place =
         let c = chief_after same in
         let before = was vs id v w at same.before same.base same.number in record {
           whole = whole;
           given = k.given;
           ended = k.ended;
-          chief = c.0;
+          first_pass = c.0;
           first = c.1;
-          chief_is = c.2;
+          first_pass_is = c.2;
           based = λ j u e live. let o = before j u e live in o.base ∙ k.based j o.old o.there o.lived;
           fits = λ j u e live. ⊎_elim
               (λ (t : (j ≡ id) × (w ≡ u)). subst (λ (z : View E B). Fits maker whole k.given z.known) t.1 mine)
-              (λ (t : (j ≢ id) × (get_elem? vs j ≡ some u)). others u.known (λ is. t.0 (k.apart j id u v t.1 at live same.before is)) (k.fits j u t.1 live))
+              (λ (t : (j ≢ id) × (get_elem? vs j ≡ some u)). others u.known (λ is. t.0 (k.numbers_differ j id u v t.1 at live same.before is)) (k.fits j u t.1 live))
               (at_set vs id j w u e);
-          apart = λ i j u u' e e' live live' is.
+          numbers_differ = λ i j u u' e e' live live' is.
               let o = before i u e live in
               let o' = before j u' e' live' in
-              k.apart i j o.old o'.old o.there o'.there o.lived o'.lived (sym o.number ∙ (is ∙ o'.number));
-          past = λ i p e. others p (λ is. k.gone id v at same.before i p e (sym is)) (k.past i p e);
-          gone = λ j u e live i p e'. let o = before j u e live in λ is. k.gone j o.old o.there o.lived i p e' (sym o.number ∙ is);
-          strangers = strangers;
+              k.numbers_differ i j o.old o'.old o.there o'.there o.lived o'.lived (sym o.number ∙ (is ∙ o'.number));
+          ended_fit = λ i p e. others p (λ is. k.ended_differ id v at same.before i p e (sym is)) (k.ended_fit i p e);
+          ended_differ = λ j u e live i p e'. let o = before j u e live in λ is. k.ended_differ j o.old o.there o.lived i p e' (sym o.number ∙ is);
+          ungiven_have_none = ungiven_have_none;
           place = place;
         }

@@ -10,13 +10,13 @@ use Rattle.entry_lists.specs.Entries.{made_by}
 use Rattle.turn_cell.specs.declared.view.View.{View}
 
 -- a lock: which it is, the base of its value, and how many passes it has
-pub record Ring (B : Type 0) : Type 0 where
+pub record LockView (B : Type 0) : Type 0 where
   pub table : TableId
   pub base : B
   pub count : ℕ
 
 -- a pass: of which lock it is, and what it knows
-pub record Stand (E B : Type 0) : Type 0 where
+pub record PassView (E B : Type 0) : Type 0 where
   pub table : TableId
   pub seat : ℕ
   pub view : View E B
@@ -27,11 +27,11 @@ carried true = (0, None) ∷ []
 carried false = []
 
 module _ {X E B : Type 0} where
-  abbrev pub stand_of : Seat (Option X) (View E B) → Stand E B
-  stand_of s = record { table = s.table_id; seat = s.id; view = s.me.0 }
+  abbrev pub pass_view : Seat (Option X) (View E B) → PassView E B
+  pass_view s = record { table = s.table_id; seat = s.id; view = s.me.0 }
 
   -- the fields of a pass agree with what it knows
-  pub record IsStand (number : ℕ) (holding : Bool) (s : Seat (Option X) (View E B)) : Type 0 where
+  pub record IsPassView (number : ℕ) (holding : Bool) (s : Seat (Option X) (View E B)) : Type 0 where
     pub number_is : s.me.0.known.number ≡ number
     pub holding_is : s.me.0.holds ≡ holding
     pub lives : s.me.0.spent ≡ false
@@ -39,7 +39,7 @@ module _ {X E B : Type 0} where
 
 module _ {E B : Type 0} where
   -- the same pass, which may have looked further
-  pub record IsSame (p q : Stand E B) : Type 0 where
+  pub record IsSame (p q : PassView E B) : Type 0 where
     pub table : q.table ≡ p.table
     pub seat : q.seat ≡ p.seat
     pub number : q.view.known.number ≡ p.view.known.number
@@ -49,7 +49,7 @@ module _ {E B : Type 0} where
     pub looks : p.view.looks ≤ q.view.looks
 
   -- the lock wasn't taken: one load found a word, and at most one exchange found another, which is the load's where there was no exchange
-  pub record TurnedAway (p q : Stand E B) (found other : ℕ) : Type 0 where
+  pub record TurnedAway (p q : PassView E B) (found other : ℕ) : Type 0 where
     pub same : IsSame p q
     pub known : q.view.known ≡ p.view.known
     pub idle : q.view.holds ≡ false
@@ -59,14 +59,14 @@ module _ {E B : Type 0} where
     pub cause : (found % 2 ≡ 1) ⊎ (other ≢ found)
 
   -- a pass of the lock, with this number. Pass 0 knows how many there are
-  pub record IsPass (r : Ring B) (k : ℕ) (p : Stand E B) : Type 0 where
+  pub record IsPass (r : LockView B) (k : ℕ) (p : PassView E B) : Type 0 where
     pub table : p.table ≡ r.table
     pub number : p.view.known.number ≡ k
     pub base : p.view.base ≡ Some r.base
     pub rights : k ≡ 0 → (p.view.given ≡ r.count) × (p.view.ended ≡ [])
 
   -- such a pass as the lock is made with, which has seen nothing
-  pub record IsNew (r : Ring B) (k : ℕ) (p : Stand E B) : Type 0 where
+  pub record IsNew (r : LockView B) (k : ℕ) (p : PassView E B) : Type 0 where
     pub pass : IsPass r k p
     pub seen : p.view.known.seen ≡ []
     pub mine : p.view.known.mine ≡ []
@@ -74,23 +74,23 @@ module _ {E B : Type 0} where
     pub idle : p.view.holds ≡ false
 
   -- such a pass as it may come back, which doesn't hold
-  pub record IsIdle (r : Ring B) (k : ℕ) (p : Stand E B) : Type 0 where
+  pub record IsIdle (r : LockView B) (k : ℕ) (p : PassView E B) : Type 0 where
     pub pass : IsPass r k p
     pub idle : p.view.holds ≡ false
 
   -- all passes of the lock, in the order of their numbers
-  pub record AreAll (r : Ring B) (Ok : ℕ → Stand E B → Type 0) (ps : List (Stand E B)) : Type 0 where
+  pub record AreAll (r : LockView B) (Ok : ℕ → PassView E B → Type 0) (ps : List (PassView E B)) : Type 0 where
     pub count : length ps ≡ r.count
-    pub each : (k : ℕ) (p : Stand E B) → get_elem? ps k ≡ some p → Ok k p
+    pub each : (k : ℕ) (p : PassView E B) → get_elem? ps k ≡ some p → Ok k p
 
   -- the passes are back in their order, each the same as before, and none holds
-  pub record AreBack (ps qs : List (Stand E B)) : Type 0 where
+  pub record AreBack (ps qs : List (PassView E B)) : Type 0 where
     pub count : length qs ≡ length ps
-    pub each : (k : ℕ) (p : Stand E B) → get_elem? ps k ≡ some p → (q : Stand E B) × (get_elem? qs k ≡ some q) × IsSame p q × (q.view.holds ≡ false)
+    pub each : (k : ℕ) (p : PassView E B) → get_elem? ps k ≡ some p → (q : PassView E B) × (get_elem? qs k ≡ some q) × IsSame p q × (q.view.holds ≡ false)
 
 module _ {X E B : Type 0} (log : X → List E) (maker : E → ℕ) where
   -- the value was given back. The pass has seen its log, and what was added since is the pass's own
-  pub record HasGiven (p q : Stand E B) (x : X) : Type 0 where
+  pub record HasGiven (p q : PassView E B) (x : X) : Type 0 where
     pub same : IsSame p q
     pub begins : IsPrefix p.view.known.seen (log x)
     pub seen : q.view.known.seen ≡ log x
@@ -100,7 +100,7 @@ module _ {X E B : Type 0} (log : X → List E) (maker : E → ℕ) where
 
 module _ {X E B : Type 0} (log : X → List E) (maker : E → ℕ) (base : X → B) where
   -- the lock was taken. The value's log begins with what the pass had seen, and has no entry of its number behind that
-  pub record HasTaken (p q : Stand E B) (x : X) : Type 0 where
+  pub record HasTaken (p q : PassView E B) (x : X) : Type 0 where
     pub same : IsSame p q
     pub begins : IsPrefix p.view.known.seen (log x)
     pub own : made_by maker p.view.known.number (log x) ≡ p.view.known.mine
@@ -111,7 +111,7 @@ module _ {X E B : Type 0} (log : X → List E) (maker : E → ℕ) (base : X →
     pub holds : q.view.holds ≡ true
 
   -- the lock was taken with the value x and given back with y
-  pub record HasChanged (p q : Stand E B) (x y : X) : Type 0 where
+  pub record HasChanged (p q : PassView E B) (x y : X) : Type 0 where
     pub same : IsSame p q
     pub begins : IsPrefix p.view.known.seen (log x)
     pub own : made_by maker p.view.known.number (log x) ≡ p.view.known.mine
@@ -122,14 +122,14 @@ module _ {X E B : Type 0} (log : X → List E) (maker : E → ℕ) (base : X →
     pub idle : q.view.holds ≡ false
 
   -- a pass fits the value: its log begins with what the pass saw, and the pass has just the entries of its number, all of which it saw
-  pub record FitsValue (k : ℕ) (p : Stand E B) (x : X) : Type 0 where
+  pub record FitsValue (k : ℕ) (p : PassView E B) (x : X) : Type 0 where
     pub begins : IsPrefix p.view.known.seen (log x)
     pub own : made_by maker k (log x) ≡ p.view.known.mine
     pub shown : made_by maker k p.view.known.seen ≡ p.view.known.mine
     pub based : p.view.base ≡ Some (base x)
 
   -- all passes fit the value, and each entry of its log is one of theirs
-  pub record AllFit (ps : List (Stand E B)) (x : X) : Type 0 where
-    pub each : (k : ℕ) (p : Stand E B) → get_elem? ps k ≡ some p → FitsValue k p x
+  pub record AllFit (ps : List (PassView E B)) (x : X) : Type 0 where
+    pub each : (k : ℕ) (p : PassView E B) → get_elem? ps k ≡ some p → FitsValue k p x
     pub makers : AllByRecursion (λ e. maker e < length ps) (log x)
     pub no_others : (k : ℕ) → length ps ≤ k → made_by maker k (log x) ≡ []

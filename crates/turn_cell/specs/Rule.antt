@@ -12,7 +12,7 @@ use Rattle.turn_cell.specs.Views.{Fits}
 
 module _ {E B : Type 0} where
   -- the first seat has number 0, counts the numbers that were given out, and keeps what the ended ones knew
-  pub record IsChief (given : ℕ) (ended : List (Known E)) (v : View E B) : Type 0 where
+  pub record IsFirstPass (given : ℕ) (ended : List (Known E)) (v : View E B) : Type 0 where
     pub lives : v.spent ≡ false
     pub zero : v.known.number ≡ 0
     pub counts : v.given ≡ given
@@ -21,7 +21,7 @@ module _ {E B : Type 0} where
 -- T's values, entries and bases; and the base that is fixed when the lock is made
 module _ {X E B : Type 0} (log : X → List E) (maker : E → ℕ) (base : X → B) (fixed : B) where
   -- the lock is free: the value lies in the slot, its log is the whole log, and no view holds
-  pub record AtHome (whole : List E) (word : ℕ) (home : maybe.Option (Option X)) (views : List (View E B)) : Type 0 where
+  pub record IsFree (whole : List E) (word : ℕ) (home : maybe.Option (Option X)) (views : List (View E B)) : Type 0 where
     pub value : X
     pub here : home ≡ some (Some value)
     pub logged : log value ≡ whole
@@ -30,7 +30,7 @@ module _ {X E B : Type 0} (log : X → List E) (maker : E → ℕ) (base : X →
     pub free : (seat : ℕ) (v : View E B) → get_elem? views seat ≡ some v → v.holds ≡ false
 
   -- the lock is held: one view alone holds, and it has seen the whole log
-  pub record Away (whole : List E) (word : ℕ) (views : List (View E B)) : Type 0 where
+  pub record IsHeld (whole : List E) (word : ℕ) (views : List (View E B)) : Type 0 where
     pub seat : ℕ
     pub holder : View E B
     pub sits : get_elem? views seat ≡ some holder
@@ -41,23 +41,23 @@ module _ {X E B : Type 0} (log : X → List E) (maker : E → ℕ) (base : X →
     pub only : (j : ℕ) (v : View E B) → get_elem? views j ≡ some v → v.holds ≡ true → j ≡ seat
 
   -- there is one log
-  pub record Kept (word : ℕ) (home : maybe.Option (Option X)) (views : List (View E B)) : Type 0 where
+  pub record KeepsOneLog (word : ℕ) (home : maybe.Option (Option X)) (views : List (View E B)) : Type 0 where
     pub whole : List E
     pub given : ℕ
     pub ended : List (Known E)
-    pub chief : View E B
-    pub first : get_elem? views 0 ≡ some chief
-    pub chief_is : IsChief given ended chief
+    pub first_pass : View E B
+    pub first : get_elem? views 0 ≡ some first_pass
+    pub first_pass_is : IsFirstPass given ended first_pass
     -- each view has the base and fits the log, and no two have one number
     pub based : (seat : ℕ) (v : View E B) → get_elem? views seat ≡ some v → v.spent ≡ false → v.base ≡ Some fixed
     pub fits : (seat : ℕ) (v : View E B) → get_elem? views seat ≡ some v → v.spent ≡ false → Fits maker whole given v.known
-    pub apart : (i j : ℕ) (u v : View E B) → get_elem? views i ≡ some u → get_elem? views j ≡ some v → u.spent ≡ false → v.spent ≡ false → u.known.number ≡ v.known.number → i ≡ j
+    pub numbers_differ : (i j : ℕ) (u v : View E B) → get_elem? views i ≡ some u → get_elem? views j ≡ some v → u.spent ≡ false → v.spent ≡ false → u.known.number ≡ v.known.number → i ≡ j
     -- what the ended numbers knew fits too, and no view has their numbers
-    pub past : (i : ℕ) (p : Known E) → get_elem? ended i ≡ some p → Fits maker whole given p
-    pub gone : (seat : ℕ) (v : View E B) → get_elem? views seat ≡ some v → v.spent ≡ false → (i : ℕ) (p : Known E) → get_elem? ended i ≡ some p → v.known.number ≢ p.number
+    pub ended_fit : (i : ℕ) (p : Known E) → get_elem? ended i ≡ some p → Fits maker whole given p
+    pub ended_differ : (seat : ℕ) (v : View E B) → get_elem? views seat ≡ some v → v.spent ≡ false → (i : ℕ) (p : Known E) → get_elem? ended i ≡ some p → v.known.number ≢ p.number
     -- a number that isn't given out has no entry
-    pub strangers : (number : ℕ) → given ≤ number → made_by maker number whole ≡ []
-    pub place : AtHome whole word home views ⊎ Away whole word views
+    pub ungiven_have_none : (number : ℕ) → given ≤ number → made_by maker number whole ≡ []
+    pub place : IsFree whole word home views ⊎ IsHeld whole word views
 
   -- a table of one word and one slot
   pub record Ruled (s : State (Option X) (View E B)) : Type 0 where
@@ -65,4 +65,4 @@ module _ {X E B : Type 0} (log : X → List E) (maker : E → ℕ) (base : X →
     pub home : maybe.Option (Option X)
     pub words : s.words ≡ word ∷ []
     pub homes : s.homes ≡ home ∷ []
-    pub kept : Kept word home s.views
+    pub kept : KeepsOneLog word home s.views

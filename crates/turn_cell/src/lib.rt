@@ -3,14 +3,14 @@
 //! steps, and one slot, in which the value lies while nobody holds it; `docs/TURN.md` explains both on one page.
 #![tactic(auto)]
 
-pub mod busy;
-pub mod held;
-pub mod logged;
-pub mod pass;
+mod busy;
+mod held;
+mod logged;
+mod pass;
 mod rule;
 #[cfg(test)]
 mod tests;
-pub mod turn;
+mod turn;
 pub mod view;
 
 pub use busy::Busy;

@@ -27,19 +27,17 @@ pub struct Pass<T: Logged> {
 }
 
 impl<T: Logged> Model for Pass<T> {
-    ghost use Rattle.turn_cell.specs.Passes.{Stand, stand_of, IsStand};
+    ghost use Rattle.turn_cell.specs.Passes.{PassView, pass_view, IsPassView};
 
-    ghost Value = { Stand T.Entry T.Base };
+    ghost Value = { PassView T.Entry T.Base };
 
-    ghost view = { λ p. stand_of p.seat };
+    ghost view = { λ p. pass_view p.seat };
 
-    ghost invariant = { λ p. IsStand p.number p.holding p.seat };
+    ghost invariant = { λ p. IsPassView p.number p.holding p.seat };
 }
 
 impl<T: Logged> Pass<T> {
-    ghost use Rattle.std.specs.Prelude.{◌≡◌, ◌<◌, false};
-    ghost use Rattle.turn_cell.specs.Views.{giving, given_out, keeping};
-    ghost use Rattle.turn_cell.specs.Passes.{stand_of, IsStand};
+    ghost use Rattle.turn_cell.specs.Passes.{pass_view, IsPassView};
 
     /// The number that this pass's entries carry.
     pub fn number(&self) -> u32
@@ -57,8 +55,8 @@ impl<T: Logged> Pass<T> {
 
     // The pass of a new table's first seat.
     pub(crate) fn first(seat: Seat<Option<T>, View<T::Entry, T::Base>>) -> Pass<T>
-        requires { IsStand 0 false seat }
-        ensures { result ≡ stand_of seat }
+        requires { IsPassView 0 false seat }
+        ensures { result ≡ pass_view seat }
     {
         Pass {
             number: 0,
@@ -70,7 +68,7 @@ impl<T: Logged> Pass<T> {
     // The seat, at the table's end.
     pub(crate) fn into_seat(self) -> Seat<Option<T>, View<T::Entry, T::Base>>
         requires { self.view.holds ≡ false }
-        ensures { (stand_of result ≡ self) × IsStand self.view.known.number false result }
+        ensures { (pass_view result ≡ self) × IsPassView self.view.known.number false result }
     {
         let Pass {
             number: _,

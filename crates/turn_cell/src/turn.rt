@@ -26,9 +26,9 @@ pub struct Turn<T: Logged> {
 
 impl<T: Logged> Model for Turn<T> {
     ghost use Rattle.std.specs.Prelude.{◌≡◌, ◌<◌};
-    ghost use Rattle.turn_cell.specs.Passes.{Ring};
+    ghost use Rattle.turn_cell.specs.Passes.{LockView};
 
-    ghost Value = { Ring T.Base };
+    ghost Value = { LockView T.Base };
 
     ghost view = { λ t. record { table = t.table.shared.table_id; base = T.base t.table.shared.key.value; count = t.count } };
 

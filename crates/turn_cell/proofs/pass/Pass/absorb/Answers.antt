@@ -1,5 +1,5 @@
 use Rattle.std.proofs.Common.{ap, sym, ◌∙◌}
-use Rattle.turn_cell.specs.Passes.{Stand, carried}
+use Rattle.turn_cell.specs.Passes.{PassView, carried}
 use Rattle.turn_cell.proofs.Counting.{joins}
 use Rattle.turn_cell.proofs.pass.Pass.absorb.Goals as goal
 
@@ -8,11 +8,11 @@ join_seat-requires g c =
     let L = g.T.Logged in
     let me = c.self.inside.seat in
     let it = c.other.inside.seat in
-    let table = ap (λ (z : Stand g.row.T-Entry.Denot g.row.T-Base.Denot). z.table) c.self.view_is in
-    let table' = ap (λ (z : Stand g.row.T-Entry.Denot g.row.T-Base.Denot). z.table) c.other.view_is in
-    let holds = ap (λ (z : Stand g.row.T-Entry.Denot g.row.T-Base.Denot). z.view.holds) c.self.view_is in
-    let holds' = ap (λ (z : Stand g.row.T-Entry.Denot g.row.T-Base.Denot). z.view.holds) c.other.view_is in
-    let number = ap (λ (z : Stand g.row.T-Entry.Denot g.row.T-Base.Denot). z.view.known.number) c.self.view_is in
+    let table = ap (λ (z : PassView g.row.T-Entry.Denot g.row.T-Base.Denot). z.table) c.self.view_is in
+    let table' = ap (λ (z : PassView g.row.T-Entry.Denot g.row.T-Base.Denot). z.table) c.other.view_is in
+    let holds = ap (λ (z : PassView g.row.T-Entry.Denot g.row.T-Base.Denot). z.view.holds) c.self.view_is in
+    let holds' = ap (λ (z : PassView g.row.T-Entry.Denot g.row.T-Base.Denot). z.view.holds) c.other.view_is in
+    let number = ap (λ (z : PassView g.row.T-Entry.Denot g.row.T-Base.Denot). z.view.known.number) c.self.view_is in
     let free = holds' ∙ c.requires.idle in (
       table ∙ c.requires.table.0,
       table' ∙ c.requires.table.1,

@@ -3,7 +3,7 @@ use Rattle.atomic_table.specs.Table.{Me, rest}
 use Rattle.entry_lists.specs.Entries.{made_by, GoesOn}
 use Rattle.turn_cell.specs.declared.view.View.{View}
 use Rattle.turn_cell.specs.Views.{giving_view}
-use Rattle.turn_cell.specs.Passes.{Stand, Ring, carried}
+use Rattle.turn_cell.specs.Passes.{PassView, LockView, carried}
 use Rattle.turn_cell.proofs.Keeping.{leaves}
 use Rattle.turn_cell.proofs.Calls.{given_back}
 use Rattle.turn_cell.proofs.turn.Turn.give.Goals as goal
@@ -15,9 +15,9 @@ store-requires g c =
     let me = c.exchange-slot.new.seat in
     let told = c.exchange-slot.ensures in
     let x = c.held.inside.value in
-    let of = ap (λ (z : Stand g.row.T-Entry.Denot g.row.T-Base.Denot). z.table) c.pass.view_is in
-    let view = ap (λ (z : Stand g.row.T-Entry.Denot g.row.T-Base.Denot). z.view) c.pass.view_is in
-    let table = ap (λ (z : Ring g.row.T-Base.Denot). z.table) c.self.view_is in
+    let of = ap (λ (z : PassView g.row.T-Entry.Denot g.row.T-Base.Denot). z.table) c.pass.view_is in
+    let view = ap (λ (z : PassView g.row.T-Entry.Denot g.row.T-Base.Denot). z.view) c.pass.view_is in
+    let table = ap (λ (z : LockView g.row.T-Base.Denot). z.table) c.self.view_is in
     let words = c.self.invariant.0 in
     let holds = ap (λ (v : View g.row.T-Entry.Denot g.row.T-Base.Denot). v.holds) view ∙ c.requires.holds in
     let slots = c.pass.invariant.slots ∙ ap carried (sym c.pass.invariant.holding_is ∙ holds) in
@@ -54,15 +54,15 @@ returns g c =
     let told = c.exchange-slot.ensures in
     let stored = c.store.ensures in
     let x = c.held.inside.value in
-    let view = ap (λ (z : Stand g.row.T-Entry.Denot g.row.T-Base.Denot). z.view) c.pass.view_is in
-    let of = ap (λ (z : Stand g.row.T-Entry.Denot g.row.T-Base.Denot). z.table) c.pass.view_is in
-    let seat = ap (λ (z : Stand g.row.T-Entry.Denot g.row.T-Base.Denot). z.seat) c.pass.view_is in
+    let view = ap (λ (z : PassView g.row.T-Entry.Denot g.row.T-Base.Denot). z.view) c.pass.view_is in
+    let of = ap (λ (z : PassView g.row.T-Entry.Denot g.row.T-Base.Denot). z.table) c.pass.view_is in
+    let seat = ap (λ (z : PassView g.row.T-Entry.Denot g.row.T-Base.Denot). z.seat) c.pass.view_is in
     let holds = ap (λ (v : View g.row.T-Entry.Denot g.row.T-Base.Denot). v.holds) view ∙ c.requires.holds in
     let slots = c.pass.invariant.slots ∙ ap carried (sym c.pass.invariant.holding_is ∙ holds) in
     let kept = ap (λ (m : Me (Option g.row.T.Denot) (View g.row.T-Entry.Denot g.row.T-Base.Denot)). m.0) told.3 in
     let out = ap (λ (m : Me (Option g.row.T.Denot) (View g.row.T-Entry.Denot g.row.T-Base.Denot)). m.1) told.3 ∙ ap (λ (l : List (ℕ × Option g.row.T.Denot)). (0, Some x) ∷ rest l) slots in
     let now = kept ∙ view in
-    let gone = stored.2 x out in record {
+    let outcome = stored.2 x out in record {
       given = given_back
           L.log
           L.maker
@@ -72,6 +72,6 @@ returns g c =
           c.requires.log
           (stored.0 ∙ (told.0 ∙ of))
           (stored.1 ∙ (told.1 ∙ seat))
-          (gone.0 ∙ (ap (λ (v : View g.row.T-Entry.Denot g.row.T-Base.Denot). giving_view L.maker (L.log x) v) now ∙ ap (λ (y : g.row.T.Denot). giving_view L.maker (L.log y) c.args.pass.now.view) c.held.view_is))
-          (subst (λ (v : View g.row.T-Entry.Denot g.row.T-Base.Denot). made_by L.maker v.known.number v.known.seen ≡ v.known.mine) now gone.2);
+          (outcome.0 ∙ (ap (λ (v : View g.row.T-Entry.Denot g.row.T-Base.Denot). giving_view L.maker (L.log x) v) now ∙ ap (λ (y : g.row.T.Denot). giving_view L.maker (L.log y) c.args.pass.now.view) c.held.view_is))
+          (subst (λ (v : View g.row.T-Entry.Denot g.row.T-Base.Denot). made_by L.maker v.known.number v.known.seen ≡ v.known.mine) now outcome.2);
     }
