@@ -1,10 +1,19 @@
 //! Laws of the stream, for callers' proofs. Nothing runs here.
 
-ghost use Rattle.std.specs.Prelude.{ℕ, ◌*◌, ◌^◌, ◌<◌, ◌≤◌, length};
+ghost use Rattle.std.specs.Prelude.{◌≡◌, ℕ, ◌*◌, ◌^◌, ◌<◌, ◌≤◌, length};
 ghost use Rattle.load_stream.specs.Laws.{GoesOn, IsHeard};
 ghost use Rattle.load_stream.specs.Load.{load_stream};
 
-use crate::calls::LONGEST_CALL;
+use crate::calls::{CHANNEL, LONGEST_CALL, SENT_BYTES};
+use crate::generator::{INCREMENT, MULTIPLIER};
+
+/// The numbers of the generator, and of the calls that are made from it.
+pub fn numbers_of_a_load()
+    ensures multiplier { MULTIPLIER ≡ 6364136223846793005 }
+    ensures increment { INCREMENT ≡ 1442695040888963407 }
+    ensures channel { CHANNEL ≡ 1 }
+    ensures bytes { SENT_BYTES ≡ 3 }
+{}
 
 /// The streams of N and of N + 1 calls begin alike.
 pub fn one_call_more()

@@ -1,5 +1,7 @@
 -- What one more segment does to the packets and the counts of a stream.
-use Rattle.std.proofs.Common.{◌≡◌, ℕ, ◌+◌, Bool, true, false, cond, List, [], ◌∷◌, ◌++◌, length, count_by, refl, sym, ◌∙◌, ap, arith, length-append, append-nil}
+use Rattle.std.proofs.Common.{◌≡◌, ℕ, zero, suc, ◌+◌, ◌≤◌, Bool, true, false, cond, List, [], ◌∷◌, ◌++◌, length, map, count_by, refl, sym, ◌∙◌, ap, subst, arith, length-append, append-nil, append_assoc}
+use mathlib.Core.List.{IsPrefix}
+use Rattle.std.proofs.lemmas.Bool.{eqb-true}
 use Rattle.std.specs.Io.Iter.{u64_saturate}
 use Rattle.std.specs.List.{filter_map, flat_map}
 use Rattle.std.specs.Option.{option_to_list}
@@ -7,9 +9,12 @@ use Rattle.std.proofs.lemmas.Grind.{flat_map-append}
 use Rattle.std.proofs.lemmas.List.Elements.{filter_map-append}
 use Rattle.std.proofs.lemmas.List.Sums.{sum_by-append}
 use Rattle.hdlc_frame.specs.declared.found.Bad.{Bad}
-use Rattle.hdlc_frame.specs.Found.{FrameParts, Found, found, frames_in, faults_in, valid_frames, faults_of}
+use Rattle.hdlc_frame.specs.declared.octets.TheConstants.{FLAG}
+use Rattle.hdlc_frame.specs.Found.{FrameParts, Found, found, found_in, frames_in, faults_in, valid_frames, faults_of}
+use Rattle.hdlc_frame.specs.Laws.{ended}
+use Rattle.hdlc_frame.specs.Segments.{is_flag, open_text}
 use Rattle.hdlc_frame.specs.Found.Found.{frame, fault}
-use Rattle.hdlc_frame.proofs.Parting.{found_none}
+use Rattle.hdlc_frame.proofs.Parting.{NoFlag, found_flag, found_none, found_text}
 use Rattle.rpc_ids.specs.declared.method.Role.{Role}
 use Rattle.rpc_frames.specs.declared.counts.Counts.{Counts}
 use Rattle.rpc_frames.specs.declared.heard.Heard.{Heard}
@@ -140,3 +145,44 @@ nothing_counted_in role =
     let faults : faults_of LARGEST_CONTENT [] ≡ [] = ap (flat_map faults_in) none in
     same_counts _ _ _ _ _ _ _ _ (ap (λ fs. u64_saturate (length fs)) frames) (ap (λ fs. u64_saturate (length fs)) faults)
     (ap (λ fs. u64_saturate (count_by is_other fs)) frames) (ap (λ fs. u64_saturate (count_by (is_dropped role) fs)) frames)
+
+no_flag_one : (octet : ℕ) → is_flag octet ≡ false → NoFlag (octet ∷ [])
+no_flag_one octet plain zero d below = plain
+no_flag_one octet plain (suc k) d below = absurd (omega (arith, below))
+
+-- In more of a stream the same is found first. One octet more ends the open segment, or none.
+octet_found : (stream : List ℕ) (octet : ℕ) → (more : List Found) × (found LARGEST_CONTENT (stream ++ octet ∷ []) ≡ found LARGEST_CONTENT stream ++ more)
+octet_found stream octet = at (is_flag octet) refl
+  where
+    at : (b : Bool) → is_flag octet ≡ b → (more : List Found) × (found LARGEST_CONTENT (stream ++ octet ∷ []) ≡ found LARGEST_CONTENT stream ++ more)
+    at true flag =
+        subst (λ o. (more : List Found) × (found LARGEST_CONTENT (stream ++ o ∷ []) ≡ found LARGEST_CONTENT stream ++ more)) (sym (eqb-true octet FLAG flag))
+        (map (found_in LARGEST_CONTENT) (ended (open_text stream)), found_flag LARGEST_CONTENT stream)
+    at false plain = ([], found_text LARGEST_CONTENT stream (octet ∷ []) (no_flag_one octet plain) ∙ sym (append-nil (found LARGEST_CONTENT stream)))
+
+found_more : (stream bytes : List ℕ) → (more : List Found) × (found LARGEST_CONTENT (stream ++ bytes) ≡ found LARGEST_CONTENT stream ++ more)
+found_more stream [] = ([], ap (found LARGEST_CONTENT) (append-nil stream) ∙ sym (append-nil (found LARGEST_CONTENT stream)))
+found_more stream (octet ∷ bytes) = then (octet_found stream octet) (found_more (stream ++ octet ∷ []) bytes)
+  where
+    then : (one : List Found) × (found LARGEST_CONTENT (stream ++ octet ∷ []) ≡ found LARGEST_CONTENT stream ++ one)
+        → (more : List Found) × (found LARGEST_CONTENT ((stream ++ octet ∷ []) ++ bytes) ≡ found LARGEST_CONTENT (stream ++ octet ∷ []) ++ more)
+        → (more : List Found) × (found LARGEST_CONTENT (stream ++ octet ∷ bytes) ≡ found LARGEST_CONTENT stream ++ more)
+    then one more = (
+      one.0 ++ more.0,
+      ap (found LARGEST_CONTENT) (sym (append_assoc stream (octet ∷ []) bytes)) ∙
+          (more.1 ∙ (ap (λ xs. xs ++ more.0) one.1 ∙ append_assoc (found LARGEST_CONTENT stream) one.0 more.0)),
+    )
+
+pub packets_begin : (role : Role) (stream bytes : List ℕ) → IsPrefix (heard_packets role stream) (heard_packets role (stream ++ bytes))
+unfolding heard_packets
+packets_begin role stream bytes =
+    let more = found_more stream bytes in
+    let frames : valid_frames LARGEST_CONTENT (stream ++ bytes) ≡ valid_frames LARGEST_CONTENT stream ++ flat_map frames_in more.0 =
+    ap (flat_map frames_in) more.1 ∙ flat_map-append frames_in (found LARGEST_CONTENT stream) more.0 in (
+      filter_map (heard_in_frame role) (flat_map frames_in more.0),
+      sym (ap (filter_map (heard_in_frame role)) frames ∙ filter_map-append (heard_in_frame role) (valid_frames LARGEST_CONTENT stream) (flat_map frames_in more.0)),
+    )
+
+pub no_fewer : (role : Role) (stream bytes : List ℕ) → length (heard_packets role stream) ≤ length (heard_packets role (stream ++ bytes))
+no_fewer role stream bytes =
+    let begins = packets_begin role stream bytes in omega (arith, ap length begins.1, length-append (heard_packets role stream) begins.0)

@@ -1,5 +1,6 @@
 -- The laws of the definitions. Each is the contract of a public function of `laws`.
 use Rattle.std.specs.Prelude.{◌≡◌, ◌↔◌, ℕ, ◌≤◌, List, [], ◌∷◌, ◌++◌, length, take, Option, Some}
+use mathlib.Core.List.{IsPrefix}
 use Rattle.hdlc_frame.specs.declared.octets.TheConstants.{FLAG, UI_CONTROL}
 use Rattle.hdlc_frame.specs.Found.{FrameParts}
 use Rattle.rpc_ids.specs.declared.method.Role.{Role}
@@ -16,6 +17,10 @@ use Rattle.rpc_frames.specs.Written.{IsBetweenFrames, IsSendable, frame_of_packe
 pub record NothingHeard : Type 0 where
   pub packets : (role : Role) → heard_packets role [] ≡ []
   pub counts : (role : Role) → counts_of role [] ≡ record { valid = 0; bad = 0; other = 0; dropped = 0 }
+
+-- in more of a stream the same packets are heard first
+abbrev pub HearsOn : Type 0
+HearsOn = (role : Role) (stream bytes : List ℕ) → IsPrefix (heard_packets role stream) (heard_packets role (stream ++ bytes))
 
 -- The frame that is written for a packet is heard as that packet, alone and behind any stream; its first flag may end
 -- a segment there, its last one leaves no segment open.
