@@ -6,7 +6,7 @@ use Rattle.std.proofs.lemmas.List.Elements.{All-head, All-tail, All-nil, All-con
 use Rattle.rpc_handlers.specs.declared.answer.Out.{Out}
 use Rattle.rpc_journal.specs.declared.entry.Entry.{Entry}
 use Rattle.rpc_journal.specs.declared.entry.EntryKind.{EntryKind}
-use Rattle.rpc_journal.specs.declared.entry.EntryKind.TheVariants.{Arrive, Invoke, Say, Done, Start, Finish, Replace, Cancel, Tick, Flush, EndIn, Halt}
+use Rattle.rpc_journal.specs.declared.entry.EntryKind.TheVariants.{Arrive, Invoke, Say, Done, Start, Finish, Replace, Cancel, Tick, Flush, EndIn, Halt, Close}
 use Rattle.rpc_packet.specs.Message.{message_of}
 use Rattle.rpc_packet.specs.Spelling.{spelling_of}
 use Rattle.text_fields.specs.Lines.{ended, lines_of}
@@ -50,6 +50,7 @@ kind_line text (Say c out) is = absurd is
 kind_line text (Done c) is = absurd is
 kind_line text (Replace c m) is = absurd is
 kind_line text (Halt why) is = absurd is
+kind_line text (Close channel) is = rw is.0 (word_line (codes "close ") _ refl (number_line channel (omega (arith, is.1))))
 
 line_lacks : (line : List ℕ) (e : Entry) → IsLine line e → Lacks 10 line
 line_lacks line e is =

@@ -14,7 +14,7 @@ use Rattle.rpc_packet.specs.Reading.{packet_of}
 use Rattle.rpc_packet.specs.Spelling.{spelling_of}
 use Rattle.rpc_handlers.specs.declared.answer.Answer.{Answer}
 use Rattle.rpc_journal.specs.declared.entry.EntryKind.{EntryKind}
-use Rattle.rpc_journal.specs.declared.entry.EntryKind.TheVariants.{Arrive, Invoke, Say, Done, Start, Finish, Replace, Cancel, Tick, Flush, EndIn, Halt}
+use Rattle.rpc_journal.specs.declared.entry.EntryKind.TheVariants.{Arrive, Invoke, Say, Done, Start, Finish, Replace, Cancel, Tick, Flush, EndIn, Halt, Close}
 use Rattle.journal_text.specs.Finds.{Finds}
 use Rattle.journal_text.specs.Reading.{IsAnswer, IsKind, IsSpelled}
 use Rattle.journal_text.proofs.FindLemmas.{finds_none, finds_some, none_is}
@@ -56,6 +56,7 @@ finish_parts text (Say c out) is = absurd is
 finish_parts text (Done c) is = absurd is
 finish_parts text (Replace c m) is = absurd is
 finish_parts text (Halt why) is = absurd is
+finish_parts text (Close channel) is = absurd (omega (arith, heads 102 99 _ _ is.0))
 
 -- the number in front of the first blank, and what stands behind it
 abbrev IsNumbered : List ℕ → ℕ → List ℕ → Type 0
@@ -111,6 +112,7 @@ arrive_parts text (Say c out) is = absurd is
 arrive_parts text (Done c) is = absurd is
 arrive_parts text (Replace c m) is = absurd is
 arrive_parts text (Halt why) is = absurd is
+arrive_parts text (Close channel) is = absurd (omega (arith, heads 97 99 _ _ is.0))
 
 -- a type is known by its number, and a packet by what it says
 known_type : (t : PacketType) → type_of (type_number t) ≡ Some t

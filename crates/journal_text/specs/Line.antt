@@ -10,7 +10,7 @@ use Rattle.rpc_handlers.specs.declared.answer.Out.{Out}
 use Rattle.rpc_handlers.specs.declared.answer.Out.TheVariants.{Say as Message, Begin, Append, Commit, Leave}
 use Rattle.rpc_journal.specs.declared.entry.Entry.{Entry}
 use Rattle.rpc_journal.specs.declared.entry.EntryKind.{EntryKind}
-use Rattle.rpc_journal.specs.declared.entry.EntryKind.TheVariants.{Arrive, Start, Finish, Cancel, Tick, Flush, EndIn}
+use Rattle.rpc_journal.specs.declared.entry.EntryKind.TheVariants.{Arrive, Start, Finish, Cancel, Tick, Flush, EndIn, Close}
 
 -- an item of an answer: a message, or what is done to the store
 abbrev pub item_text : Out → List ℕ
@@ -39,6 +39,7 @@ kind_text (Cancel c) = codes "cancel " ++ decimal c
 kind_text (Tick t) = codes "tick " ++ decimal t
 kind_text Flush = codes "flush"
 kind_text EndIn = codes "endin"
+kind_text (Close channel) = codes "close " ++ decimal channel
 kind_text _ = []
 
 -- the line of an entry

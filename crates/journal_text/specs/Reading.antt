@@ -14,7 +14,7 @@ use Rattle.rpc_handlers.specs.declared.answer.Out.{Out}
 use Rattle.rpc_handlers.specs.declared.answer.Out.TheVariants.{Say as Message, Begin, Append, Commit, Leave}
 use Rattle.rpc_journal.specs.declared.entry.Entry.{Entry}
 use Rattle.rpc_journal.specs.declared.entry.EntryKind.{EntryKind}
-use Rattle.rpc_journal.specs.declared.entry.EntryKind.TheVariants.{Arrive, Start, Finish, Cancel, Tick, Flush, EndIn}
+use Rattle.rpc_journal.specs.declared.entry.EntryKind.TheVariants.{Arrive, Start, Finish, Cancel, Tick, Flush, EndIn, Close}
 use Rattle.text_fields.specs.Lines.{lines_of}
 use Rattle.journal_text.specs.Line.{item_text, items_text}
 
@@ -82,6 +82,7 @@ IsKind text (Cancel c) = (text ≡ codes "cancel " ++ decimal c) × (c < 2 ^ 32)
 IsKind text (Tick t) = (text ≡ codes "tick " ++ decimal t) × (t < 2 ^ 64)
 IsKind text Flush = text ≡ codes "flush"
 IsKind text EndIn = text ≡ codes "endin"
+IsKind text (Close channel) = (text ≡ codes "close " ++ decimal channel) × (channel < 2 ^ 32)
 IsKind text _ = ⊥
 
 -- the line says this entry

@@ -42,6 +42,7 @@ fn add_entry(alloc: Global, entry: &Entry, text: &mut String) -> Result<(), Allo
         &EntryKind::Tick(now) => writeln!(text, "{seat} tick {now}"),
         EntryKind::Flush => writeln!(text, "{seat} flush"),
         EntryKind::EndIn => writeln!(text, "{seat} endin"),
+        &EntryKind::Close(channel) => writeln!(text, "{seat} close {channel}"),
         EntryKind::Invoke(_, _)
         | EntryKind::Say(_, _)
         | EntryKind::Done(_)

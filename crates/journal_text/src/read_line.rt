@@ -48,6 +48,9 @@ fn read_kind(alloc: Global, text: &[u8]) -> Result<Option<EntryKind>, AllocError
     if let Some(now) = strip_word(text, b"tick ") {
         return Ok(read_tick(now));
     }
+    if let Some(channel) = strip_word(text, b"close ") {
+        return Ok(read_close(channel));
+    }
     Ok(None)
 }
 
@@ -104,4 +107,11 @@ fn read_tick(text: &[u8]) -> Option<EntryKind>
 {
     let now = number(text)?;
     Some(EntryKind::Tick(now))
+}
+
+fn read_close(text: &[u8]) -> Option<EntryKind>
+    ensures { Finds result (IsKind (codes "close " ++ text.now)) }
+{
+    let channel = small_number(text)?;
+    Some(EntryKind::Close(channel))
 }

@@ -28,6 +28,7 @@ journal
 1 tick 18446744073709551615
 1 flush
 0 endin
+3 close 4294967295
 ";
 
 // The text printed of a journal that was read from a text.
@@ -165,6 +166,8 @@ fn lines_of_another_form_are_bad(rt: HostRuntime) -> Result<(), Fail> {
         "2 start 0x1",
         "2 cancel",
         "2 cancel -1",
+        "2 close",
+        "2 close 4294967296",
         "1 tick",
         "1 tick 18446744073709551616",
         "1 tick 01",
@@ -262,6 +265,8 @@ journal
         ("journal\n0 endin\n0 endin\n", fault(1, Broken::AfterEnd)),
         ("journal\n1 tick 5\n2 tick 6\n", fault(1, Broken::Seat)),
         ("journal\n1 flush\n", fault(0, Broken::Nothing)),
+        ("journal\n2 close 1\n", Verdict::Legal(2)),
+        ("journal\n2 close 1\n2 close 1\n", fault(1, Broken::Refused)),
         ("", Verdict::NoJournal(1)),
         ("journal\n0 endin\n\n", Verdict::NoJournal(3)),
     ];

@@ -4,15 +4,20 @@ use Rattle.std.proofs.lemmas.Bool.{true≢false}
 use Rattle.std.proofs.lemmas.List.{reverse-append}
 use Rattle.std.specs.List.{AllByRecursion}
 use Rattle.entry_lists.proofs.Makers.{goes_on_none, goes_on_one}
+use Rattle.rpc_ids.specs.declared.status.Status.{Status}
+use Rattle.rpc_handlers.specs.declared.answer.Answer.{Answer}
 use Rattle.rpc_handlers.specs.HandlerRule.{HandlerRule}
 use Rattle.rpc_journal.specs.declared.entry.Entry.{Entry}
 use Rattle.rpc_journal.specs.declared.entry.EntryKind.{EntryKind}
-use Rattle.rpc_journal.specs.declared.entry.EntryKind.TheVariants.{Start, EndIn}
+use Rattle.rpc_journal.specs.declared.answers.Cancelled.TheVariants.{Quiet}
+use Rattle.rpc_journal.specs.declared.entry.EntryKind.TheVariants.{Start, Finish, Cancel, EndIn}
 use Rattle.rpc_journal.specs.declared.setting.Setting.{Setting}
 use Rattle.rpc_journal.specs.Calls.{is_cancelled, runner_of}
-use Rattle.rpc_journal.specs.ChangeLaws.{GoesOnBy, AddsBySeat}
-use Rattle.rpc_journal.specs.Changes.{Accepts, StartDid, StartOfDid, FlushDid}
+use Rattle.rpc_journal.specs.ChangeLaws.{GoesOnBy, AddsBySeat, BecomesQuiet}
+use Rattle.rpc_journal.specs.Changes.{Accepts, StartDid, StartOfDid, FinishDid, CancelDid, FlushDid, cancel_answer}
 use Rattle.rpc_journal.specs.Conditions.{IsInputOpen}
+use Rattle.rpc_journal.specs.Effect.{Deed}
+use Rattle.rpc_journal.specs.Quiet.{is_quiet}
 use Rattle.rpc_journal.specs.History.{told, tell, history, entry_by, adding}
 use Rattle.rpc_journal.specs.Items.{input_ended, is_end_in}
 use Rattle.rpc_journal.specs.Lawful.{AllowedAll, IsLawful, is_wrong_seat}
@@ -71,6 +76,7 @@ adds_by_seat = record {
   end_in = λ seat before after did. one_by seat _ before after did.adds;
   flush_front = λ set seat result before after did. flush_by set seat result before after did;
   halt = λ set seat why before after did. some_by seat _ before after _ did.adds;
+  close_channel = λ set seat channel result before after did. accepts_by _ _ _ _ seat _ result before after did;
 }
 
 last_at : {A : Type 0} (xs : List A) (x : A) → slice_get (xs ++ x ∷ []) (length xs) ≡ Some x
@@ -109,4 +115,41 @@ input_stays_open set h more seat lawful others is = record {
   feeder = is.feeder;
   not_ended = subst (λ es. input_ended (told set es) ≡ false) (sym (reverse-append h more))
       (open_from set (reverse more) (reverse h) (allowed-parts set h more lawful) (all-reverse _ more others) is.not_ended);
+}
+
+-- a cancelled call without a run is quiet
+quiet_parts : (ds : List Deed) (c : ℕ) → is_cancelled ds c ≡ true → runner_of ds c ≡ None → is_quiet ds c ≡ true
+quiet_parts ds c cancelled idle = rw (cancelled, idle) refl
+
+is_quiet_answer : (status : Status) (seat : Option ℕ) (told : Status) → Quiet told ≡ cancel_answer status seat → seat ≡ None
+is_quiet_answer status None told is = refl
+is_quiet_answer status (Some s) told is = absurd cc
+
+-- a cancel that answers Quiet leaves the call quiet
+cancel_quiets : (set : Setting) (seat c : ℕ) (status : Status) (before after : List Entry) → CancelDid set seat c (Quiet status) before after
+    → is_quiet (history set after) c ≡ true
+cancel_quiets set seat c status before after did =
+    at (is_cancelled (history set before) c) refl did.adds (is_quiet_answer _ (runner_of (history set before) c) status did.answer)
+  where
+    at : (b : Bool) → is_cancelled (history set before) c ≡ b → after ≡ (if b then before else adding before seat (Cancel c)) → runner_of (history set before) c ≡ None
+        → is_quiet (history set after) c ≡ true
+    at true cancelled is idle = subst (λ es. is_quiet (history set es) c ≡ true) (sym is) (quiet_parts (history set before) c cancelled idle)
+    at false cancelled is idle =
+        let now : history set after ≡ tell set (history set before) (entry_by seat (Cancel c)) = ap (history set) is ∙ history-push set before (entry_by seat (Cancel c)) in
+        subst (λ ds. is_quiet ds c ≡ true) (sym now)
+        (quiet_parts (tell set (history set before) (entry_by seat (Cancel c))) c (rw (eq-eqb c c refl) refl) idle)
+
+-- and so does the end of a cancelled call's run
+finish_quiets : {H : Type 0} (set : Setting) (run : Run) (a : Answer) (handler : H) (result : Option H) (before after : List Entry)
+    → is_cancelled (history set before) run.call ≡ true → FinishDid set run a handler result before after → is_quiet (history set after) run.call ≡ true
+finish_quiets set run a handler result before after cancelled did =
+    let now : history set after ≡ tell set (history set before) (entry_by run.seat (Finish run.call a)) =
+    ap (history set) did.adds ∙ history-push set before (entry_by run.seat (Finish run.call a)) in
+    subst (λ ds. is_quiet ds run.call ≡ true) (sym now)
+    (quiet_parts (tell set (history set before) (entry_by run.seat (Finish run.call a))) run.call cancelled (rw (eq-eqb run.call run.call refl) refl))
+
+pub becomes_quiet : {H : Type 0} → BecomesQuiet H
+becomes_quiet = record {
+  cancel = cancel_quiets;
+  finish = λ set run a handler result before after cancelled did. finish_quiets set run a handler result before after cancelled did;
 }

@@ -1,12 +1,12 @@
 -- The ends that entries give: only to calls that are there and have no end, so that each call has at most one.
-use Rattle.std.proofs.Common.{◌≡◌, ℕ, ◌<◌, ◌≤◌, Bool, true, false, not, ◌&&◌, ◌||◌, ◌==◌, List, [], ◌∷◌, ◌++◌, length, Option, Some, None, option_to_list, option_and_then, if◌then◌else◌, refl, ap, sym, ◌∙◌, subst, arith, length-append}
+use Rattle.std.proofs.Common.{◌≡◌, ℕ, ◌+◌, ◌<◌, ◌≤◌, Bool, true, false, not, ◌&&◌, ◌||◌, ◌==◌, List, [], ◌∷◌, ◌++◌, length, Option, Some, None, option_to_list, option_and_then, if◌then◌else◌, refl, ap, sym, ◌∙◌, subst, arith, length-append}
 use Rattle.std.proofs.lemmas.Bool.{true≢false, false≢true, eqb-true, not-true, and_parts}
 use Rattle.std.proofs.lemmas.List.{append-nil}
 use Rattle.std.proofs.lemmas.Option.{slice_get_within}
 use Rattle.rpc_ids.specs.declared.method.MethodRef.{MethodRef}
 use Rattle.rpc_ids.specs.declared.method.Role.{Role}
 use Rattle.rpc_ids.specs.declared.method.Kind.{Kind}
-use Rattle.rpc_ids.specs.declared.status.Status.TheVariants.{Okay, Cancelled}
+use Rattle.rpc_ids.specs.declared.status.Status.TheVariants.{Okay, Cancelled, Aborted}
 use Rattle.rpc_ids.specs.Status.{status_of}
 use Rattle.rpc_ids.specs.declared.method.Role.TheVariants.{Server, Client}
 use Rattle.rpc_ids.specs.declared.status.Status.{Status}
@@ -18,7 +18,7 @@ use Rattle.rpc_handlers.specs.declared.answer.Answer.{Answer}
 use Rattle.rpc_handlers.specs.declared.answer.End.{End}
 use Rattle.rpc_journal.specs.declared.entry.Entry.{Entry}
 use Rattle.rpc_journal.specs.declared.entry.EntryKind.{EntryKind}
-use Rattle.rpc_journal.specs.declared.entry.EntryKind.TheVariants.{Arrive, Invoke, Say, Done, Start, Finish, Replace, Cancel, Tick, Flush, EndIn, Halt}
+use Rattle.rpc_journal.specs.declared.entry.EntryKind.TheVariants.{Arrive, Invoke, Say, Done, Start, Finish, Replace, Cancel, Tick, Flush, EndIn, Halt, Close}
 use Rattle.rpc_handlers.specs.declared.event.Memo.{Memo}
 use Rattle.rpc_journal.specs.declared.item.Item.{Item}
 use Rattle.rpc_journal.specs.declared.setting.Setting.{Setting}
@@ -30,8 +30,9 @@ use Rattle.rpc_journal.specs.Marks.{is_empty, is_okay, is_unary, streams_up, str
 use Rattle.rpc_journal.specs.Rows.{Row, channels_in, method_named, no_effect, says_item, status_packet, sends}
 use Rattle.rpc_journal.specs.ServerTable.{method_row, known_row, unknown_row}
 use Rattle.rpc_journal.specs.ClientTable.{call_row, live_row, no_call_row}
-use Rattle.rpc_journal.specs.Entries.{row_by, arrive_row, leaves, effect_of, invoke_effect, finish_effect, answered, end_effect, is_heard, cancel_effect, with_call}
+use Rattle.rpc_journal.specs.Entries.{each_from, is_live_on, row_by, arrive_row, leaves, effect_of, invoke_effect, finish_effect, answered, end_effect, is_heard, cancel_effect, with_call}
 use Rattle.rpc_journal.specs.History.{told}
+use Rattle.rpc_journal.proofs.EachLemmas.{none_before}
 use Rattle.rpc_channel.specs.Rising.{has_id}
 
 -- each of these ends is of a call that is there and has none yet, and no call is among them twice
@@ -198,6 +199,18 @@ with_call-ends : (ds : List Deed) (o : Option Opening) (item : Opening → Item)
 with_call-ends ds None item = tt
 with_call-ends ds (Some o) item = tt
 
+-- each of the calls from number n on that pass a test, which only live ones pass, is given this end
+each-ends : (ds : List Deed) (n : ℕ) (test : ℕ → Opening → Bool) (s : Status) (os : List Opening) → n + length os ≤ call_count ds
+    → ((k : ℕ) (o : Opening) → test k o ≡ true → has_end ds k ≡ false) → EndsOpen ds (each_from n test s os)
+each-ends ds n test s [] within live = tt
+each-ends ds n test s (o ∷ os) within live =
+    at (test n o) refl (each-ends ds (n + 1) test s os (omega (arith, within)) live) (none_before test s os (n + 1) n (omega arith))
+  where
+    at : (b : Bool) → test n o ≡ b → EndsOpen ds (each_from (n + 1) test s os) → of_call n (each_from (n + 1) test s os) ≡ []
+        → EndsOpen ds (if b then (n, s) ∷ each_from (n + 1) test s os else each_from (n + 1) test s os)
+    at true is rest none = (live n o is, omega (arith, within), none, rest)
+    at false is rest none = rest
+
 -- an entry gives ends only to calls that are there and have none
 pub effect-ends : (set : Setting) (ds : List Deed) (kind : EntryKind) → EndsOpen ds (effect_of set ds kind).ends
 effect-ends set ds (Arrive p) = arrive-ends set ds p
@@ -212,6 +225,7 @@ effect-ends set ds (Tick t) = tt
 effect-ends set ds Flush = tt
 effect-ends set ds EndIn = tt
 effect-ends set ds (Halt why) = tt
+effect-ends set ds (Close channel) = each-ends ds 0 (is_live_on ds channel) Aborted (calls ds) (omega arith) (λ k o live. not-true _ (and_parts _ _ live).0)
 
 -- of such ends a call with an end gets none, and another at most one
 ended_gets_none : (ds : List Deed) (c : ℕ) (xs : List (ℕ × Status)) → EndsOpen ds xs → has_end ds c ≡ true → of_call c xs ≡ []

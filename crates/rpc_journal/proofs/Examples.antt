@@ -1,5 +1,5 @@
 -- Closed histories, computed from the definitions.
-use Rattle.std.proofs.Common.{◌≡◌, ℕ, true, false, List, [], ◌∷◌, ◌++◌, slice_get, replicate, Some, None, is_none, unwrap_or, refl}
+use Rattle.std.proofs.Common.{◌≡◌, ℕ, true, false, List, [], ◌∷◌, ◌++◌, map, slice_get, replicate, Some, None, is_none, unwrap_or, refl}
 use Rattle.link_io.specs.declared.why.Why.TheVariants as why
 use Rattle.rpc_ids.specs.declared.status.Status.{Status}
 use Rattle.rpc_ids.specs.declared.status.Status.TheVariants as status
@@ -17,9 +17,10 @@ use Rattle.rpc_journal.specs.declared.answers.InvokeRefused.TheVariants as invok
 use Rattle.rpc_journal.specs.declared.answers.SayRefused.TheVariants as say
 use Rattle.rpc_journal.specs.declared.answers.StartOfRefused.TheVariants as start_of
 use Rattle.rpc_journal.specs.declared.answers.ReplaceRefused.TheVariants as replace
+use Rattle.rpc_journal.specs.declared.answers.CloseRefused.TheVariants as close
 use Rattle.rpc_journal.specs.declared.answers.Cancelled.TheVariants.{Quiet, Running}
 use Rattle.rpc_journal.specs.declared.entry.Entry.{Entry}
-use Rattle.rpc_journal.specs.declared.entry.EntryKind.TheVariants.{Invoke, Done, Start, Finish, Replace, Cancel, Tick, Flush, EndIn, Halt}
+use Rattle.rpc_journal.specs.declared.entry.EntryKind.TheVariants.{Invoke, Done, Start, Finish, Replace, Cancel, Tick, Flush, EndIn, Halt, Close}
 use Rattle.rpc_journal.specs.declared.fault.Broken.TheVariants.{Seat, AfterEnd, Refused, Nothing}
 use Rattle.rpc_journal.specs.declared.item.Item.{Item}
 use Rattle.rpc_journal.specs.declared.item.Act.TheVariants.{Send}
@@ -28,12 +29,12 @@ use Rattle.rpc_journal.specs.Queues.{waiting_of, taken_event}
 use Rattle.rpc_journal.specs.Items.{flush_count, is_ready, items_sent}
 use Rattle.rpc_journal.specs.Quiet.{is_quiet, is_settled}
 use Rattle.rpc_journal.specs.States.{state_of}
-use Rattle.rpc_journal.specs.Rows.{no_effect, says_item, status_packet, sends}
+use Rattle.rpc_journal.specs.Rows.{channels_in, no_effect, says_item, status_packet, sends}
 use Rattle.rpc_journal.specs.Entries.{arrive_row, keeps, leaves}
 use Rattle.rpc_journal.specs.History.{history, entry_by}
 use Rattle.rpc_journal.specs.Lawful.{broken, IsLawful}
 use Rattle.rpc_journal.specs.Choice.{oldest_place}
-use Rattle.rpc_journal.specs.Refusals.{arrive_refusal, invoke_refusal, say_refusal, done_refusal, start_of_refusal, replace_refusal}
+use Rattle.rpc_journal.specs.Refusals.{arrive_refusal, invoke_refusal, say_refusal, done_refusal, start_of_refusal, replace_refusal, close_refusal}
 use Rattle.rpc_journal.specs.Changes.{cancel_answer, is_spent}
 use Rattle.rpc_journal.proofs.DemoTable.{server, client, echo, count, sum, chat, watch, packet, arrives}
 
@@ -406,3 +407,58 @@ echoed_is_settled = refl
 echoed_responds : items_sent (history server echoed) ≡ sends 0 (record { ptype = Response; name = echo; payload = 97 ∷ []; status = 0 }) ∷ []
 unfolding arrive_row
 echoed_responds = refl
+
+-- Channel 1 is closed behind two calls on it, of which one runs, and one on channel 2
+
+abbrev on_two : CallName → CallName
+on_two name = record name { channel = 2 }
+
+abbrev before_close : List Entry
+before_close = arrives (packet Request chat []) ∷ arrives (packet Request sum []) ∷ arrives (packet Request (on_two chat) []) ∷ entry_by 2 (Start 0) ∷ []
+
+abbrev closed_one : List Entry
+closed_one = before_close ++ entry_by 5 (Close 1) ∷ []
+
+both_end : (end_of (history server closed_one) 0 ≡ Some status.Aborted) × (end_of (history server closed_one) 1 ≡ Some status.Aborted)
+unfolding arrive_row
+both_end = (refl, refl)
+
+other_lives : has_end (history server closed_one) 2 ≡ false
+unfolding arrive_row
+other_lives = refl
+
+peer_is_told : items_sent (history server closed_one)
+    ≡ sends 0 (status_packet ServerError chat status.Aborted) ∷ sends 1 (status_packet ServerError sum status.Aborted) ∷ []
+unfolding arrive_row
+peer_is_told = refl
+
+ended_alone_waits : map (λ w. w.event) (waiting_of (history server closed_one) 1) ≡ event.Ended status.Aborted ∷ []
+unfolding arrive_row
+ended_alone_waits = refl
+
+still_runs : runner_of (history server closed_one) 0 ≡ Some 2
+unfolding arrive_row
+still_runs = refl
+
+left_in : channels_in server (history server closed_one) ≡ 2 ∷ []
+unfolding arrive_row
+left_in = refl
+
+closes_once : (close_refusal server before_close 1 ≡ None) × (close_refusal server closed_one 1 ≡ Some close.NotIn) × (close_refusal server closed_one 3 ≡ Some close.NotIn)
+unfolding arrive_row
+closes_once = (refl, refl, refl)
+
+answered_unavailable : arrive_row server (history server closed_one) (packet Request chat []) ≡ record { does = says_item (reply chat status.Unavailable); answer = Answered }
+unfolding arrive_row
+answered_unavailable = refl
+
+-- a client's calls end so too, and no call is invoked on the channel
+
+abbrev client_closed : List Entry
+client_closed = entry_by 3 (Invoke (packet Request chat []) empty_memo) ∷ entry_by 3 (Close 1) ∷ []
+
+client_tells : items_sent (history client client_closed) ≡ sends 0 (packet Request chat []) ∷ sends 0 (status_packet ClientError chat status.Aborted) ∷ []
+client_tells = refl
+
+no_channel : invoke_refusal client client_closed sum ≡ Some invoke.NoChannel
+no_channel = refl

@@ -1,10 +1,13 @@
 -- What it takes to let a plain table follow an entry that is allowed.
-use Rattle.std.proofs.Common.{◌≡◌, ℕ, ◌+◌, ◌^◌, ◌<◌, ◌≤◌, Bool, true, false, not, ◌&&◌, ◌||◌, nat_le, List, ◌∷◌, length, count_by, Some, None, is_some, if◌then◌else◌, refl, ap, sym, ◌∙◌, subst, arith}
+use Rattle.std.proofs.Common.{◌≡◌, ℕ, ◌+◌, ◌^◌, ◌<◌, ◌≤◌, Bool, true, false, not, ◌&&◌, ◌||◌, nat_le, List, ◌∷◌, length, count_by, Some, None, is_some, is_none, if◌then◌else◌, refl, ap, sym, ◌∙◌, subst, arith}
+use Rattle.std.specs.VecDeque.{deque_len, deque_capacity}
 use Rattle.std.proofs.lemmas.Bool.{true≢false, leb-false, and_parts, not-true, not-false, ltb-false}
 use Rattle.std.proofs.lemmas.List.Sums.{count_by-le-length}
 use Rattle.std.proofs.lemmas.Option.{slice_get_within}
-use Rattle.rpc_ids.specs.declared.method.MethodRef.{MethodRef}
+use Rattle.rpc_ids.specs.declared.method.Role.{Role}
 use Rattle.rpc_packet.specs.declared.owned.Packet.{Packet}
+use Rattle.rpc_packet.specs.declared.packet_type.PacketType.{PacketType}
+use Rattle.rpc_packet.specs.declared.packet_type.PacketType.TheVariants.{Request}
 use Rattle.rpc_handlers.specs.declared.answer.Answer.{Answer}
 use Rattle.rpc_handlers.specs.declared.event.Memo.{Memo}
 use Rattle.rpc_handlers.specs.Limits.{is_past_limits}
@@ -12,18 +15,19 @@ use Rattle.rpc_journal.specs.declared.call_state.CallState.{CallState}
 use Rattle.rpc_journal.specs.declared.call_states.CallStates.{CallStates}
 use Rattle.rpc_journal.specs.declared.entry.Entry.{Entry}
 use Rattle.rpc_journal.specs.declared.entry.EntryKind.{EntryKind}
-use Rattle.rpc_journal.specs.declared.entry.EntryKind.TheVariants.{Invoke, Done, Start, Finish, Replace, Flush}
+use Rattle.rpc_journal.specs.declared.entry.EntryKind.TheVariants.{Invoke, Start, Finish, Replace, Flush}
 use Rattle.rpc_journal.specs.declared.notice.Notice.{Notice}
+use Rattle.rpc_journal.specs.declared.notice.Notice.TheVariants.{Time, InputEnded, ChannelClosed}
 use Rattle.rpc_journal.specs.declared.setting.Setting.{Setting}
 use Rattle.rpc_journal.specs.Calls.{call_count}
 use Rattle.rpc_journal.specs.Effect.{Deed}
 use Rattle.rpc_journal.specs.History.{entry_by, tell}
 use Rattle.rpc_journal.specs.Items.{flush_count, halt_reason, is_ready, items_sent}
-use Rattle.rpc_journal.specs.Lawful.{broken, call_named, flushes_nothing, is_refused, is_unknown, starts_unready}
-use Rattle.rpc_journal.specs.Moves.{IsServerOf}
-use Rattle.rpc_journal.specs.Rows.{no_effect}
+use Rattle.rpc_journal.specs.Lawful.{broken, call_named, flushes_nothing, is_refused, is_request, is_unknown, starts_unready}
+use Rattle.rpc_journal.specs.Marks.{is_server}
+use Rattle.rpc_journal.specs.Rows.{method_named, no_effect}
 use Rattle.rpc_journal.specs.Tells.{CanFinish, CanStart, HasRoomAt, HasRoomFor, Tells}
-use Rattle.rpc_journal.specs.Touch.{deed_by, hears_answer, is_startable, items_given, says_messages, is_message}
+use Rattle.rpc_journal.specs.Touch.{deed_by, events_kept, hears_answer, is_startable, items_given, says_messages, is_message, tells_end}
 use Rattle.rpc_journal.proofs.Allowed.{allowed}
 use Rattle.rpc_journal.proofs.KnownStates.{ready_known}
 use Rattle.rpc_journal.proofs.TableSteps.{table_idle}
@@ -46,10 +50,6 @@ can_start set ds t e c tells fits is = record {
       not-true _ (and_parts _ _ (and_parts _ _ (and_parts _ _ (and_parts _ _ ready).0).0).0).0;
 }
 
-first_false : (a b c : Bool) → (a || b || c) ≡ false → a ≡ false
-first_false true b c is = absurd (true≢false is)
-first_false false b c is = refl
-
 or_first : (a b : Bool) → (a || b) ≡ false → a ≡ false
 or_first true b is = absurd (true≢false is)
 or_first false b is = refl
@@ -57,21 +57,22 @@ or_first false b is = refl
 few_items : (a : Answer) → is_past_limits a ≡ false → length a.items ≤ 512
 few_items a fits = ltb-false 512 (length a.items) (or_first _ _ (or_first _ _ fits))
 
-few_given : (r : CallState) (a : Answer) → length a.items ≤ 512 → items_given r a ≤ 513
-few_given r a few = at r.cancelled (hears_answer r && is_some a.end) (count_by-le-length (λ out. not (is_message out) || says_messages r) a.items)
+few_given : (role : Role) (r : CallState) (a : Answer) → length a.items ≤ 512 → items_given role r a ≤ 513
+few_given role r a few =
+    at r.cancelled (hears_answer r && tells_end role r.method.kind r.done a.end) (count_by-le-length (λ out. not (is_message out) || says_messages role r) a.items)
   where
-    at : (cut ended : Bool) → count_by (λ out. not (is_message out) || says_messages r) a.items ≤ length a.items
-        → (if cut then 1 else count_by (λ out. not (is_message out) || says_messages r) a.items + (if ended then 1 else 0)) ≤ 513
+    at : (cut ended : Bool) → count_by (λ out. not (is_message out) || says_messages role r) a.items ≤ length a.items
+        → (if cut then 1 else count_by (λ out. not (is_message out) || says_messages role r) a.items + (if ended then 1 else 0)) ≤ 513
     at true ended bound = omega arith
     at false true bound = omega (arith, bound, few)
     at false false bound = omega (arith, bound, few)
 
-pub can_finish : (set : Setting) (ds : List Deed) (t : CallStates) (e : Entry) (c : ℕ) (a : Answer) → Tells ds t → broken set ds e ≡ None
-    → e.kind ≡ Finish c a → t.unflushed + 513 < 2 ^ 64 → CanFinish t c a
-can_finish set ds t e c a tells fits is room = record {
+pub can_finish : (role : Role) (set : Setting) (ds : List Deed) (t : CallStates) (e : Entry) (c : ℕ) (a : Answer) → Tells ds t → broken set ds e ≡ None
+    → e.kind ≡ Finish c a → t.unflushed + 513 < 2 ^ 64 → CanFinish role t c a
+can_finish role set ds t e c a tells fits is room = record {
   within = known_call set ds t e c tells fits (ap call_named is);
   room = λ r there.
-      let few : items_given r a ≤ 513 = few_given r a (few_items a (subst (λ kind. is_refused set ds kind ≡ false) is (allowed set ds e fits).accepted)) in
+      let few : items_given role r a ≤ 513 = few_given role r a (few_items a (subst (λ kind. is_refused set ds kind ≡ false) is (allowed set ds e fits).accepted)) in
       omega (arith, few, room);
 }
 
@@ -83,28 +84,55 @@ can_flush set ds t e tells fits is =
     let more : flush_count ds < length (items_sent ds) = leb-false _ _ (or_first _ _ some) in
     omega (arith, more, tells.items)
 
+few_kept : (notice : Notice) (r : CallState) → events_kept notice r ≤ deque_len r.waiting
+few_kept (Time now) r = omega arith
+few_kept InputEnded r = omega arith
+few_kept (ChannelClosed channel) r = omega arith
+
 pub room_for_all : (t : CallStates) (notice : Notice) → ((c : ℕ) → c < length t.calls.items → HasRoomAt t.calls.items c) → HasRoomFor notice t.calls.items
-room_for_all t notice rooms = record { room = λ c r there told. (rooms c (slice_get_within _ _ _ there)).room r there }
+room_for_all t notice rooms = record {
+  room = λ c r there told.
+      let free : deque_len r.waiting < deque_capacity r.waiting = (rooms c (slice_get_within _ _ _ there)).room r there in
+      omega (arith, free, few_kept notice r);
+}
 
--- a server's allowed entry is neither an Invoke nor a Done
-pub no_invoke : {A : Type 0} (set : Setting) (ds : List Deed) (e : Entry) (p : Packet) (m : Memo) (ids : List ℕ) (methods : List MethodRef)
-    → IsServerOf set ids methods → broken set ds e ≡ None → e.kind ≡ Invoke p m → A
-no_invoke set ds e p m ids methods server fits is =
+a_request : (ptype : PacketType) → not (is_request ptype) ≡ false → ptype ≡ Request
+a_request Request is = refl
+a_request _ is = absurd (true≢false is)
+
+-- an allowed Invoke is of a REQUEST, and of a method that is known
+pub record Invokes (set : Setting) (p : Packet) : Type 0 where
+  pub request : p.ptype ≡ Request
+  pub named : is_none (method_named set p.name) ≡ false
+
+invokes : (a b c d f g n q : Bool) → (a || b || c || d || f || g || n || q) ≡ false → (b ≡ false) × (n ≡ false)
+invokes false false false false false false false false is = (refl, refl)
+invokes true b c d f g n q is = absurd (true≢false is)
+invokes false true c d f g n q is = absurd (true≢false is)
+invokes false false true d f g n q is = absurd (true≢false is)
+invokes false false false true f g n q is = absurd (true≢false is)
+invokes false false false false true g n q is = absurd (true≢false is)
+invokes false false false false false true n q is = absurd (true≢false is)
+invokes false false false false false false true q is = absurd (true≢false is)
+invokes false false false false false false false true is = absurd (true≢false is)
+
+pub invokes_request : (set : Setting) (ds : List Deed) (e : Entry) (p : Packet) (m : Memo) → broken set ds e ≡ None → e.kind ≡ Invoke p m → Invokes set p
+invokes_request set ds e p m fits is =
     let accepted : is_refused set ds (Invoke p m) ≡ false = subst (λ kind. is_refused set ds kind ≡ false) is (allowed set ds e fits).accepted in
-    absurd (true≢false (rw (server.role) at accepted))
+    let parts = invokes (is_server set.role) (not (is_request p.ptype)) _ _ _ _ (is_none (method_named set p.name)) _ accepted in
+    record { request = a_request p.ptype parts.0; named = parts.1 }
 
-pub no_done : {A : Type 0} (set : Setting) (ds : List Deed) (e : Entry) (c : ℕ) (ids : List ℕ) (methods : List MethodRef)
-    → IsServerOf set ids methods → broken set ds e ≡ None → e.kind ≡ Done c → A
-no_done set ds e c ids methods server fits is =
-    let accepted : is_refused set ds (Done c) ≡ false = subst (λ kind. is_refused set ds kind ≡ false) is (allowed set ds e fits).accepted in
-    absurd (true≢false (rw (server.role) at accepted))
+-- so that one that is found nowhere isn't allowed
+pub no_method : {A : Type 0} (set : Setting) (ds : List Deed) (e : Entry) (p : Packet) (m : Memo) → broken set ds e ≡ None → e.kind ≡ Invoke p m
+    → method_named set p.name ≡ None → A
+no_method set ds e p m fits is none = absurd (true≢false (sym (ap is_none none) ∙ (invokes_request set ds e p m fits is).named))
 
 -- a Replace changes nothing that a plain table knows
 pub replace_tells : (ds : List Deed) (seat c : ℕ) (m : Memo) (t : CallStates) → Tells ds t → Tells (deed_by seat (Replace c m) no_effect ∷ ds) t
 replace_tells ds seat c m t tells =
     table_idle ds (deed_by seat (Replace c m) no_effect) t t tells
     (record { start = λ k. refl; finish = λ k. refl; cancel = λ k. refl; ends = refl; drops = refl; puts = refl; says = λ k. refl })
-    refl (record { unflushing = refl; going_on = refl; running = refl }) refl refl (omega arith) refl refl
+    refl (record { unflushing = refl; going_on = refl; running = refl; unclosed = refl }) refl refl refl (omega arith) refl refl
 
 -- an entry of this kind
 pub of_kind : (set : Setting) (ds : List Deed) (e : Entry) (kind : EntryKind) (u : CallStates) → e.kind ≡ kind

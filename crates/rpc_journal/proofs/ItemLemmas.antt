@@ -69,7 +69,7 @@ call_stays set h more c is =
     record { below = omega (arith, is.below, fewer) }
 
 -- each entry is of a seat that may make it
-right_seats : (set : Setting) (es : List Entry) → AllowedAll set es → AllByRecursion (λ e. is_wrong_seat e.seat e.kind ≡ false) es
+pub right_seats : (set : Setting) (es : List Entry) → AllowedAll set es → AllByRecursion (λ e. is_wrong_seat e.seat e.kind ≡ false) es
 right_seats set [] all = tt
 right_seats set (e ∷ es) all = ((allowed set (told set es) e all.1).seat, right_seats set es all.0)
 

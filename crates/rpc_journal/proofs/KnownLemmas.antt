@@ -20,7 +20,7 @@ use Rattle.rpc_handlers.specs.declared.event.Event.{Event}
 use Rattle.rpc_handlers.specs.declared.event.Memo.{Memo}
 use Rattle.rpc_journal.specs.declared.entry.Entry.{Entry}
 use Rattle.rpc_journal.specs.declared.entry.EntryKind.{EntryKind}
-use Rattle.rpc_journal.specs.declared.entry.EntryKind.TheVariants.{Arrive, Invoke, Say, Done, Start, Finish, Replace, Cancel, Tick, Flush, EndIn, Halt}
+use Rattle.rpc_journal.specs.declared.entry.EntryKind.TheVariants.{Arrive, Invoke, Say, Done, Start, Finish, Replace, Cancel, Tick, Flush, EndIn, Halt, Close}
 use Rattle.rpc_journal.specs.declared.item.Item.{Item}
 use Rattle.rpc_journal.specs.declared.setting.Setting.{Setting}
 use Rattle.rpc_journal.specs.Calls.{of_call, calls, call_count, call_at, live_call, is_cancelled, is_start_of, is_finish_of, runner_of}
@@ -142,7 +142,7 @@ end_effect-puts Client c name kind done (Some end) = at (is_okay end.status) (is
     at true false = refl
     at false closed = refl
 
-finish-puts : (set : Setting) (ds : List Deed) (c : ℕ) (a : Answer) (o : Option Opening) → (finish_effect set ds c a o).puts ≡ []
+pub finish-puts : (set : Setting) (ds : List Deed) (c : ℕ) (a : Answer) (o : Option Opening) → (finish_effect set ds c a o).puts ≡ []
 finish-puts set ds c a None = refl
 finish-puts set ds c a (Some o) = at (is_cancelled ds c) (is_heard ds c)
   where
@@ -151,7 +151,7 @@ finish-puts set ds c a (Some o) = at (is_cancelled ds c) (is_heard ds c)
     at false true = end_effect-puts set.role c o.name o.method.kind (is_done ds c) a.end
     at false false = refl
 
-cancel-puts : (set : Setting) (ds : List Deed) (c : ℕ) (o : Option Opening) → (cancel_effect set ds c o).puts ≡ []
+pub cancel-puts : (set : Setting) (ds : List Deed) (c : ℕ) (o : Option Opening) → (cancel_effect set ds c o).puts ≡ []
 cancel-puts set ds c None = refl
 cancel-puts set ds c (Some o) = refl
 
@@ -172,6 +172,7 @@ effect-puts set ds (Tick t) = each_from-puts _ 0 _ _ (calls ds) (omega arith)
 effect-puts set ds Flush = tt
 effect-puts set ds EndIn = each_from-puts _ 0 _ _ (calls ds) (omega arith)
 effect-puts set ds (Halt why) = tt
+effect-puts set ds (Close channel) = each_from-puts _ 0 _ _ (calls ds) (omega arith)
 
 -- no event is among these for a number that is too large
 none_beyond : (n c : ℕ) (puts : List (ℕ × Event)) → PutsBelow n puts → n ≤ c → of_call c puts ≡ []
@@ -180,7 +181,7 @@ none_beyond n c (put ∷ puts) below beyond =
     rw (ne_eqb put.0 c (λ same. omega (arith, same, below.0, beyond))) (none_beyond n c puts below.1 beyond)
 
 -- no event was put to a call that isn't there
-unput : (set : Setting) (h : List Entry) (c : ℕ) → call_count (told set h) ≤ c → puts_since (told set h) c ≡ []
+pub unput : (set : Setting) (h : List Entry) (c : ℕ) → call_count (told set h) ≤ c → puts_since (told set h) c ≡ []
 unput set [] c beyond = refl
 unput set (e ∷ h) c beyond =
     let more = length-append (calls (told set h)) (option_to_list (effect_of set (told set h) e.kind).opens) in

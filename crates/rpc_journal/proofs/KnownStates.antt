@@ -1,14 +1,14 @@
 -- What the history says of a call, by the state that a plain table has of it, where it has one.
-use Rattle.std.proofs.Common.{◌≡◌, ℕ, false, not, List, [], drop, slice_get, count_by, Option, Some, None, is_some, is_none, refl, ap, sym, ◌∙◌, arith}
+use Rattle.std.proofs.Common.{◌≡◌, ℕ, true, false, not, List, [], drop, slice_get, count_by, Option, Some, None, is_some, is_none, refl, ap, sym, ◌∙◌, arith}
 use Rattle.std.proofs.Math.Seq.{drop-nil}
-use Rattle.rpc_ids.specs.declared.method.Role.TheVariants.{Server}
+use Rattle.rpc_ids.specs.declared.method.Role.{Role}
 use Rattle.rpc_journal.specs.declared.call_state.CallState.{CallState}
 use Rattle.rpc_journal.specs.declared.call_states.CallStates.{CallStates}
 use Rattle.rpc_journal.specs.Calls.{call_at, calls, has_end, is_cancelled, runner_of}
 use Rattle.rpc_journal.specs.Effect.{Deed}
-use Rattle.rpc_journal.specs.Items.{items_waiting, is_ready, halt_reason}
-use Rattle.rpc_journal.specs.Lawful.{has_stream}
-use Rattle.rpc_journal.specs.Marks.{is_empty, streams_down}
+use Rattle.rpc_journal.specs.Items.{items_waiting, is_done, is_ready, halt_reason}
+use Rattle.rpc_journal.specs.Lawful.{has_stream, is_unary_call}
+use Rattle.rpc_journal.specs.Marks.{is_empty, is_unary, streams_out}
 use Rattle.rpc_journal.specs.Queues.{is_ended, messages_waiting, starts_since, waiting_of}
 use Rattle.rpc_journal.specs.Tells.{TellsOf, IsSilentOn, TellsCalls, Tells}
 use Rattle.rpc_journal.specs.Touch.{is_startable}
@@ -47,14 +47,28 @@ pub run_known : (ds : List Deed) (states : List CallState) (c : ℕ) (o : Option
 run_known ds states c None tells is = (silent_at ds states c tells is).idle
 run_known ds states c (Some r) tells is = (tells.each c r is).run
 
-pub stream_known : (ds : List Deed) (states : List CallState) (c : ℕ) (o : Option CallState) → TellsCalls ds states → slice_get states c ≡ o
-    → has_stream Server (call_at ds c) ≡ told_of false (λ r. streams_down r.method.kind) o
-stream_known ds states c None tells is =
+pub stream_known : (role : Role) (ds : List Deed) (states : List CallState) (c : ℕ) (o : Option CallState) → TellsCalls ds states → slice_get states c ≡ o
+    → has_stream role (call_at ds c) ≡ told_of false (λ r. streams_out role r.method.kind) o
+stream_known role ds states c None tells is =
     let none : call_at ds c ≡ None = slice_get_past (calls ds) c (omega (arith, get_none states c is, tells.many)) in
-    ap (has_stream Server) none
-stream_known ds states c (Some r) tells is =
+    ap (has_stream role) none
+stream_known role ds states c (Some r) tells is =
     let opening = opening_is ds c r (tells.each c r is) in
-    ap (has_stream Server) opening.1 ∙ ap (λ m. streams_down m.kind) opening.3
+    ap (has_stream role) opening.1 ∙ ap (λ m. streams_out role m.kind) opening.3
+
+pub unary_known : (ds : List Deed) (states : List CallState) (c : ℕ) (o : Option CallState) → TellsCalls ds states → slice_get states c ≡ o
+    → is_unary_call (call_at ds c) ≡ told_of true (λ r. is_unary r.method.kind) o
+unary_known ds states c None tells is =
+    let none : call_at ds c ≡ None = slice_get_past (calls ds) c (omega (arith, get_none states c is, tells.many)) in
+    ap is_unary_call none
+unary_known ds states c (Some r) tells is =
+    let opening = opening_is ds c r (tells.each c r is) in
+    ap is_unary_call opening.1 ∙ ap (λ m. is_unary m.kind) opening.3
+
+pub done_known : (ds : List Deed) (states : List CallState) (c : ℕ) (o : Option CallState) → TellsCalls ds states → slice_get states c ≡ o
+    → is_done ds c ≡ told_of false (λ r. r.done) o
+done_known ds states c None tells is = (silent_at ds states c tells is).undone
+done_known ds states c (Some r) tells is = (tells.each c r is).done
 
 pub messages_known : (ds : List Deed) (states : List CallState) (c : ℕ) (o : Option CallState) → TellsCalls ds states → slice_get states c ≡ o
     → messages_waiting ds c ≡ told_of 0 (λ r. count_by (λ w. not (is_ended w.event)) r.waiting.items) o

@@ -14,7 +14,7 @@ use Rattle.rpc_handlers.specs.HandlerRule.{HandlerRule}
 use Rattle.rpc_handlers.specs.Limits.{is_past_limits}
 use Rattle.rpc_journal.specs.declared.entry.Entry.{Entry}
 use Rattle.rpc_journal.specs.declared.entry.EntryKind.{EntryKind}
-use Rattle.rpc_journal.specs.declared.entry.EntryKind.TheVariants.{Arrive, Invoke, Say, Done, Start, Finish, Replace, Cancel, Tick, Flush, EndIn, Halt}
+use Rattle.rpc_journal.specs.declared.entry.EntryKind.TheVariants.{Arrive, Invoke, Say, Done, Start, Finish, Replace, Cancel, Tick, Flush, EndIn, Halt, Close}
 use Rattle.rpc_journal.specs.declared.setting.Setting.{Setting}
 use Rattle.rpc_journal.specs.Calls.{call_at, ends_of, has_end, is_cancelled, live_call, runner_of}
 use Rattle.rpc_journal.specs.ChangeLaws.{KeepsLegal}
@@ -26,22 +26,22 @@ use Rattle.rpc_journal.specs.Lawful.{IsAnsweredByRule, IsLegal, full_queue, has_
 use Rattle.rpc_journal.specs.Marks.{is_empty, is_server, or_else}
 use Rattle.rpc_journal.specs.Rows.{channels_in, method_named}
 use Rattle.rpc_channel.specs.Rising.{has_id}
-use Rattle.rpc_journal.specs.Refusals.{refused_where, arrive_refusal, invoke_refusal, say_refusal, done_refusal, replace_refusal}
+use Rattle.rpc_journal.specs.Refusals.{refused_where, arrive_refusal, invoke_refusal, say_refusal, done_refusal, replace_refusal, close_refusal}
 use Rattle.rpc_journal.specs.Runs.{Run, IsAnswerOf, IsRunning}
 use Rattle.rpc_journal.proofs.Allowed.{Allowed, allow}
 use Rattle.rpc_journal.proofs.KnownLemmas.{ready_known, run_known}
 use Rattle.rpc_journal.proofs.Push.{legal-push}
 
 -- nothing speaks against a call where none of two things does
-or_else-none : {A : Type 0} (a b : Option A) → or_else a b ≡ None → (a ≡ None) × (b ≡ None)
+pub or_else-none : {A : Type 0} (a b : Option A) → or_else a b ≡ None → (a ≡ None) × (b ≡ None)
 or_else-none None b h = (refl, h)
 or_else-none (Some x) b h = absurd cc
 
-refused_where-none : {E : Type 0} (b : Bool) (e : E) → refused_where b e ≡ None → b ≡ false
+pub refused_where-none : {E : Type 0} (b : Bool) (e : E) → refused_where b e ≡ None → b ≡ false
 refused_where-none true e h = absurd cc
 refused_where-none false e h = refl
 
-option_map-none : {A B : Type 0} (f : A → B) (o : Option A) → option_map f o ≡ None → is_some o ≡ false
+pub option_map-none : {A B : Type 0} (f : A → B) (o : Option A) → option_map f o ≡ None → is_some o ≡ false
 option_map-none f None h = refl
 option_map-none f (Some x) h = absurd cc
 
@@ -225,6 +225,10 @@ halt_allowed : (set : Setting) (h : List Entry) (seat : ℕ) (why : Why) → Can
 halt_allowed set h seat why can unhalted =
     record { seat = refl; input = refl; known = refl; started = refl; finished = refl; accepted = rw (unhalted, unsettled why can) refl; something = refl }
 
+close_allowed : (set : Setting) (h : List Entry) (seat channel : ℕ) → close_refusal set h channel ≡ None → Allowed set (history set h) (entry_by seat (Close channel))
+close_allowed set h seat channel unrefused =
+    record { seat = refl; input = refl; known = refl; started = refl; finished = refl; accepted = refused_where-none _ _ (or_else-none _ _ unrefused).1; something = refl }
+
 start_legal : {R : Type 0} (rule : HandlerRule) (run_of : R → Run) (set : Setting) (seat : ℕ) (result : _) (before after : List Entry)
     → IsLegal rule set before → StartDid rule run_of set seat result before after → IsLegal rule set after
 start_legal rule run_of set seat (Ok (Some r)) before after legal did =
@@ -274,4 +278,5 @@ keeps_legal = record {
   end_in = λ rule set seat before after legal input did. legal_after rule set seat _ before after legal did.adds (end_in_allowed set before seat input) tt;
   flush_front = λ rule set seat result before after legal by did. flush_legal rule set seat result before after legal by did;
   halt = λ rule set seat why before after legal can did. halt_legal rule set seat why before after legal can (is_some (halt_reason (history set before))) refl did.adds;
+  close_channel = λ rule set seat channel result before after legal did. accepts_legal _ _ _ _ rule set seat _ result before after legal (close_allowed set before seat channel) tt did;
 }

@@ -1,8 +1,11 @@
 pub mod Allowed
 pub mod ChangeLemmas
+pub mod CloseLemmas
 pub mod DeedLemmas
 pub mod DemoTable
+pub mod EachLemmas
 pub mod EndLemmas
+pub mod EndedLemmas
 pub mod Examples
 pub mod FinishLemmas
 pub mod FollowLemmas
@@ -19,7 +22,9 @@ pub mod Push
 pub mod VerdictLemmas
 pub mod RoomLemmas
 pub mod RunLemmas
+pub mod StayLemmas
 pub mod StepLemmas
 pub mod TableLemmas
 pub mod TableSteps
 pub mod TellLemmas
+pub mod WaitLemmas

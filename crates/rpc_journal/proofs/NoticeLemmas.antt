@@ -1,82 +1,52 @@
--- How a plain table follows its history over an entry that puts an event to many calls.
-use Rattle.std.proofs.Common.{◌≡◌, ◌≢◌, ◌⊎◌, ℕ, zero, suc, ◌+◌, ◌<◌, ◌≤◌, Bool, true, false, not, List, [], ◌∷◌, length, set, slice_get, Option, Some, None, is_some, is_none, if◌then◌else◌, refl, ap, sym, ◌∙◌, subst, inl, inr, eq-eqb, ne_eqb, arith}
+-- How a plain table follows its history over an entry that tells many calls.
+use Rattle.std.proofs.Common.{◌≡◌, ◌≢◌, ◌⊎◌, ℕ, zero, suc, ◌+◌, ◌<◌, ◌≤◌, Bool, true, false, not, ◌&&◌, ◌||◌, ◌==◌, List, [], ◌∷◌, ◌++◌, length, map, set, slice_get, cond, count_by, Option, Some, None, is_some, is_none, if◌then◌else◌, refl, ap, sym, ◌∙◌, subst, inl, inr, arith}
+use Rattle.std.specs.List.{list_any}
 use Rattle.std.proofs.Math.Arith.{lt_of_le-ne}
 use Rattle.std.proofs.lemmas.Option.{slice_get_within}
+use Rattle.rpc_ids.specs.declared.method.Role.{Role}
+use Rattle.rpc_ids.specs.declared.status.Status.{Status}
+use Rattle.rpc_ids.specs.declared.status.Status.TheVariants.{Aborted, Unavailable}
 use Rattle.rpc_handlers.specs.declared.event.Event.{Event}
+use Rattle.rpc_handlers.specs.declared.event.Event.TheVariants.{Ended, Tick}
 use Rattle.rpc_journal.specs.declared.call_state.CallState.{CallState}
 use Rattle.rpc_journal.specs.declared.entry.EntryKind.{EntryKind}
 use Rattle.rpc_journal.specs.declared.notice.Notice.{Notice}
-use Rattle.rpc_journal.specs.declared.notice.Notice.TheVariants.{Time, InputEnded}
+use Rattle.rpc_journal.specs.declared.notice.Notice.TheVariants.{Time, InputEnded, ChannelClosed}
 use Rattle.rpc_journal.specs.Calls.{of_call, calls, call_count, is_start_of, is_finish_of, is_cancel_of}
 use Rattle.rpc_journal.specs.Effect.{Effect, Opening, Deed}
-use Rattle.rpc_journal.specs.Entries.{each_from, is_live, wants_tick}
-use Rattle.rpc_journal.specs.Rows.{no_effect}
+use Rattle.rpc_journal.specs.Entries.{close_effect, each_from, error_type, is_live, is_live_on, made_from, wants_tick}
+use Rattle.rpc_journal.specs.Marks.{is_empty}
+use Rattle.rpc_journal.specs.Rows.{no_effect, sends, status_packet}
 use Rattle.rpc_journal.specs.Tells.{TellsOf, TellsCalls, IsToldAll}
-use Rattle.rpc_journal.specs.Touch.{IsTouched, Touches, deed_by, is_told, putting, telling, told_event, untouched}
+use Rattle.rpc_journal.specs.Touch.{IsTouched, Touch, Touches, closing, deed_by, is_told, putting, telling, touch_told, untouched}
 use Rattle.rpc_journal.proofs.DeedLemmas.{never}
+use Rattle.rpc_journal.proofs.EachLemmas.{has_number, none_past, one_put}
+use Rattle.rpc_journal.proofs.FinishLemmas.{completes, error_quiet}
 use Rattle.rpc_journal.proofs.PlaceLemmas.{get_some}
 use Rattle.rpc_journal.proofs.StepLemmas.{get_other, get_set, none_opens, same_at, same_or_not}
 use Rattle.rpc_journal.proofs.TableLemmas.{ended_is, opening_is, some_same}
 use Rattle.rpc_journal.proofs.TellLemmas.{tells_touched}
 
-module _ (test : ℕ → Opening → Bool) (event : Event) where
-  -- none is put to a call of a lower number
-  none_before : (os : List Opening) (n k : ℕ) → k < n → of_call k (each_from n test event os) ≡ []
-  none_before [] n k below = refl
-  none_before (o ∷ os) n k below = at (test n o) (none_before os (n + 1) k (omega (arith, below)))
-    where
-      at : (b : Bool) → of_call k (each_from (n + 1) test event os) ≡ []
-          → of_call k (if b then (n, event) ∷ each_from (n + 1) test event os else each_from (n + 1) test event os) ≡ []
-      at true rest = rw (ne_eqb n k (λ same. omega (arith, same, below))) rest
-      at false rest = rest
-
-  -- one is put where the test says so
-  one_put : (os : List Opening) (n k j : ℕ) (o : Opening) → slice_get os j ≡ Some o → k ≡ n + j
-      → of_call k (each_from n test event os) ≡ (if test k o then event ∷ [] else [])
-  one_put [] n k j o there is = absurd cc
-  one_put (p ∷ os) n k zero o there is =
-      let here : k ≡ n = omega (arith, is) in
-      let it : p ≡ o = cc in
-      rw (here, sym it) (at (test n p) (none_before os (n + 1) n (omega arith)))
-    where
-      at : (b : Bool) → of_call n (each_from (n + 1) test event os) ≡ []
-          → of_call n (if b then (n, event) ∷ each_from (n + 1) test event os else each_from (n + 1) test event os) ≡ (if b then event ∷ [] else [])
-      at true rest = rw (eq-eqb n n refl, rest) refl
-      at false rest = rest
-  one_put (p ∷ os) n k (suc j) o there is =
-      at (test n p) (one_put os (n + 1) k j o there (omega (arith, is)))
-    where
-      at : (b : Bool) → of_call k (each_from (n + 1) test event os) ≡ (if test k o then event ∷ [] else [])
-          → of_call k (if b then (n, event) ∷ each_from (n + 1) test event os else each_from (n + 1) test event os) ≡ (if test k o then event ∷ [] else [])
-      at true rest = rw (ne_eqb n k (λ same. omega (arith, same, is))) rest
-      at false rest = rest
-
-  -- none is put behind the last call
-  none_past : (os : List Opening) (n k : ℕ) → n + length os ≤ k → of_call k (each_from n test event os) ≡ []
-  none_past [] n k past = refl
-  none_past (o ∷ os) n k past = at (test n o) (none_past os (n + 1) k (omega (arith, past)))
-    where
-      at : (b : Bool) → of_call k (each_from (n + 1) test event os) ≡ []
-          → of_call k (if b then (n, event) ∷ each_from (n + 1) test event os else each_from (n + 1) test event os) ≡ []
-      at true rest = rw (ne_eqb n k (λ same. omega (arith, same, past))) rest
-      at false rest = rest
-
 -- what an entry that tells of this does
 abbrev pub notice_test : List Deed → Notice → ℕ → Opening → Bool
 notice_test ds (Time now) = wants_tick ds
 notice_test ds InputEnded = is_live ds
+notice_test ds (ChannelClosed channel) = is_live_on ds channel
 
-abbrev pub notice_effect : List Deed → Notice → Effect
-notice_effect ds notice = record no_effect { puts = each_from 0 (notice_test ds notice) (told_event notice) (calls ds) }
+abbrev pub notice_effect : Role → List Deed → Notice → Effect
+notice_effect role ds (Time now) = record no_effect { puts = each_from 0 (wants_tick ds) (Tick now) (calls ds) }
+notice_effect role ds InputEnded = record no_effect { puts = each_from 0 (is_live ds) (Ended Unavailable) (calls ds) }
+notice_effect role ds (ChannelClosed channel) = close_effect role ds channel
 
 none_or : {A : Type 0} (q : Option A) → not (is_some q) ≡ is_none q
 none_or None = refl
 none_or (Some x) = refl
 
-test_is : (ds : List Deed) (notice : Notice) (c : ℕ) (o : Opening) (r : CallState) → TellsOf ds c r → o.method ≡ r.method
+pub test_is : (ds : List Deed) (notice : Notice) (c : ℕ) (o : Opening) (r : CallState) → TellsOf ds c r → o.name ≡ r.name → o.method ≡ r.method
     → notice_test ds notice c o ≡ is_told notice r
-test_is ds (Time now) c o r tells method = rw (method, ended_is ds c r tells, tells.waiting, none_or r.status) refl
-test_is ds InputEnded c o r tells method = rw (ended_is ds c r tells, none_or r.status) refl
+test_is ds (Time now) c o r tells name method = rw (method, ended_is ds c r tells, tells.waiting, none_or r.status) refl
+test_is ds InputEnded c o r tells name method = rw (ended_is ds c r tells, none_or r.status) refl
+test_is ds (ChannelClosed channel) c o r tells name method = rw (name, ended_is ds c r tells, none_or r.status) refl
 
 -- a kind that neither starts, finishes nor cancels a run
 pub record IsQuietKind (kind : EntryKind) : Type 0 where
@@ -84,37 +54,91 @@ pub record IsQuietKind (kind : EntryKind) : Type 0 where
   pub finish : (k : ℕ) → is_finish_of k kind ≡ false
   pub cancel : (k : ℕ) → is_cancel_of k kind ≡ false
 
-notice_touches : (ds : List Deed) (seat : ℕ) (kind : EntryKind) (notice : Notice) (k : ℕ) (r : CallState) → IsQuietKind kind → TellsOf ds k r
-    → Touches (deed_by seat kind (notice_effect ds notice)) k (telling notice r)
-notice_touches ds seat kind notice k r quiet tells =
-    let opening = opening_is ds k r tells in
-    at (is_told notice r)
-    (one_put (notice_test ds notice) (told_event notice) (calls ds) 0 k k opening.0 opening.1 (omega arith)
-    ∙ ap (λ b. if b then told_event notice ∷ [] else []) (test_is ds notice k opening.0 r tells opening.3))
+-- the packets of a Close complete no stream
+no_completion : (role : Role) (k n : ℕ) (test : ℕ → Opening → Bool) (os : List Opening)
+    → list_any (completes k) (made_from n test (λ c o. sends c (status_packet (error_type role) o.name Aborted)) os) ≡ false
+no_completion role k n test [] = refl
+no_completion role k n test (o ∷ os) = at (test n o) (no_completion role k (n + 1) test os)
   where
-    at : (b : Bool) → of_call k (each_from 0 (notice_test ds notice) (told_event notice) (calls ds)) ≡ (if b then told_event notice ∷ [] else [])
-        → Touches (deed_by seat kind (notice_effect ds notice)) k (if b then putting (told_event notice) else untouched)
-    at true put = record { starts = rw (quiet.start k) refl; finishes = quiet.finish k; cancels = quiet.cancel k; completes = refl; ends = refl; clears = refl; puts = put; alone = never }
-    at false put = record { starts = rw (quiet.start k) refl; finishes = quiet.finish k; cancels = quiet.cancel k; completes = refl; ends = refl; clears = refl; puts = put; alone = never }
+    none_first : (b rest : Bool) → rest ≡ false → ((b && false) || rest) ≡ false
+    none_first true rest is = is
+    none_first false rest is = is
 
-notice_silent : (ds : List Deed) (seat : ℕ) (kind : EntryKind) (notice : Notice) (k : ℕ) → IsQuietKind kind → call_count ds ≤ k
-    → Touches (deed_by seat kind (notice_effect ds notice)) k untouched
-notice_silent ds seat kind notice k quiet past = record {
+    at : (b : Bool) → list_any (completes k) (made_from (n + 1) test (λ c x. sends c (status_packet (error_type role) x.name Aborted)) os) ≡ false
+        → list_any (completes k) (if b then sends n (status_packet (error_type role) o.name Aborted) ∷ made_from (n + 1) test (λ c x. sends c (status_packet (error_type role) x.name Aborted)) os
+        else made_from (n + 1) test (λ c x. sends c (status_packet (error_type role) x.name Aborted)) os) ≡ false
+    at true rest = rw (error_quiet role) (none_first (n == k) _ rest)
+    at false rest = rest
+
+-- what a Close does to a call by what is given to it
+close_so : (role : Role) (ds : List Deed) (seat channel k : ℕ) (kind : EntryKind) (b : Bool) → IsQuietKind kind
+    → of_call k (each_from 0 (is_live_on ds channel) Aborted (calls ds)) ≡ (if b then Aborted ∷ [] else [])
+    → of_call k (each_from 0 (is_live_on ds channel) (Ended Aborted) (calls ds)) ≡ (if b then Ended Aborted ∷ [] else [])
+    → Touches (deed_by seat kind (close_effect role ds channel)) k (if b then closing Aborted else untouched)
+close_so role ds seat channel k kind true quiet ends puts = record {
   starts = rw (quiet.start k) refl;
   finishes = quiet.finish k;
   cancels = quiet.cancel k;
-  completes = refl;
-  ends = refl;
-  clears = refl;
-  puts = none_past (notice_test ds notice) (told_event notice) (calls ds) 0 k (omega (arith, past));
+  completes = no_completion role k 0 (is_live_on ds channel) (calls ds);
+  ends = ends;
+  clears = has_number k (each_from 0 (is_live_on ds channel) Aborted (calls ds)) ∙ ap (λ xs. not (is_empty xs)) ends;
+  puts = puts;
+  alone = never;
+}
+close_so role ds seat channel k kind false quiet ends puts = record {
+  starts = rw (quiet.start k) refl;
+  finishes = quiet.finish k;
+  cancels = quiet.cancel k;
+  completes = no_completion role k 0 (is_live_on ds channel) (calls ds);
+  ends = ends;
+  clears = has_number k (each_from 0 (is_live_on ds channel) Aborted (calls ds)) ∙ ap (λ xs. not (is_empty xs)) ends;
+  puts = puts;
   alone = never;
 }
 
+-- what a Tick or an EndIn does to a call by what is put to it
+put_so : (ds : List Deed) (seat k : ℕ) (kind : EntryKind) (test : ℕ → Opening → Bool) (event : Event) (b : Bool) → IsQuietKind kind
+    → of_call k (each_from 0 test event (calls ds)) ≡ (if b then event ∷ [] else [])
+    → Touches (deed_by seat kind (record no_effect { puts = each_from 0 test event (calls ds) })) k (if b then putting event else untouched)
+put_so ds seat k kind test event true quiet puts =
+    record { starts = rw (quiet.start k) refl; finishes = quiet.finish k; cancels = quiet.cancel k; completes = refl; ends = refl; clears = refl; puts = puts; alone = never }
+put_so ds seat k kind test event false quiet puts =
+    record { starts = rw (quiet.start k) refl; finishes = quiet.finish k; cancels = quiet.cancel k; completes = refl; ends = refl; clears = refl; puts = puts; alone = never }
+
+notice_so : (role : Role) (ds : List Deed) (seat k : ℕ) (kind : EntryKind) (notice : Notice) (b : Bool) → IsQuietKind kind
+    → ((s : Status) → of_call k (each_from 0 (notice_test ds notice) s (calls ds)) ≡ (if b then s ∷ [] else []))
+    → ((event : Event) → of_call k (each_from 0 (notice_test ds notice) event (calls ds)) ≡ (if b then event ∷ [] else []))
+    → Touches (deed_by seat kind (notice_effect role ds notice)) k (if b then touch_told notice else untouched)
+notice_so role ds seat k kind (Time now) b quiet ends puts = put_so ds seat k kind (wants_tick ds) (Tick now) b quiet (puts (Tick now))
+notice_so role ds seat k kind InputEnded b quiet ends puts = put_so ds seat k kind (is_live ds) (Ended Unavailable) b quiet (puts (Ended Unavailable))
+notice_so role ds seat k kind (ChannelClosed channel) b quiet ends puts = close_so role ds seat channel k kind b quiet (ends Aborted) (puts (Ended Aborted))
+
+notice_touches : (role : Role) (ds : List Deed) (seat : ℕ) (kind : EntryKind) (notice : Notice) (k : ℕ) (r : CallState) → IsQuietKind kind → TellsOf ds k r
+    → Touches (deed_by seat kind (notice_effect role ds notice)) k (telling notice r)
+notice_touches role ds seat kind notice k r quiet tells =
+    let opening = opening_is ds k r tells in
+    let same : notice_test ds notice k opening.0 ≡ is_told notice r = test_is ds notice k opening.0 r tells opening.2 opening.3 in
+    notice_so role ds seat k kind notice (is_told notice r) quiet
+    (λ s. one_put (notice_test ds notice) s (calls ds) 0 k k opening.0 opening.1 (omega arith) ∙ ap (λ b. if b then s ∷ [] else []) same)
+    (λ event. one_put (notice_test ds notice) event (calls ds) 0 k k opening.0 opening.1 (omega arith) ∙ ap (λ b. if b then event ∷ [] else []) same)
+
+notice_silent : (role : Role) (ds : List Deed) (seat : ℕ) (kind : EntryKind) (notice : Notice) (k : ℕ) → IsQuietKind kind → call_count ds ≤ k
+    → Touches (deed_by seat kind (notice_effect role ds notice)) k untouched
+notice_silent role ds seat kind notice k quiet past =
+    notice_so role ds seat k kind notice false quiet
+    (λ s. none_past (notice_test ds notice) s (calls ds) 0 k (omega (arith, past)))
+    (λ event. none_past (notice_test ds notice) event (calls ds) 0 k (omega (arith, past)))
+
+notice_opens : (role : Role) (ds : List Deed) (notice : Notice) → (notice_effect role ds notice).opens ≡ None
+notice_opens role ds (Time now) = refl
+notice_opens role ds InputEnded = refl
+notice_opens role ds (ChannelClosed channel) = refl
+
 -- all calls are told
-pub step_told : (ds : List Deed) (seat : ℕ) (kind : EntryKind) (notice : Notice) (states new : List CallState) → IsQuietKind kind → TellsCalls ds states
-    → IsToldAll (length ds) notice states new → TellsCalls (deed_by seat kind (notice_effect ds notice) ∷ ds) new
-step_told ds seat kind notice states new quiet tells told =
-    let d : Deed = deed_by seat kind (notice_effect ds notice) in
+pub step_told : (role : Role) (ds : List Deed) (seat : ℕ) (kind : EntryKind) (notice : Notice) (states new : List CallState) → IsQuietKind kind → TellsCalls ds states
+    → IsToldAll (length ds) notice states new → TellsCalls (deed_by seat kind (notice_effect role ds notice) ∷ ds) new
+step_told role ds seat kind notice states new quiet tells told =
+    let d : Deed = deed_by seat kind (notice_effect role ds notice) in
     none_opens ds d states new tells
     (record {
       many = told.many ∙ tells.many;
@@ -123,10 +147,10 @@ step_told ds seat kind notice states new quiet tells told =
           let found = get_some states k (omega (arith, within, told.many)) in
           let its = tells.each k found.0 found.1 in
           let bound : k < length states = slice_get_within _ _ _ found.1 in
-          tells_touched ds d k (telling notice found.0) found.0 y its (notice_touches ds seat kind notice k found.0 quiet its)
+          tells_touched ds d k (telling notice found.0) found.0 y its (notice_touches role ds seat kind notice k found.0 quiet its)
           (told.each k found.0 y found.1 there) (same_at ds d k (omega (arith, bound, tells.many)));
     })
-    refl (λ k past. notice_silent ds seat kind notice k quiet past)
+    (notice_opens role ds notice) (λ k past. notice_silent role ds seat kind notice k quiet past)
 
 -- one more call is told
 pub told_more : (at : ℕ) (notice : Notice) (first states : List CallState) (c : ℕ) (r x : CallState) → slice_get states c ≡ Some r

@@ -1,25 +1,27 @@
--- How a plain table follows its history over an arrival that opens a call.
-use Rattle.std.proofs.Common.{◌≡◌, ℕ, ◌<◌, true, false, ◌==◌, List, [], ◌∷◌, ◌++◌, length, set, slice_get, Some, None, refl, sym, subst, eq-eqb, ne_eqb, arith}
+-- How a plain table follows its history over an entry that opens a call.
+use Rattle.std.proofs.Common.{◌≡◌, ℕ, ◌<◌, true, false, ◌==◌, List, [], ◌∷◌, ◌++◌, length, set, slice_get, Option, Some, None, refl, sym, subst, eq-eqb, ne_eqb, arith}
 use Rattle.std.proofs.lemmas.Option.{slice_get_within}
 use Rattle.rpc_ids.specs.declared.method.MethodRef.{MethodRef}
 use Rattle.rpc_ids.specs.declared.status.Status.TheVariants.{Cancelled}
 use Rattle.rpc_packet.specs.declared.owned.Packet.{Packet}
+use Rattle.rpc_packet.specs.declared.packet_type.PacketType.TheVariants.{Request}
+use Rattle.rpc_handlers.specs.declared.event.Memo.{Memo}
 use Rattle.rpc_journal.specs.declared.call_state.CallState.{CallState}
-use Rattle.rpc_journal.specs.declared.entry.EntryKind.TheVariants.{Arrive}
+use Rattle.rpc_journal.specs.declared.entry.EntryKind.TheVariants.{Arrive, Invoke}
 use Rattle.rpc_journal.specs.declared.arrival_move.Move.{Move}
 use Rattle.rpc_journal.specs.declared.call_states.CallStates.{CallStates}
 use Rattle.rpc_journal.specs.declared.setting.Setting.{Setting}
-use Rattle.rpc_journal.specs.Entries.{arrive_row}
+use Rattle.rpc_journal.specs.Entries.{arrive_row, invoke_effect}
 use Rattle.rpc_journal.specs.History.{entry_by, tell}
 use Rattle.rpc_journal.specs.Moves.{row_of}
 use Rattle.rpc_journal.specs.Calls.{calls, call_count}
 use Rattle.rpc_journal.specs.Effect.{Opening, Deed}
-use Rattle.rpc_journal.specs.Rows.{Row, both, ends_and_clears, opens_served}
+use Rattle.rpc_journal.specs.Rows.{Row, both, ends_and_clears, method_named, opens_served}
 use Rattle.rpc_journal.specs.Tells.{Tells, TellsCalls}
-use Rattle.rpc_journal.specs.Touch.{IsServed, IsTouched, closing, deed_by}
-use Rattle.rpc_journal.proofs.DeedLemmas.{anew_touches, never, open_touches}
+use Rattle.rpc_journal.specs.Touch.{IsInvoked, IsServed, IsTouched, closing, deed_by}
+use Rattle.rpc_journal.proofs.DeedLemmas.{anew_touches, invoke_touches, invoked_effect, never, open_touches}
 use Rattle.rpc_journal.proofs.PlaceLemmas.{get_last}
-use Rattle.rpc_journal.proofs.RoomLemmas.{served_tells}
+use Rattle.rpc_journal.proofs.RoomLemmas.{invoked_tells, served_tells}
 use Rattle.rpc_journal.proofs.StepLemmas.{none_changes, one_changes, one_opens}
 
 not_one : (a b : ℕ) → (a ≡ b → ⊥) → (a == b) ≡ false
@@ -61,3 +63,24 @@ pub arrived : (set : Setting) (ds : List Deed) (seat : ℕ) (p : Packet) (move :
     → arrive_row set ds p ≡ row_of move p (call_count ds) → Tells (deed_by seat (Arrive p) (row_of move p (call_count ds)).does ∷ ds) u
     → Tells (tell set ds (entry_by seat (Arrive p))) u
 arrived set ds seat p move u is tells = subst (λ (row : Row). Tells (deed_by seat (Arrive p) row.does ∷ ds) u) (sym is) tells
+
+-- a client's call
+pub step_invoke : (ds : List Deed) (seat : ℕ) (p : Packet) (memo : Memo) (m : MethodRef) (states : List CallState) (x : CallState) → TellsCalls ds states
+    → p.ptype ≡ Request → IsInvoked p.name m x
+    → TellsCalls (deed_by seat (Invoke p memo) (invoked_effect (call_count ds) p memo m) ∷ ds) (states ++ x ∷ [])
+step_invoke ds seat p memo m states x tells request is =
+    let n : ℕ = call_count ds in
+    let d : Deed = deed_by seat (Invoke p memo) (invoked_effect n p memo m) in
+    let o : Opening = record { name = p.name; method = m; given = Some memo } in
+    one_opens ds d states states o x tells
+    (none_changes ds d states tells (λ k below. invoke_touches seat n k p memo m request))
+    refl
+    (invoked_tells ds d n p.name m memo x (tells.beyond n (omega arith)) (invoke_touches seat n n p memo m request) (get_last (calls ds) o) is)
+    (λ k past. invoke_touches seat n k p memo m request)
+
+-- an Invoke opens the call of a method that is known
+pub invoked : (set : Setting) (ds : List Deed) (seat : ℕ) (p : Packet) (memo : Memo) (m : MethodRef) (u : CallStates)
+    → method_named set p.name ≡ Some m → Tells (deed_by seat (Invoke p memo) (invoked_effect (call_count ds) p memo m) ∷ ds) u
+    → Tells (tell set ds (entry_by seat (Invoke p memo))) u
+invoked set ds seat p memo m u is tells =
+    subst (λ (found : Option MethodRef). Tells (deed_by seat (Invoke p memo) (invoke_effect ds p memo found) ∷ ds) u) (sym is) tells

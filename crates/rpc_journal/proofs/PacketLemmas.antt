@@ -1,6 +1,6 @@
 -- The packets of a call that entries add: none once the call has an end.
-use Rattle.std.proofs.Common.{◌≡◌, ℕ, ◌<◌, Bool, true, false, not, ◌&&◌, ◌||◌, ◌==◌, List, [], ◌∷◌, ◌++◌, reverse, flat_map, Option, Some, None, is_some, if◌then◌else◌, refl, ap, sym, ◌∙◌, subst, arith, append_assoc}
-use Rattle.std.proofs.lemmas.Bool.{true≢false, false≢true, ne_eqb, and_left, and_right}
+use Rattle.std.proofs.Common.{◌≡◌, ℕ, ◌+◌, ◌<◌, Bool, true, false, not, ◌&&◌, ◌||◌, ◌==◌, List, [], ◌∷◌, ◌++◌, reverse, flat_map, Option, Some, None, is_some, if◌then◌else◌, refl, ap, sym, ◌∙◌, subst, arith, append_assoc}
+use Rattle.std.proofs.lemmas.Bool.{true≢false, false≢true, ne_eqb, and_left, and_parts, and_right, not-true}
 use Rattle.std.proofs.lemmas.List.{append-nil, reverse-append}
 use Rattle.std.proofs.lemmas.List.Concat.{flat_map-cons}
 use Rattle.rpc_ids.specs.declared.method.MethodRef.{MethodRef}
@@ -8,7 +8,7 @@ use Rattle.rpc_ids.specs.declared.method.Kind.{Kind}
 use Rattle.rpc_ids.specs.declared.method.Role.{Role}
 use Rattle.rpc_ids.specs.declared.method.Role.TheVariants.{Server, Client}
 use Rattle.rpc_ids.specs.declared.status.Status.{Status}
-use Rattle.rpc_ids.specs.declared.status.Status.TheVariants.{Okay, Cancelled}
+use Rattle.rpc_ids.specs.declared.status.Status.TheVariants.{Okay, Cancelled, Aborted}
 use Rattle.rpc_ids.specs.Status.{status_of}
 use Rattle.rpc_packet.specs.declared.call_name.CallName.{CallName}
 use Rattle.rpc_packet.specs.declared.owned.Packet.{Packet}
@@ -21,18 +21,18 @@ use Rattle.rpc_handlers.specs.declared.answer.Out.TheVariants.{Say as Message, B
 use Rattle.rpc_handlers.specs.declared.event.Memo.{Memo}
 use Rattle.rpc_journal.specs.declared.entry.Entry.{Entry}
 use Rattle.rpc_journal.specs.declared.entry.EntryKind.{EntryKind}
-use Rattle.rpc_journal.specs.declared.entry.EntryKind.TheVariants.{Arrive, Invoke, Say, Done, Start, Finish, Replace, Cancel, Tick, Flush, EndIn, Halt}
+use Rattle.rpc_journal.specs.declared.entry.EntryKind.TheVariants.{Arrive, Invoke, Say, Done, Start, Finish, Replace, Cancel, Tick, Flush, EndIn, Halt, Close}
 use Rattle.rpc_journal.specs.declared.item.Item.{Item}
 use Rattle.rpc_journal.specs.declared.setting.Setting.{Setting}
 use Rattle.rpc_journal.specs.Effect.{Opening, Deed}
-use Rattle.rpc_journal.specs.Calls.{call_count, call_at, has_end, ends_of, live_call, is_cancelled, runner_of, of_call}
+use Rattle.rpc_journal.specs.Calls.{calls, call_count, call_at, has_end, ends_of, live_call, is_cancelled, runner_of, of_call}
 use Rattle.rpc_journal.specs.Queues.{is_completed}
 use Rattle.rpc_journal.specs.Items.{items_sent, is_done}
 use Rattle.rpc_journal.specs.Marks.{is_empty, is_okay, is_unary, streams_up, streams_down}
 use Rattle.rpc_journal.specs.Rows.{Row, channels_in, method_named, no_effect, says_item, status_packet, sends}
 use Rattle.rpc_journal.specs.ServerTable.{method_row, known_row, unknown_row}
 use Rattle.rpc_journal.specs.ClientTable.{call_row, live_row, no_call_row}
-use Rattle.rpc_journal.specs.Entries.{row_by, arrive_row, leaves, effect_of, invoke_effect, out_item, answer_item, messages_go, answered, end_effect, finish_effect, is_heard, cancel_effect, error_type, with_call}
+use Rattle.rpc_journal.specs.Entries.{row_by, arrive_row, leaves, effect_of, invoke_effect, out_item, answer_item, messages_go, answered, end_effect, finish_effect, is_heard, cancel_effect, error_type, is_live_on, made_from, with_call}
 use Rattle.rpc_journal.specs.History.{told, history}
 use Rattle.rpc_journal.specs.Lawful.{AllowedAll, IsLawful, is_refused, is_refused_say}
 use Rattle.rpc_journal.specs.Laws.{is_packet_for, NoPacketFor, SaysNoMoreOf}
@@ -42,11 +42,11 @@ use Rattle.rpc_journal.proofs.EndLemmas.{AllLive, live_is, heard_live, ended_kno
 use Rattle.rpc_channel.specs.Rising.{has_id}
 
 -- a call with an end isn't one without
-apart : (ds : List Deed) (c k : ℕ) → has_end ds c ≡ true → has_end ds k ≡ false → (k == c) ≡ false
+pub apart : (ds : List Deed) (c k : ℕ) → has_end ds c ≡ true → has_end ds k ≡ false → (k == c) ≡ false
 apart ds c k ended live = ne_eqb k c (λ same. true≢false (sym ended ∙ (ap (has_end ds) (sym same) ∙ live)))
 
 -- nor one that isn't there
-fresh : (ds : List Deed) (c : ℕ) → c < call_count ds → (call_count ds == c) ≡ false
+pub fresh : (ds : List Deed) (c : ℕ) → c < call_count ds → (call_count ds == c) ≡ false
 fresh ds c known = ne_eqb (call_count ds) c (λ same. omega (arith, same, known))
 
 -- of a refusal that none of the causes makes
@@ -215,6 +215,19 @@ cancel-packets set ds c k (Some o) ended = packets-append c _ _ (told (has_end d
 done-packets : (set : Setting) (ds : List Deed) (c k : ℕ) → has_end ds c ≡ true → is_refused set ds (Done k) ≡ false → (k == c) ≡ false
 done-packets set ds c k ended accepted = apart ds c k ended (neither _ _ (neither _ _ (neither _ _ accepted).0).0).1
 
+-- of calls that pass a test, which only live ones pass
+each-packets : (role : Role) (ds : List Deed) (c n : ℕ) (test : ℕ → Opening → Bool) (os : List Opening) → has_end ds c ≡ true
+    → ((k : ℕ) (o : Opening) → test k o ≡ true → has_end ds k ≡ false)
+    → NoPacketFor c (made_from n test (λ k o. sends k (status_packet (error_type role) o.name Aborted)) os)
+each-packets role ds c n test [] ended live = tt
+each-packets role ds c n test (o ∷ os) ended live = at (test n o) refl (each-packets role ds c (n + 1) test os ended live)
+  where
+    at : (b : Bool) → test n o ≡ b → NoPacketFor c (made_from (n + 1) test (λ k x. sends k (status_packet (error_type role) x.name Aborted)) os)
+        → NoPacketFor c (if b then sends n (status_packet (error_type role) o.name Aborted) ∷ made_from (n + 1) test (λ k x. sends k (status_packet (error_type role) x.name Aborted)) os
+        else made_from (n + 1) test (λ k x. sends k (status_packet (error_type role) x.name Aborted)) os)
+    at true is rest = (other_packet c n (apart ds c n ended (live n o is)), rest)
+    at false is rest = rest
+
 -- an allowed entry adds no packet of a call with an end
 pub effect-packets : (set : Setting) (ds : List Deed) (kind : EntryKind) (c : ℕ) → has_end ds c ≡ true → c < call_count ds
     → is_refused set ds kind ≡ false → NoPacketFor c (effect_of set ds kind).says
@@ -231,6 +244,8 @@ effect-packets set ds (Tick t) c ended known accepted = tt
 effect-packets set ds Flush c ended known accepted = tt
 effect-packets set ds EndIn c ended known accepted = tt
 effect-packets set ds (Halt why) c ended known accepted = tt
+effect-packets set ds (Close channel) c ended known accepted =
+    each-packets set.role ds c 0 (is_live_on ds channel) (calls ds) ended (λ k o live. not-true _ (and_parts _ _ live).0)
 
 -- a call with an end keeps it
 pub has_end-more : (ds : List Deed) (d : Deed) (c : ℕ) → has_end ds c ≡ true → has_end (d ∷ ds) c ≡ true

@@ -1,18 +1,24 @@
 -- A table with more room in its queues tells of the same history.
-use Rattle.std.proofs.Common.{◌≡◌, ◌≢◌, ◌⊎◌, ℕ, false, ◌<◌, List, ◌∷◌, length, set, slice_get, Some, None, Result, Ok, Err, OnOk, OnErr, refl, ap, sym, ◌∙◌, subst, inl, inr, arith, length-set}
+use Rattle.std.proofs.Common.{◌≡◌, ◌≢◌, ◌⊎◌, ℕ, false, ◌<◌, ◌+◌, List, [], ◌∷◌, length, set, slice_get, Option, Some, None, Result, Ok, Err, OnOk, OnErr, refl, ap, sym, ◌∙◌, subst, inl, inr, arith, length-set}
+use Rattle.std.specs.List.{list_any}
 use Rattle.std.specs.VecDeque.{deque_len, deque_capacity}
 use Rattle.std.proofs.lemmas.Option.{slice_get_within}
 use Rattle.rpc_journal.specs.declared.call_state.CallState.{CallState}
 use Rattle.rpc_journal.specs.declared.call_states.CallStates.{CallStates}
 use Rattle.rpc_ids.specs.declared.method.MethodRef.{MethodRef}
 use Rattle.rpc_packet.specs.declared.owned.Packet.{Packet}
+use Rattle.rpc_packet.specs.declared.call_name.CallName.{CallName}
+use Rattle.rpc_handlers.specs.declared.event.Event.{Event}
 use Rattle.rpc_handlers.specs.declared.event.Event.TheVariants.{Request}
+use Rattle.rpc_handlers.specs.declared.event.Memo.{Memo}
+use Rattle.rpc_channel.specs.Rising.{has_id}
 use Rattle.rpc_journal.specs.Calls.{call_at, is_start_of}
 use Rattle.rpc_journal.specs.Effect.{Deed}
 use Rattle.rpc_journal.specs.Items.{items_sent}
 use Rattle.rpc_journal.specs.Newest.{IsSameNewest}
-use Rattle.rpc_journal.specs.Tells.{HasRoomAt, IsOpening, IsOpenAt, IsSilentOn, TellsOf, Tells, IsSameTable}
-use Rattle.rpc_journal.specs.Touch.{IsSame, IsServed, Touches, putting}
+use Rattle.rpc_journal.specs.Queues.{is_completion}
+use Rattle.rpc_journal.specs.Tells.{HasRoomAt, HasRoomsAt, IsOpening, IsOpenAt, IsSilentOn, TellsOf, Tells, IsSameTable}
+use Rattle.rpc_journal.specs.Touch.{IsInvoked, IsOpened, IsSame, IsServed, Touches, putting, untouched}
 use Rattle.rpc_journal.proofs.PlaceLemmas.{get_some}
 use Rattle.rpc_journal.proofs.StepLemmas.{get_set, get_other, same_or_not}
 use Rattle.rpc_journal.proofs.TableLemmas.{some_same}
@@ -43,6 +49,7 @@ same_table_tells ds t u same tells = record {
     beyond = tells.calls.beyond;
   };
   newest = λ name. same.newest name ∙ tells.newest name;
+  closed = λ x. ap (λ xs. has_id xs x) same.closed ∙ tells.closed x;
   items = rw (same.unflushed) (tells.items);
   input = same.input ∙ tells.input;
   halt = same.halt ∙ tells.halt;
@@ -71,23 +78,36 @@ one_same states c r x there same k p q before after = at (same_or_not k c)
         subst (λ z. IsSame z q) old (subst (λ z. IsSame r z) new same)
     at (inr apart) = subst (λ z. IsSame p z) (some_same p q (sym before ∙ (sym (get_other states c k x apart) ∙ after))) (is_same p)
 
--- the state of a call that an arrival opens
-pub served_tells : (ds : List Deed) (d : Deed) (n : ℕ) (p : Packet) (m : MethodRef) (x : CallState) → IsSilentOn ds n
-    → Touches d n (putting (Request p.payload)) → call_at (d ∷ ds) n ≡ Some (record { name = p.name; method = m; given = None })
-    → IsServed (length ds) p m x → TellsOf (d ∷ ds) n x
-served_tells ds d n p m x silent does there is =
+-- the state of a call that an entry opens
+pub opened_tells : (ds : List Deed) (d : Deed) (n : ℕ) (called : CallName) (m : MethodRef) (given : Option Memo) (events : List Event) (x : CallState) → IsSilentOn ds n
+    → Touches d n (record untouched { puts = events }) → call_at (d ∷ ds) n ≡ Some (record { name = called; method = m; given = given })
+    → list_any is_completion events ≡ false → IsOpened (length ds) called m events x → TellsOf (d ∷ ds) n x
+opened_tells ds d n called m given events x silent does there incomplete is =
     let start : is_start_of n d.entry.kind ≡ false = sym (starts_is _ _ _ does.starts) in
     record {
       opening = subst (IsOpening x) (sym there) (sym is.name, sym is.of_method);
       ended = rw (silent.unended, does.ends, is.unended) refl;
       cancelled = rw (does.cancels, silent.uncancelled, is.uncancelled) refl;
-      completed = rw (does.puts, silent.uncompleted, is.uncompleted) refl;
+      completed = rw (does.puts, silent.uncompleted, incomplete, is.uncompleted) refl;
       done = list_any-append _ (items_sent ds) d.does.says ∙ (rw (silent.undone, does.completes, is.undone) refl);
       run = rw (start, does.finishes, silent.idle, is.idle) refl;
       took_end = rw (start, silent.took_none, is.took_none) refl;
       waiting = rw (does.clears, start, silent.unstarted, silent.empty, does.puts, is.waiting) refl;
       put = rw (does.clears, start, silent.unstarted) (omega arith);
     }
+
+-- by an arrival
+pub served_tells : (ds : List Deed) (d : Deed) (n : ℕ) (p : Packet) (m : MethodRef) (x : CallState) → IsSilentOn ds n
+    → Touches d n (putting (Request p.payload)) → call_at (d ∷ ds) n ≡ Some (record { name = p.name; method = m; given = None })
+    → IsServed (length ds) p m x → TellsOf (d ∷ ds) n x
+served_tells ds d n p m x silent does there is = opened_tells ds d n p.name m None (Request p.payload ∷ []) x silent does there refl is
+
+-- by a client's Invoke
+pub invoked_tells : (ds : List Deed) (d : Deed) (n : ℕ) (called : CallName) (m : MethodRef) (memo : Memo) (x : CallState) → IsSilentOn ds n
+    → Touches d n untouched → call_at (d ∷ ds) n ≡ Some (record { name = called; method = m; given = Some memo })
+    → IsInvoked called m x → TellsOf (d ∷ ds) n x
+invoked_tells ds d n called m memo x silent does there is = opened_tells ds d n called m (Some memo) [] x silent does there refl
+    (record { name = is.name; of_method = is.of_method; unended = is.unended; uncancelled = is.uncancelled; uncompleted = is.uncompleted; undone = is.undone; idle = is.idle; took_none = is.took_none; waiting = is.waiting })
 
 pub on_ok : {A E P Q : Type 0} (r : Result A E) → (P → Q) → OnOk r P → OnOk r Q
 on_ok (Ok a) f p = f p
@@ -100,6 +120,13 @@ has_room states c x within room = record {
   room = λ r there. subst (λ z. deque_len z.waiting < deque_capacity z.waiting) (some_same x r (sym (get_set states c x within) ∙ there)) room;
 }
 
+pub has_rooms : (states : List CallState) (c : ℕ) (x : CallState) → c < length states → deque_len x.waiting + 1 < deque_capacity x.waiting
+    → HasRoomsAt (set states c x) c
+has_rooms states c x within room = record {
+  within = omega (arith, within, length-set states c x);
+  room = λ r there. subst (λ z. deque_len z.waiting + 1 < deque_capacity z.waiting) (some_same x r (sym (get_set states c x within) ∙ there)) room;
+}
+
 pub on_err_of : {A E P : Type 0} (r : Result A E) → P → OnErr r P
 on_err_of (Ok a) p = tt
 on_err_of (Err e) p = p
@@ -109,13 +136,14 @@ on_err (Ok a) f p = tt
 on_err (Err e) f p = f p
 
 -- a table whose calls are the same
-pub items_same : (t u : CallStates) → u.calls.items ≡ t.calls.items → IsSameNewest t.newest u.newest → u.unflushed ≡ t.unflushed → u.input_ended ≡ t.input_ended → u.halted ≡ t.halted
+pub items_same : (t u : CallStates) → u.calls.items ≡ t.calls.items → IsSameNewest t.newest u.newest → u.closed.items ≡ t.closed.items → u.unflushed ≡ t.unflushed → u.input_ended ≡ t.input_ended → u.halted ≡ t.halted
     → IsSameTable t u
-items_same t u items newest unflushed input halt = record {
+items_same t u items newest closed unflushed input halt = record {
   many = ap length items;
   each = λ c r x before after.
       subst (λ z. IsSame r z) (some_same r x (sym before ∙ (ap (λ xs. slice_get xs c) (sym items) ∙ after))) (is_same r);
   newest = newest;
+  closed = closed;
   unflushed = unflushed;
   input = input;
   halt = halt;
@@ -142,6 +170,7 @@ same_table_trans t u v first second = record {
       let found = get_some u.calls.items c (omega (arith, within, first.many)) in
       same_trans r found.0 y (first.each c r found.0 before found.1) (second.each c found.0 y found.1 after);
   newest = λ name. second.newest name ∙ first.newest name;
+  closed = second.closed ∙ first.closed;
   unflushed = second.unflushed ∙ first.unflushed;
   input = second.input ∙ first.input;
   halt = second.halt ∙ first.halt;

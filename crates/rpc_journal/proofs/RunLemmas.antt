@@ -30,7 +30,7 @@ ready_idle ds c ready = (and_parts _ _ (and_parts _ _ (and_parts _ _ (and_parts 
 pub ready_uncancelled : (ds : List Deed) (c : ℕ) → is_ready ds c ≡ true → is_cancelled ds c ≡ false
 ready_uncancelled ds c ready = not-true _ (and_parts _ _ (and_parts _ _ (and_parts _ _ ready).0).0).1
 
-started_ready : (ds : List Deed) (c : ℕ) (kind : EntryKind) → starts_unready ds kind ≡ false → is_start_of c kind ≡ true → is_ready ds c ≡ true
+pub started_ready : (ds : List Deed) (c : ℕ) (kind : EntryKind) → starts_unready ds kind ≡ false → is_start_of c kind ≡ true → is_ready ds c ≡ true
 started_ready ds c (Start x) fits starts = subst (λ k. is_ready ds k ≡ true) (eqb-true x c starts) (not-false _ fits)
 started_ready ds c _ fits starts = absurd (false≢true starts)
 

@@ -37,7 +37,7 @@ same_or_not k c = at (below_or_not k c) (below_or_not c k)
 pub same_at : (ds : List Deed) (d : Deed) (k : ℕ) → k < call_count ds → call_at (d ∷ ds) k ≡ call_at ds k
 same_at ds d k within = get_front (calls ds) (option_to_list d.does.opens) k within
 
-same_count : (ds : List Deed) (d : Deed) → d.does.opens ≡ None → call_count (d ∷ ds) ≡ call_count ds
+pub same_count : (ds : List Deed) (d : Deed) → d.does.opens ≡ None → call_count (d ∷ ds) ≡ call_count ds
 same_count ds d is = ap (λ o. length (calls ds ++ option_to_list o)) is ∙ ap length (append-nil (calls ds))
 
 -- the entry does nothing to any call but c

@@ -1,5 +1,5 @@
 -- How a plain table follows its history over an entry of each kind.
-use Rattle.std.proofs.Common.{◌≡◌, ◌≢◌, ℕ, ◌+◌, ◌<◌, Bool, true, false, ◌==◌, List, ◌∷◌, length, set, slice_get, Some, None, if◌then◌else◌, refl, sym, ◌∙◌, subst, eq-eqb, ne_eqb, arith, length-append}
+use Rattle.std.proofs.Common.{◌≡◌, ◌≢◌, ℕ, ◌+◌, ◌<◌, Bool, true, false, ◌==◌, List, ◌∷◌, length, set, slice_get, Some, None, if◌then◌else◌, refl, ap, sym, ◌∙◌, subst, eq-eqb, ne_eqb, arith, length-append}
 use Rattle.std.proofs.lemmas.Option.{slice_get_within}
 use Rattle.rpc_journal.specs.declared.call_state.CallState.{CallState}
 use Rattle.rpc_journal.specs.declared.call_states.CallStates.{CallStates}
@@ -7,7 +7,9 @@ use Rattle.rpc_journal.specs.declared.entry.EntryKind.{EntryKind}
 use Rattle.rpc_journal.specs.Calls.{calls}
 use Rattle.rpc_journal.specs.Effect.{Deed}
 use Rattle.rpc_journal.specs.Items.{is_end_in, is_flush, items_sent, reason_of}
+use Rattle.rpc_channel.specs.Rising.{has_id}
 use Rattle.rpc_journal.specs.Newest.{AreNewest}
+use Rattle.rpc_journal.specs.Rows.{channel_closed}
 use Rattle.rpc_journal.specs.Tells.{TellsCalls, Tells}
 use Rattle.rpc_journal.specs.Touch.{Touch, Touches, IsTouched, untouched}
 use Rattle.rpc_journal.proofs.StepLemmas.{one_changes, none_changes, none_opens}
@@ -35,17 +37,19 @@ pub step_idle : (ds : List Deed) (d : Deed) (states : List CallState) → TellsC
 step_idle ds d states tells idle opens =
     none_opens ds d states states tells (none_changes ds d states tells (λ k below. idle_touches d k idle)) opens (λ k past. idle_touches d k idle)
 
--- the entry is none that changes what a table keeps beside its calls, but for the number of items
+-- the entry is none that changes what a table keeps beside its calls, but for the newest of them and the number of items
 pub record IsPlainKind (kind : EntryKind) : Type 0 where
   pub unflushing : is_flush kind ≡ false
   pub going_on : is_end_in kind ≡ false
   pub running : reason_of kind ≡ None
+  pub unclosed : channel_closed kind ≡ None
 
 pub tells_with : (ds : List Deed) (d : Deed) (t u : CallStates) → Tells ds t → TellsCalls (d ∷ ds) u.calls.items → AreNewest (d ∷ ds) u.newest → IsPlainKind d.entry.kind
-    → u.unflushed ≡ t.unflushed + length d.does.says → u.input_ended ≡ t.input_ended → u.halted ≡ t.halted → Tells (d ∷ ds) u
-tells_with ds d t u tells states newest plain items input halt = record {
+    → u.closed.items ≡ t.closed.items → u.unflushed ≡ t.unflushed + length d.does.says → u.input_ended ≡ t.input_ended → u.halted ≡ t.halted → Tells (d ∷ ds) u
+tells_with ds d t u tells states newest plain closed items input halt = record {
   calls = states;
   newest = newest;
+  closed = λ x. rw plain.unclosed (ap (λ xs. has_id xs x) closed ∙ tells.closed x);
   items = rw plain.unflushing (omega (arith, items, tells.items, length-append (items_sent ds) d.does.says));
   input = rw plain.going_on (input ∙ tells.input);
   halt = rw plain.running (halt ∙ tells.halt);
@@ -54,20 +58,20 @@ tells_with ds d t u tells states newest plain items input halt = record {
 -- the entry touches one call
 pub table_one : (ds : List Deed) (d : Deed) (t u : CallStates) (c : ℕ) (touch : Touch) (r x : CallState) → Tells ds t
     → slice_get t.calls.items c ≡ Some r → TouchesOne d c touch → IsTouched (length ds) touch r x → IsPlainKind d.entry.kind
-    → u.calls.items ≡ set t.calls.items c x → u.newest ≡ t.newest → u.unflushed ≡ t.unflushed + length d.does.says → u.input_ended ≡ t.input_ended → u.halted ≡ t.halted
+    → u.calls.items ≡ set t.calls.items c x → u.newest ≡ t.newest → u.closed.items ≡ t.closed.items → u.unflushed ≡ t.unflushed + length d.does.says → u.input_ended ≡ t.input_ended → u.halted ≡ t.halted
     → Tells (d ∷ ds) u
-table_one ds d t u c touch r x tells is touches touched plain calls newest items input halt =
+table_one ds d t u c touch r x tells is touches touched plain calls newest closed items input halt =
     tells_with ds d t u tells
     (subst (TellsCalls (d ∷ ds)) (sym calls) (step_one ds d t.calls.items c touch r x tells.calls is touches touched))
     (newest_kept ds d t.newest u.newest tells.newest touches.opens newest)
-    plain items input halt
+    plain closed items input halt
 
 -- the entry touches no call
 pub table_idle : (ds : List Deed) (d : Deed) (t u : CallStates) → Tells ds t → IsIdle d → d.does.opens ≡ None → IsPlainKind d.entry.kind
-    → u.calls.items ≡ t.calls.items → u.newest ≡ t.newest → u.unflushed ≡ t.unflushed + length d.does.says → u.input_ended ≡ t.input_ended → u.halted ≡ t.halted
+    → u.calls.items ≡ t.calls.items → u.newest ≡ t.newest → u.closed.items ≡ t.closed.items → u.unflushed ≡ t.unflushed + length d.does.says → u.input_ended ≡ t.input_ended → u.halted ≡ t.halted
     → Tells (d ∷ ds) u
-table_idle ds d t u tells idle opens plain calls newest items input halt =
+table_idle ds d t u tells idle opens plain calls newest closed items input halt =
     tells_with ds d t u tells
     (subst (TellsCalls (d ∷ ds)) (sym calls) (step_idle ds d t.calls.items tells.calls idle opens))
     (newest_kept ds d t.newest u.newest tells.newest opens newest)
-    plain items input halt
+    plain closed items input halt

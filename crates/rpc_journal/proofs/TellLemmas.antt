@@ -43,7 +43,7 @@ took_is true seat o ws event end is same = rw (sym is) refl
 took_is false seat o ws event end is same = rw (sym is) same
 
 -- the events that wait: one is taken, or what waits goes where it is dropped, and the new ones wait behind
-queue_is : (b s : Bool) (n : ℕ) (ps new q : List Waiting) → (s ≡ true → (b ≡ false) × (new ≡ [])) → n ≤ length ps → drop n ps ≡ q
+pub queue_is : (b s : Bool) (n : ℕ) (ps new q : List Waiting) → (s ≡ true → (b ≡ false) × (new ≡ [])) → n ≤ length ps → drop n ps ≡ q
     → drop (if b then 0 else if s then n + 1 else n) ((if b then [] else ps) ++ new) ≡ (if s then drop 1 q else (if b then [] else q) ++ new)
 queue_is true true n ps new q alone put is = absurd (true≢false (alone refl).0)
 queue_is true false n ps new q alone put is = refl
@@ -51,12 +51,12 @@ queue_is false true n ps new q alone put is =
     ap (λ ws. drop (n + 1) (ps ++ ws)) (alone refl).1 ∙ (ap (drop (n + 1)) (append-nil ps) ∙ (sym (drop-drop 1 n ps) ∙ ap (drop 1) is))
 queue_is false false n ps new q alone put is = drop-append-le n ps new put ∙ ap (λ ws. ws ++ new) is
 
-some_left : (n : ℕ) (ps q : List Waiting) → drop n ps ≡ q → is_empty q ≡ false → n + 1 ≤ length ps
+pub some_left : (n : ℕ) (ps q : List Waiting) → drop n ps ≡ q → is_empty q ≡ false → n + 1 ≤ length ps
 some_left n ps [] is none = absurd (true≢false none)
 some_left n ps (x ∷ xs) is some = omega (arith, length-drop n ps, ap length is)
 
 -- no more were taken than were put
-put_is : (b s : Bool) (n : ℕ) (ps new : List Waiting) → n ≤ length ps → (s ≡ true → n + 1 ≤ length ps)
+pub put_is : (b s : Bool) (n : ℕ) (ps new : List Waiting) → n ≤ length ps → (s ≡ true → n + 1 ≤ length ps)
     → (if b then 0 else if s then n + 1 else n) ≤ length ((if b then [] else ps) ++ new)
 put_is true s n ps new put some = omega arith
 put_is false true n ps new put some = omega (arith, length-append ps new, some refl)
@@ -67,8 +67,8 @@ pub tells_touched : (ds : List Deed) (d : Deed) (c : ℕ) (t : Touch) (r x : Cal
     → IsTouched (length ds) t r x → call_at (d ∷ ds) c ≡ call_at ds c → TellsOf (d ∷ ds) c x
 tells_touched ds d c t r x tells does is there =
     let starts : is_some t.starts ≡ is_start_of c d.entry.kind = starts_is _ _ _ does.starts in
-    let new : map (λ event. record { at = length ds; event = event }) (of_call c d.does.puts) ≡ put_at (length ds) t.puts =
-    ap (map (λ event. record { at = length ds; event = event })) does.puts in
+    let new : put_at (length ds) (of_call c d.does.puts) ≡ put_at (length ds) t.puts =
+    ap (put_at (length ds)) does.puts in
     record {
       opening = opening_same r x (call_at (d ∷ ds) c) is.name is.method (subst (IsOpening r) (sym there) tells.opening);
       ended = rw (tells.ended, does.ends) (one_end t.ends r.status x.status is.status is.once);

@@ -1,14 +1,10 @@
 -- How a judge walks a journal.
 use Rattle.std.proofs.Common.{◌≡◌, ℕ, zero, suc, ◌+◌, ◌≤◌, List, [], ◌∷◌, ◌++◌, length, take, drop, reverse, slice_get, Some, None, refl, ap, sym, ◌∙◌, subst, add-one, arith, length-take}
-use Rattle.rpc_ids.specs.declared.method.MethodRef.{MethodRef}
-use Rattle.rpc_ids.specs.declared.method.Role.{Role}
-use Rattle.rpc_ids.specs.declared.method.Role.TheVariants.{Server}
-use Rattle.rpc_journal.specs.Moves.{IsServerOf}
 use Rattle.std.proofs.lemmas.List.{length-reverse, reverse-append, take-append-drop}
 use Rattle.rpc_journal.specs.declared.entry.Entry.{Entry}
 use Rattle.rpc_journal.specs.declared.fault.Fault.{Fault}
 use Rattle.rpc_journal.specs.declared.setting.Setting.{Setting}
-use Rattle.rpc_journal.specs.Faults.{IsFirstFault, IsSettingOf}
+use Rattle.rpc_journal.specs.Faults.{IsFirstFault}
 use Rattle.rpc_journal.specs.History.{history, tell, told}
 use Rattle.rpc_journal.specs.Lawful.{AllowedAll, IsLawful, broken}
 use Rattle.rpc_journal.proofs.Push.{history-push, lawful-front, lawful-push}
@@ -49,11 +45,6 @@ faulty set h fault first lawful =
   where
     at : {A : Type 0} {x : A} → Some x ≡ None → ⊥
     at is = cc
-
--- a server's setting
-pub server_of : (set : Setting) (side : Role) (ids : List ℕ) (methods : List MethodRef) → side ≡ Server → IsSettingOf set side ids methods
-    → IsServerOf set ids methods
-server_of set side ids methods is setting = record { role = setting.role ∙ is; channels = setting.channels; registry = setting.registry }
 
 pub take_all : {A : Type 0} (xs : List A) (k : ℕ) → length xs ≤ k → take k xs ≡ xs
 take_all [] zero past = refl

@@ -1,8 +1,9 @@
 -- What follows from the relations of the calls of a table.
-use Rattle.std.specs.Prelude.{◌≡◌, ◌≢◌, ℕ, List, ◌++◌, Option, Result}
+use Rattle.std.specs.Prelude.{◌≡◌, ◌≢◌, ℕ, true, List, ◌++◌, Option, Result}
 use Rattle.std.specs.List.{AllByRecursion}
 use Rattle.entry_lists.specs.Entries.{GoesOn}
 use Rattle.link_io.specs.declared.why.Why.{Why}
+use Rattle.rpc_ids.specs.declared.status.Status.{Status}
 use Rattle.rpc_packet.specs.declared.call_name.CallName.{CallName}
 use Rattle.rpc_packet.specs.declared.owned.Packet.{Packet}
 use Rattle.rpc_handlers.specs.declared.answer.Answer.{Answer}
@@ -17,13 +18,18 @@ use Rattle.rpc_journal.specs.declared.answers.StartRefused.{StartRefused}
 use Rattle.rpc_journal.specs.declared.answers.StartOfRefused.{StartOfRefused}
 use Rattle.rpc_journal.specs.declared.answers.ReplaceRefused.{ReplaceRefused}
 use Rattle.rpc_journal.specs.declared.answers.Cancelled.{Cancelled}
+use Rattle.rpc_journal.specs.declared.answers.Cancelled.TheVariants.{Quiet}
+use Rattle.rpc_journal.specs.declared.answers.CloseRefused.{CloseRefused}
 use Rattle.rpc_journal.specs.declared.entry.Entry.{Entry}
 use Rattle.rpc_journal.specs.declared.item.Item.{Item}
 use Rattle.rpc_journal.specs.declared.setting.Setting.{Setting}
-use Rattle.rpc_journal.specs.Changes.{ArriveDid, InvokeDid, SayDid, DoneDid, StartDid, StartOfDid, FinishDid, ReplaceDid, CancelDid, TickDid, EndInDid, FlushDid, HaltDid}
+use Rattle.rpc_journal.specs.Changes.{ArriveDid, InvokeDid, SayDid, DoneDid, StartDid, StartOfDid, FinishDid, ReplaceDid, CancelDid, TickDid, EndInDid, FlushDid, HaltDid, CloseDid}
 use Rattle.rpc_journal.specs.Conditions.{CanComplete, CanHalt, CanInvoke, CanSay, IsCall, IsHeard, IsInputOpen}
+use Rattle.rpc_journal.specs.Calls.{is_cancelled}
+use Rattle.rpc_journal.specs.History.{history}
 use Rattle.rpc_journal.specs.Lawful.{IsLawful, IsLegal}
 use Rattle.rpc_journal.specs.Laws.{seat_of}
+use Rattle.rpc_journal.specs.Quiet.{is_quiet}
 use Rattle.rpc_journal.specs.Runs.{Run, Begins, IsAnswerOf, IsRunning}
 
 -- a seat goes on with a history
@@ -45,6 +51,7 @@ pub record AddsBySeat (H R : Type 0) : Type 0 where
   pub end_in : (seat : ℕ) (before after : List Entry) → EndInDid seat before after → GoesOnBy seat before after
   pub flush_front : (set : Setting) (seat : ℕ) (result : Option Item) (before after : List Entry) → FlushDid set seat result before after → GoesOnBy seat before after
   pub halt : (set : Setting) (seat : ℕ) (why : Why) (before after : List Entry) → HaltDid set seat why before after → GoesOnBy seat before after
+  pub close_channel : (set : Setting) (seat channel : ℕ) (result : Result ℕ CloseRefused) (before after : List Entry) → CloseDid set seat channel result before after → GoesOnBy seat before after
 
 -- a run that begins is on
 abbrev pub BegunRuns : Type 0
@@ -74,3 +81,11 @@ pub record KeepsLegal (H R : Type 0) : Type 0 where
   pub end_in : (rule : HandlerRule) (set : Setting) (seat : ℕ) (before after : List Entry) → IsLegal rule set before → IsInputOpen set before seat → EndInDid seat before after → IsLegal rule set after
   pub flush_front : (rule : HandlerRule) (set : Setting) (seat : ℕ) (result : Option Item) (before after : List Entry) → IsLegal rule set before → seat ≡ 1 → FlushDid set seat result before after → IsLegal rule set after
   pub halt : (rule : HandlerRule) (set : Setting) (seat : ℕ) (why : Why) (before after : List Entry) → IsLegal rule set before → CanHalt why → HaltDid set seat why before after → IsLegal rule set after
+  pub close_channel : (rule : HandlerRule) (set : Setting) (seat channel : ℕ) (result : Result ℕ CloseRefused) (before after : List Entry) → IsLegal rule set before → CloseDid set seat channel result before after → IsLegal rule set after
+
+-- where a cancel answers Quiet, the call is quiet, and so it is behind the Finish of a cancelled call; H is a type of
+-- handlers
+pub record BecomesQuiet (H : Type 0) : Type 0 where
+  pub cancel : (set : Setting) (seat c : ℕ) (status : Status) (before after : List Entry) → CancelDid set seat c (Quiet status) before after → is_quiet (history set after) c ≡ true
+  pub finish : (set : Setting) (run : Run) (a : Answer) (handler : H) (result : Option H) (before after : List Entry) → is_cancelled (history set before) run.call ≡ true
+      → FinishDid set run a handler result before after → is_quiet (history set after) run.call ≡ true

@@ -1,6 +1,6 @@
 -- One relation for each call of a table: what is fixed with it, the seat, the arguments, the result, and the entries
 -- before and after.
-use Rattle.std.specs.Prelude.{◌≡◌, ℕ, Bool, true, false, ◌&&◌, ◌||◌, List, [], ◌∷◌, ◌++◌, slice_get, ◌⊎◌, Option, Some, None, Result, is_some, is_none, unwrap_or, OnOk, OnErr, IfOk, IfErr, IfSome, IfNone, if◌then◌else◌}
+use Rattle.std.specs.Prelude.{◌≡◌, ℕ, Bool, true, false, ◌&&◌, ◌||◌, List, [], ◌∷◌, ◌++◌, length, slice_get, ◌⊎◌, Option, Some, None, Result, is_some, is_none, unwrap_or, OnOk, OnErr, IfOk, IfErr, IfSome, IfNone, if◌then◌else◌}
 use Rattle.link_io.specs.declared.why.Why.{Why}
 use Rattle.rpc_ids.specs.declared.status.Status.{Status}
 use Rattle.rpc_ids.specs.declared.status.Status.TheVariants.{Cancelled as WasCancelled}
@@ -18,10 +18,11 @@ use Rattle.rpc_journal.specs.declared.answers.SayRefused as say
 use Rattle.rpc_journal.specs.declared.answers.StartRefused as start
 use Rattle.rpc_journal.specs.declared.answers.StartOfRefused as start_of
 use Rattle.rpc_journal.specs.declared.answers.ReplaceRefused as replace
+use Rattle.rpc_journal.specs.declared.answers.CloseRefused as close
 use Rattle.rpc_journal.specs.declared.answers.Cancelled.{Cancelled}
 use Rattle.rpc_journal.specs.declared.answers.Cancelled.TheVariants.{Quiet, Running}
 use Rattle.rpc_journal.specs.declared.entry.Entry.{Entry}
-use Rattle.rpc_journal.specs.declared.entry.EntryKind.TheVariants.{Arrive, Invoke, Say, Done, Finish, Replace, Cancel, Tick, Flush, EndIn, Halt}
+use Rattle.rpc_journal.specs.declared.entry.EntryKind.TheVariants.{Arrive, Invoke, Say, Done, Finish, Replace, Cancel, Tick, Flush, EndIn, Halt, Close}
 use Rattle.rpc_journal.specs.declared.item.Item.{Item}
 use Rattle.rpc_journal.specs.declared.setting.Setting.{Setting}
 use Rattle.rpc_journal.specs.Effect.{Deed}
@@ -29,10 +30,10 @@ use Rattle.rpc_journal.specs.Calls.{call_count, end_of, has_end, is_cancelled, i
 use Rattle.rpc_journal.specs.Queues.{waiting_of}
 use Rattle.rpc_journal.specs.Items.{flush_count, halt_reason, items_sent}
 use Rattle.rpc_journal.specs.Marks.{is_empty}
-use Rattle.rpc_journal.specs.Entries.{arrive_row}
+use Rattle.rpc_journal.specs.Entries.{arrive_row, close_effect}
 use Rattle.rpc_journal.specs.History.{history, entry_by, adding}
 use Rattle.rpc_journal.specs.Choice.{IsFirstReady, NoneReady, SomeReady}
-use Rattle.rpc_journal.specs.Refusals.{is_full, arrive_refusal, invoke_refusal, say_refusal, done_refusal, start_of_refusal, replace_refusal, tick_refusal}
+use Rattle.rpc_journal.specs.Refusals.{is_full, arrive_refusal, invoke_refusal, say_refusal, done_refusal, start_of_refusal, replace_refusal, tick_refusal, close_refusal}
 use Rattle.rpc_journal.specs.Runs.{Run, Begins}
 
 -- A call that may be refused. Nothing speaks against an accepted one; it answers and adds its entry. A refused one
@@ -144,3 +145,10 @@ pub record FlushDid (set : Setting) (seat : ℕ) (result : Option Item) (before 
 -- halt: it is never refused, and a second one adds nothing
 pub record HaltDid (set : Setting) (seat : ℕ) (why : Why) (before after : List Entry) : Type 0 where
   pub adds : after ≡ (if is_some (halt_reason (history set before)) then before else adding before seat (Halt why))
+
+-- close_channel: the answer is how many calls it ends
+abbrev pub CloseDid : Setting → ℕ → ℕ → Result ℕ close.CloseRefused → List Entry → List Entry → Type 0
+CloseDid set seat channel result before after =
+    Accepts (λ e. e) (close_refusal set before channel) close.TheVariants.Memory
+    (λ n. n ≡ length (close_effect set.role (history set before) channel).ends)
+    (entry_by seat (Close channel)) result before after

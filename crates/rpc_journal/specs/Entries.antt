@@ -1,11 +1,11 @@
 -- What each kind of entry does.
-use Rattle.std.specs.Prelude.{ℕ, ◌+◌, Bool, false, not, ◌&&◌, ◌||◌, nat_lt, List, [], ◌∷◌, ◌++◌, length, flat_map, Option, Some, None, is_some, if◌then◌else◌}
+use Rattle.std.specs.Prelude.{ℕ, ◌+◌, Bool, false, not, ◌&&◌, ◌||◌, ◌==◌, nat_lt, List, [], ◌∷◌, ◌++◌, length, map, flat_map, Option, Some, None, is_some, if◌then◌else◌}
 use Rattle.std.specs.List.{list_any}
 use Rattle.rpc_ids.specs.declared.method.MethodRef.{MethodRef}
 use Rattle.rpc_ids.specs.declared.method.Kind.{Kind}
 use Rattle.rpc_ids.specs.declared.method.Role.{Role}
 use Rattle.rpc_ids.specs.declared.method.Role.TheVariants.{Server, Client}
-use Rattle.rpc_ids.specs.declared.status.Status.TheVariants.{Okay, Cancelled, Unavailable}
+use Rattle.rpc_ids.specs.declared.status.Status.TheVariants.{Okay, Cancelled, Unavailable, Aborted}
 use Rattle.rpc_ids.specs.Status.{status_number}
 use Rattle.rpc_packet.specs.declared.call_name.CallName.{CallName}
 use Rattle.rpc_packet.specs.declared.owned.Packet.{Packet}
@@ -19,7 +19,7 @@ use Rattle.rpc_handlers.specs.declared.event.Event.{Event}
 use Rattle.rpc_handlers.specs.declared.event.Event.TheVariants.{Ended, Tick as Ticked}
 use Rattle.rpc_handlers.specs.declared.event.Memo.{Memo}
 use Rattle.rpc_journal.specs.declared.entry.EntryKind.{EntryKind}
-use Rattle.rpc_journal.specs.declared.entry.EntryKind.TheVariants.{Arrive, Invoke, Say, Done, Start, Finish, Replace, Cancel, Tick, Flush, EndIn, Halt}
+use Rattle.rpc_journal.specs.declared.entry.EntryKind.TheVariants.{Arrive, Invoke, Say, Done, Start, Finish, Replace, Cancel, Tick, Flush, EndIn, Halt, Close}
 use Rattle.rpc_journal.specs.declared.item.Act.TheVariants.{Keep, LeaveCall}
 use Rattle.rpc_journal.specs.declared.item.Item.{Item}
 use Rattle.rpc_journal.specs.declared.setting.Setting.{Setting}
@@ -139,11 +139,15 @@ cancel_effect set ds c (Some o) =
           ++ (if is_some (runner_of ds c) then [] else leaves c ∷ []);
     }
 
--- the calls from number c on that pass the test, by rising number, each with an event
-abbrev pub each_from : ℕ → (ℕ → Opening → Bool) → Event → List Opening → List (ℕ × Event)
-each_from c test event [] = []
-each_from c test event (o ∷ os) =
-    if test c o then (c, event) ∷ each_from (c + 1) test event os else each_from (c + 1) test event os
+-- what is made of each of the calls from number c on that pass the test, by rising number
+abbrev pub made_from : {A : Type 0} → ℕ → (ℕ → Opening → Bool) → (ℕ → Opening → A) → List Opening → List A
+made_from c test make [] = []
+made_from c test make (o ∷ os) =
+    if test c o then make c o ∷ made_from (c + 1) test make os else made_from (c + 1) test make os
+
+-- the number of each of them, with an event or a status
+abbrev pub each_from : {A : Type 0} → ℕ → (ℕ → Opening → Bool) → A → List Opening → List (ℕ × A)
+each_from c test value os = made_from c test (λ k o. (k, value)) os
 
 -- c is a live call of a ticking method, no Tick waits for it, and fewer than 64 events do
 abbrev pub wants_tick : List Deed → ℕ → Opening → Bool
@@ -153,6 +157,20 @@ wants_tick ds c o =
 
 abbrev pub is_live : List Deed → ℕ → Opening → Bool
 is_live ds c o = not (has_end ds c)
+
+-- c is a live call on this channel
+abbrev pub is_live_on : List Deed → ℕ → ℕ → Opening → Bool
+is_live_on ds channel c o = not (has_end ds c) && (o.name.channel == channel)
+
+-- Close: each live call on the channel ends with ABORTED, its waiting events go, the peer is told, and Ended waits
+abbrev pub close_effect : Role → List Deed → ℕ → Effect
+close_effect role ds channel =
+    record no_effect {
+      ends = each_from 0 (is_live_on ds channel) Aborted (calls ds);
+      drops = map (λ x. x.0) (each_from 0 (is_live_on ds channel) Aborted (calls ds));
+      puts = each_from 0 (is_live_on ds channel) (Ended Aborted) (calls ds);
+      says = made_from 0 (is_live_on ds channel) (λ c o. sends c (status_packet (error_type role) o.name Aborted)) (calls ds);
+    }
 
 abbrev pub with_call : Option Opening → (Opening → Effect) → Effect
 with_call None f = no_effect
@@ -172,3 +190,4 @@ effect_of set ds (Tick t) = record no_effect { puts = each_from 0 (wants_tick ds
 effect_of set ds Flush = no_effect
 effect_of set ds EndIn = record no_effect { puts = each_from 0 (is_live ds) (Ended Unavailable) (calls ds) }
 effect_of set ds (Halt why) = no_effect
+effect_of set ds (Close channel) = close_effect set.role ds channel

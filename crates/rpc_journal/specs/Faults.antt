@@ -9,7 +9,6 @@ use Rattle.rpc_journal.specs.declared.setting.Setting.{Setting}
 use Rattle.rpc_journal.specs.Effect.{Deed}
 use Rattle.rpc_journal.specs.History.{history}
 use Rattle.rpc_journal.specs.Lawful.{IsLawful, broken}
-use Rattle.rpc_journal.specs.Moves.{IsServerOf}
 use Rattle.rpc_journal.specs.Tells.{Tells}
 
 -- a setting of this role, with these channels and methods, whatever its seed
@@ -25,10 +24,10 @@ pub record IsFirstFault (set : Setting) (h : List Entry) (fault : Fault) : Type 
   pub before : IsLawful set (take fault.at h)
   pub breaks : broken set (history set (take fault.at h)) entry ≡ Some fault.rule
 
--- the table tells of a history after which a server allows this entry
-pub record IsAllowedNext (t : CallStates) (e : Entry) (ids : List ℕ) (methods : List MethodRef) : Type 0 where
+-- the table tells of a history after which an endpoint of this role allows this entry
+pub record IsAllowedNext (t : CallStates) (e : Entry) (side : Role) (ids : List ℕ) (methods : List MethodRef) : Type 0 where
   pub set : Setting
   pub past : List Deed
-  pub server : IsServerOf set ids methods
+  pub setting : IsSettingOf set side ids methods
   pub tells : Tells past t
   pub allowed : broken set past e ≡ None

@@ -7,7 +7,7 @@ use Rattle.rpc_packet.specs.declared.packet_type.PacketType.{PacketType}
 use Rattle.rpc_packet.specs.declared.packet_type.PacketType.TheVariants.{Completion}
 use Rattle.rpc_journal.specs.declared.entry.Entry.{Entry}
 use Rattle.rpc_journal.specs.declared.entry.EntryKind.{EntryKind}
-use Rattle.rpc_journal.specs.declared.entry.EntryKind.TheVariants.{Arrive, Flush, EndIn, Halt}
+use Rattle.rpc_journal.specs.declared.entry.EntryKind.TheVariants.{Arrive, Tick, Flush, EndIn, Halt}
 use Rattle.rpc_journal.specs.declared.item.Item.{Item}
 use Rattle.rpc_journal.specs.declared.item.Act.{Act}
 use Rattle.rpc_journal.specs.declared.item.Act.TheVariants.{Send}
@@ -77,6 +77,19 @@ is_end_in _ = false
 abbrev pub input_ended : List Deed → Bool
 input_ended [] = false
 input_ended (d ∷ ds) = is_end_in d.entry.kind || input_ended ds
+
+-- among these entries is an EndIn
+abbrev pub ends_input : List Entry → Bool
+ends_input h = list_any (λ e. is_end_in e.kind) h
+
+abbrev pub moment_of : EntryKind → List ℕ
+moment_of (Tick now) = now ∷ []
+moment_of _ = []
+
+-- the moments of the Tick entries, in order; of entries in order
+abbrev pub moments : List Entry → List ℕ
+moments [] = []
+moments (e ∷ h) = moment_of e.kind ++ moments h
 
 abbrev pub is_for : ℕ → Option ℕ → Bool
 is_for c None = false

@@ -16,7 +16,7 @@ use Rattle.rpc_handlers.specs.HandlerRule.{HandlerRule}
 use Rattle.rpc_handlers.specs.Limits.{is_long, is_past_limits}
 use Rattle.rpc_journal.specs.declared.entry.Entry.{Entry}
 use Rattle.rpc_journal.specs.declared.entry.EntryKind.{EntryKind}
-use Rattle.rpc_journal.specs.declared.entry.EntryKind.TheVariants.{Arrive, Invoke, Say, Done, Start, Finish, Replace, Cancel, Tick, Flush, EndIn, Halt}
+use Rattle.rpc_journal.specs.declared.entry.EntryKind.TheVariants.{Arrive, Invoke, Say, Done, Start, Finish, Replace, Cancel, Tick, Flush, EndIn, Halt, Close}
 use Rattle.rpc_journal.specs.declared.fault.Broken.{Broken}
 use Rattle.rpc_journal.specs.declared.fault.Broken.TheVariants.{Seat, UnknownCall, NotReady, NotRunning, AfterEnd, Refused, Nothing}
 use Rattle.rpc_journal.specs.declared.setting.Setting.{Setting}
@@ -135,6 +135,7 @@ is_refused set ds (Finish c a) = is_past_limits a
 is_refused set ds (Replace c m) = has_end ds c
 is_refused set ds (Cancel c) = is_cancelled ds c
 is_refused set ds (Halt why) = is_some (halt_reason ds) || is_settled_reason why
+is_refused set ds (Close channel) = not (has_id (channels_in set ds) channel)
 is_refused set ds _ = false
 
 -- Nothing: a Flush where no item waits, or after a Halt

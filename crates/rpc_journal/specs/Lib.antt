@@ -3,6 +3,7 @@ pub mod ChangeLaws
 pub mod Changes
 pub mod Choice
 pub mod ClientTable
+pub mod Closing
 pub mod Conditions
 pub mod Effect
 pub mod Entries
@@ -26,3 +27,4 @@ pub mod States
 pub mod Tells
 pub mod Table
 pub mod Touch
+pub mod Turns

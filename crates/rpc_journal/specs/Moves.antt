@@ -1,23 +1,15 @@
--- What a server makes of a packet, as one of seven moves.
-use Rattle.std.specs.Prelude.{◌≡◌, ℕ, List}
-use Rattle.rpc_ids.specs.declared.method.MethodRef.{MethodRef}
-use Rattle.rpc_ids.specs.declared.method.Role.TheVariants.{Server}
-use Rattle.rpc_ids.specs.declared.status.Status.TheVariants.{Cancelled}
+-- What a table makes of a packet, as one of eleven moves.
+use Rattle.std.specs.Prelude.{ℕ, List}
+use Rattle.rpc_ids.specs.declared.status.Status.TheVariants.{Cancelled, FailedPrecondition}
 use Rattle.rpc_packet.specs.declared.owned.Packet.{Packet}
-use Rattle.rpc_packet.specs.declared.packet_type.PacketType.TheVariants.{ServerError}
+use Rattle.rpc_packet.specs.declared.packet_type.PacketType.TheVariants.{ClientError, ServerError}
 use Rattle.rpc_handlers.specs.declared.event.Event.TheVariants.{Message, Completion}
 use Rattle.rpc_journal.specs.declared.arrival_move.Move.{Move}
-use Rattle.rpc_journal.specs.declared.arrival_move.Move.TheVariants.{Drop, Reply, Close, Open, OpenAnew, Queue, Complete}
+use Rattle.rpc_journal.specs.declared.arrival_move.Move.TheVariants.{Drop, Reply, Close, Open, OpenAnew, Queue, Complete, Stray, End, Refuse, Answer}
 use Rattle.rpc_journal.specs.declared.call_state.CallState.{CallState}
 use Rattle.rpc_journal.specs.Tells.{IsOpenAt}
-use Rattle.rpc_journal.specs.declared.setting.Setting.{Setting}
-use Rattle.rpc_journal.specs.Rows.{Row, both, ends_and_clears, opens_served, dropped, replied, queued, closed, opened}
-
--- a server's setting with these channels and methods
-pub record IsServerOf (set : Setting) (ids : List ℕ) (methods : List MethodRef) : Type 0 where
-  pub role : set.role ≡ Server
-  pub channels : set.channels ≡ ids
-  pub registry : set.registry ≡ methods
+use Rattle.rpc_journal.specs.ClientTable.{refuses_stream}
+use Rattle.rpc_journal.specs.Rows.{Row, both, ends_call, ends_and_clears, puts_event, opens_served, dropped, replied, queued, closed, opened}
 
 -- the row of the table of arrivals that a move stands for, where there are n calls
 abbrev pub row_of : Move → Packet → ℕ → Row
@@ -28,6 +20,10 @@ row_of (Open m) p n = opened n (opens_served p m n)
 row_of (OpenAnew m c) p n = opened n (both (ends_and_clears c Cancelled) (opens_served p m n))
 row_of (Queue c) p n = queued c (Message p.payload)
 row_of (Complete c) p n = queued c Completion
+row_of Stray p n = replied ClientError p FailedPrecondition
+row_of (End c s) p n = closed c (ends_call c s)
+row_of (Refuse c) p n = closed c (refuses_stream p c)
+row_of (Answer c s) p n = closed c (both (puts_event c (Message p.payload)) (ends_call c s))
 
 -- the call that a move names is there, and has no end
 abbrev pub IsOpenMove : List CallState → Move → Type 0
@@ -35,4 +31,7 @@ IsOpenMove states (Close c s) = IsOpenAt states c
 IsOpenMove states (OpenAnew m c) = IsOpenAt states c
 IsOpenMove states (Queue c) = IsOpenAt states c
 IsOpenMove states (Complete c) = IsOpenAt states c
+IsOpenMove states (End c s) = IsOpenAt states c
+IsOpenMove states (Refuse c) = IsOpenAt states c
+IsOpenMove states (Answer c s) = IsOpenAt states c
 IsOpenMove states _ = Unit {0}

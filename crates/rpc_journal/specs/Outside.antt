@@ -1,16 +1,10 @@
--- What items are to the outside: the bytes that go to the peer, and the store after them.
-use Rattle.std.specs.Prelude.{ℕ, List, fold, flat_map, Option, Some, None}
-use Rattle.rpc_packet.specs.declared.owned.Packet.{Packet}
+-- What items are to the store.
+use Rattle.std.specs.Prelude.{ℕ, List, fold, Option, Some, None}
 use Rattle.rpc_handlers.specs.declared.answer.Out.{Out}
 use Rattle.rpc_handlers.specs.declared.answer.Out.TheVariants.{Say, Begin, Append, Commit, Leave}
 use Rattle.rpc_journal.specs.declared.item.Act.{Act}
 use Rattle.rpc_journal.specs.declared.item.Act.TheVariants.{Send, Keep, LeaveCall}
 use Rattle.rpc_journal.specs.declared.item.Item.{Item}
-use Rattle.rpc_journal.specs.Items.{packets_of}
-
--- the bytes of the frames of the packets among these items, in order; `frame` is the one frame of a packet
-abbrev pub frames_of_items : (Packet → List ℕ) → List Item → List ℕ
-frames_of_items frame items = flat_map frame (packets_of items)
 
 -- the steps of a store of works, each by the number of a call and of a session
 pub record StoreSteps (S : Type 0) : Type 0 where

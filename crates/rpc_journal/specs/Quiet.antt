@@ -18,6 +18,10 @@ abbrev pub all_below : ℕ → (ℕ → Bool) → Bool
 all_below zero test = true
 all_below (suc n) test = all_below n test && test n
 
+-- no call runs
+abbrev pub none_runs : List Deed → Bool
+none_runs ds = all_below (call_count ds) (λ c. is_none (runner_of ds c))
+
 -- the input has ended, no call runs, no event of a call that isn't cancelled waits, and all items were flushed
 abbrev pub is_settled : List Deed → Bool
 is_settled ds = input_ended ds && all_below (call_count ds) (is_still ds) && (flush_count ds == length (items_sent ds))

@@ -12,8 +12,8 @@ use Rattle.rpc_journal.specs.declared.answers.SayRefused as say
 use Rattle.rpc_journal.specs.declared.answers.StartOfRefused as start_of
 use Rattle.rpc_journal.specs.declared.answers.ReplaceRefused as replace
 use Rattle.rpc_journal.specs.declared.answers.StartRefused as start
+use Rattle.rpc_journal.specs.declared.answers.CloseRefused as close
 use Rattle.rpc_journal.specs.declared.entry.Entry.{Entry}
-use Rattle.rpc_journal.specs.declared.entry.TheConstants.{MAX_ENTRIES}
 use Rattle.rpc_journal.specs.declared.setting.Setting.{Setting}
 use Rattle.rpc_journal.specs.Effect.{Deed}
 use Rattle.rpc_journal.specs.Calls.{call_count, call_at, end_of, is_cancelled, live_call}
@@ -23,9 +23,9 @@ use Rattle.rpc_journal.specs.Marks.{is_server, or_else}
 use Rattle.rpc_journal.specs.Rows.{channels_in, method_named}
 use Rattle.rpc_journal.specs.History.{history}
 
--- the journal has as many entries as it may have, or more
+-- the journal has as many entries as it may have, 1,000,000, or more
 abbrev pub is_full : List Entry → Bool
-is_full h = nat_le MAX_ENTRIES (length h)
+is_full h = nat_le 1000000 (length h)
 
 abbrev pub refused_where : {E : Type 0} → Bool → E → Option E
 refused_where test refusal = if test then Some refusal else None
@@ -78,3 +78,8 @@ replace_refusal set h c =
 
 abbrev pub tick_refusal : List Entry → Option start.StartRefused
 tick_refusal h = refused_where (is_full h) start.TheVariants.JournalFull
+
+abbrev pub close_refusal : Setting → List Entry → ℕ → Option close.CloseRefused
+close_refusal set h channel =
+    or_else (refused_where (is_full h) close.TheVariants.JournalFull)
+    (refused_where (not (has_id (channels_in set (history set h)) channel)) close.TheVariants.NotIn)

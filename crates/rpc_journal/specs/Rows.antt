@@ -1,5 +1,5 @@
 -- What the rows of the tables of arrivals are made of.
-use Rattle.std.specs.Prelude.{ℕ, List, [], ◌∷◌, ◌++◌, Option, Some, None}
+use Rattle.std.specs.Prelude.{ℕ, Bool, false, not, ◌||◌, List, [], ◌∷◌, ◌++◌, filter, Option, Some, None}
 use Rattle.rpc_ids.specs.declared.method.MethodRef.{MethodRef}
 use Rattle.rpc_ids.specs.declared.status.Status.{Status}
 use Rattle.rpc_ids.specs.Registry.{method_of}
@@ -11,10 +11,13 @@ use Rattle.rpc_handlers.specs.declared.event.Event.{Event}
 use Rattle.rpc_handlers.specs.declared.event.Event.TheVariants.{Ended, Request}
 use Rattle.rpc_journal.specs.declared.answers.Arrived.{Arrived}
 use Rattle.rpc_journal.specs.declared.answers.Arrived.TheVariants.{Opened, Queued, Closed, Answered, Dropped}
+use Rattle.rpc_journal.specs.declared.entry.EntryKind.{EntryKind}
+use Rattle.rpc_journal.specs.declared.entry.EntryKind.TheVariants.{Close}
 use Rattle.rpc_journal.specs.declared.item.Act.TheVariants.{Send}
 use Rattle.rpc_journal.specs.declared.item.Item.{Item}
 use Rattle.rpc_journal.specs.declared.setting.Setting.{Setting}
 use Rattle.rpc_journal.specs.Effect.{Effect, Deed}
+use Rattle.rpc_journal.specs.Items.{is_for}
 use Rattle.rpc_journal.specs.Marks.{or_else}
 
 -- a row of a table: what the packet does, and what its arrival answers
@@ -22,9 +25,18 @@ pub record Row : Type 0 where
   pub does : Effect
   pub answer : Arrived
 
--- the channels that are in
+abbrev pub channel_closed : EntryKind → Option ℕ
+channel_closed (Close channel) = Some channel
+channel_closed _ = None
+
+-- a Close of this channel is there
+abbrev pub is_closed : List Deed → ℕ → Bool
+is_closed [] channel = false
+is_closed (d ∷ ds) channel = is_for channel (channel_closed d.entry.kind) || is_closed ds channel
+
+-- the channels that are in: those that the history begins with, without those of its Close entries
 abbrev pub channels_in : Setting → List Deed → List ℕ
-channels_in set ds = set.channels
+channels_in set ds = filter (λ channel. not (is_closed ds channel)) set.channels
 
 -- the method that a name asks for
 abbrev pub method_named : Setting → CallName → Option MethodRef

@@ -1,17 +1,22 @@
 -- What a plain table of calls tells of a history.
-use Rattle.std.specs.Prelude.{◌≡◌, ℕ, true, ◌+◌, ◌^◌, ◌<◌, ◌≤◌, false, List, [], length, slice_get, Option, Some, None, option_to_list}
+use Rattle.std.specs.Prelude.{◌≡◌, ℕ, true, ◌+◌, ◌^◌, ◌<◌, ◌≤◌, false, List, [], length, slice_get, Option, Some, None, option_to_list, vec_len, vec_capacity}
 use Rattle.std.specs.VecDeque.{deque_len, deque_capacity}
+use Rattle.rpc_ids.specs.declared.method.Role.{Role}
+use Rattle.rpc_channel.specs.Rising.{has_id}
 use Rattle.rpc_handlers.specs.declared.answer.Answer.{Answer}
-use Rattle.rpc_journal.specs.Touch.{IsSame, IsTouched, is_told, items_given, telling}
+use Rattle.rpc_journal.specs.Touch.{IsSame, IsTouched, events_kept, is_told, items_given, telling}
 use Rattle.rpc_journal.specs.declared.call_state.CallState.{CallState}
 use Rattle.rpc_journal.specs.declared.notice.Notice.{Notice}
+use Rattle.rpc_journal.specs.declared.notice.Notice.TheVariants.{ChannelClosed}
 use Rattle.rpc_journal.specs.declared.call_states.CallStates.{CallStates}
 use Rattle.rpc_journal.specs.Calls.{call_count, call_at, ends_of, is_cancelled, runner_of}
+use Rattle.rpc_journal.specs.Closing.{live_on}
 use Rattle.rpc_journal.specs.Effect.{Opening, Deed}
 use Rattle.rpc_journal.specs.Entries.{was_ended}
 use Rattle.rpc_journal.specs.Items.{flush_count, halt_reason, input_ended, is_done, items_sent}
 use Rattle.rpc_journal.specs.Marks.{is_empty}
 use Rattle.rpc_journal.specs.Newest.{AreNewest, IsSameNewest}
+use Rattle.rpc_journal.specs.Rows.{is_closed}
 use Rattle.rpc_journal.specs.Queues.{waiting_of, taken_event, puts_since, starts_since, is_completed}
 
 -- the state is of a call that opened so
@@ -48,11 +53,12 @@ pub record TellsCalls (ds : List Deed) (states : List CallState) : Type 0 where
   pub each : (c : ℕ) (r : CallState) → slice_get states c ≡ Some r → TellsOf ds c r
   pub beyond : (c : ℕ) → call_count ds ≤ c → IsSilentOn ds c
 
--- the table tells what the history says: of each call, which call is the newest of its name, how many items wait to be
--- flushed, whether the input has ended, and why it was halted
+-- the table tells what the history says: of each call, which call is the newest of its name, which channels were
+-- closed, how many items wait to be flushed, whether the input has ended, and why it was halted
 pub record Tells (ds : List Deed) (t : CallStates) : Type 0 where
   pub calls : TellsCalls ds t.calls.items
   pub newest : AreNewest ds t.newest
+  pub closed : (channel : ℕ) → has_id t.closed.items channel ≡ is_closed ds channel
   pub items : t.unflushed + flush_count ds ≡ length (items_sent ds)
   pub input : t.input_ended ≡ input_ended ds
   pub halt : t.halted ≡ halt_reason ds
@@ -68,9 +74,9 @@ pub record CanStart (states : List CallState) (c : ℕ) : Type 0 where
   pub waits : (r : CallState) → slice_get states c ≡ Some r → is_empty r.waiting.items ≡ false
 
 -- call c is there, and its table can count the items of this answer
-pub record CanFinish (t : CallStates) (c : ℕ) (a : Answer) : Type 0 where
+pub record CanFinish (role : Role) (t : CallStates) (c : ℕ) (a : Answer) : Type 0 where
   pub within : c < length t.calls.items
-  pub room : (r : CallState) → slice_get t.calls.items c ≡ Some r → t.unflushed + items_given r a < 2 ^ 64
+  pub room : (r : CallState) → slice_get t.calls.items c ≡ Some r → t.unflushed + items_given role r a < 2 ^ 64
 
 -- call c is there, and its table can count two more items
 pub record CanCancel (t : CallStates) (c : ℕ) : Type 0 where
@@ -82,18 +88,30 @@ pub record HasRoomAt (states : List CallState) (c : ℕ) : Type 0 where
   pub within : c < length states
   pub room : (r : CallState) → slice_get states c ≡ Some r → deque_len r.waiting < deque_capacity r.waiting
 
+-- and for one more behind that
+pub record HasRoomsAt (states : List CallState) (c : ℕ) : Type 0 where
+  pub within : c < length states
+  pub room : (r : CallState) → slice_get states c ≡ Some r → deque_len r.waiting + 1 < deque_capacity r.waiting
+
 -- the table is as before, but for the room of its queues
 pub record IsSameTable (before after : CallStates) : Type 0 where
   pub many : length after.calls.items ≡ length before.calls.items
   pub each : (c : ℕ) (r x : CallState) → slice_get before.calls.items c ≡ Some r → slice_get after.calls.items c ≡ Some x → IsSame r x
   pub newest : IsSameNewest before.newest after.newest
+  pub closed : after.closed.items ≡ before.closed.items
   pub unflushed : after.unflushed ≡ before.unflushed
   pub input : after.input_ended ≡ before.input_ended
   pub halt : after.halted ≡ before.halted
 
--- each call that is told of this has room for one more event that waits
+-- each call that is told of this has room for the event, behind those that stay
 pub record HasRoomFor (notice : Notice) (states : List CallState) : Type 0 where
-  pub room : (c : ℕ) (r : CallState) → slice_get states c ≡ Some r → is_told notice r ≡ true → deque_len r.waiting < deque_capacity r.waiting
+  pub room : (c : ℕ) (r : CallState) → slice_get states c ≡ Some r → is_told notice r ≡ true → events_kept notice r < deque_capacity r.waiting
+
+-- its channel can be closed: the ends of its calls have their room, the items can be counted, and the channel kept
+pub record CanClose (channel : ℕ) (t : CallStates) : Type 0 where
+  pub room : HasRoomFor (ChannelClosed channel) t.calls.items
+  pub count : t.unflushed + live_on channel t.calls.items < 2 ^ 64
+  pub place : vec_len t.closed < vec_capacity t.closed
 
 -- each call was told of this, at this place
 pub record IsToldAll (at : ℕ) (notice : Notice) (before after : List CallState) : Type 0 where

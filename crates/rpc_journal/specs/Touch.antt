@@ -1,30 +1,36 @@
 -- What one entry does to one call, and to what a plain table keeps of it.
-use Rattle.std.specs.Prelude.{◌≡◌, ℕ, Bool, true, false, not, ◌&&◌, ◌||◌, nat_lt, List, [], ◌++◌, length, map, drop, slice_get, Option, Some, None, is_some, is_none, option_to_list, option_map, count_by, ◌+◌, if◌then◌else◌}
+use Rattle.std.specs.Prelude.{◌≡◌, ℕ, Bool, true, false, not, ◌&&◌, ◌||◌, ◌==◌, nat_lt, List, [], ◌∷◌, ◌++◌, length, map, drop, slice_get, Option, Some, None, is_some, is_none, option_to_list, count_by, ◌+◌, if◌then◌else◌}
 use Rattle.std.specs.List.{list_any}
+use Rattle.std.specs.VecDeque.{deque_len}
+use Rattle.rpc_ids.specs.declared.method.Kind.{Kind}
+use Rattle.rpc_ids.specs.declared.method.Role.{Role}
+use Rattle.rpc_ids.specs.declared.method.Role.TheVariants.{Server, Client}
 use Rattle.rpc_ids.specs.declared.status.Status.{Status}
-use Rattle.rpc_ids.specs.declared.status.Status.TheVariants.{Cancelled, Unavailable}
+use Rattle.rpc_ids.specs.declared.status.Status.TheVariants.{Cancelled, Unavailable, Aborted}
 use Rattle.rpc_handlers.specs.declared.answer.Answer.{Answer}
+use Rattle.rpc_handlers.specs.declared.answer.End.{End}
 use Rattle.rpc_handlers.specs.declared.answer.Out.{Out}
 use Rattle.rpc_handlers.specs.declared.answer.Out.TheVariants.{Say}
 use Rattle.rpc_handlers.specs.declared.event.Event.{Event}
 use Rattle.rpc_handlers.specs.declared.event.Event.TheVariants.{Ended, Request, Tick}
 use Rattle.rpc_journal.specs.declared.notice.Notice.{Notice}
-use Rattle.rpc_journal.specs.declared.notice.Notice.TheVariants.{Time, InputEnded}
+use Rattle.rpc_journal.specs.declared.notice.Notice.TheVariants.{Time, InputEnded, ChannelClosed}
 use Rattle.rpc_journal.specs.declared.waiting.Waiting.{Waiting}
 use Rattle.rpc_journal.specs.declared.call_state.CallState.{CallState}
 use Rattle.rpc_journal.specs.Calls.{of_call, is_start_of, is_finish_of, is_cancel_of}
 use Rattle.rpc_ids.specs.declared.method.MethodRef.{MethodRef}
+use Rattle.rpc_packet.specs.declared.call_name.CallName.{CallName}
 use Rattle.rpc_packet.specs.declared.owned.Packet.{Packet}
 use Rattle.rpc_journal.specs.declared.entry.EntryKind.{EntryKind}
 use Rattle.rpc_journal.specs.History.{entry_by}
 use Rattle.rpc_journal.specs.Effect.{Effect, Deed}
-use Rattle.rpc_journal.specs.Entries.{was_ended}
+use Rattle.rpc_journal.specs.Entries.{messages_go, was_ended}
 use Rattle.rpc_journal.specs.Items.{is_for, sends_completion}
-use Rattle.rpc_journal.specs.Marks.{is_empty, or_else, streams_down}
+use Rattle.rpc_journal.specs.Marks.{is_empty, is_okay, is_unary, or_else}
 use Rattle.rpc_journal.specs.Queues.{is_completion, is_tick, drops_of}
 
 -- what one entry does to one call: the seat that starts it, whether its run ends, whether it is cancelled, whether this
--- client completes its stream, the status that ends it, whether its waiting events go, and the event that is put to it
+-- client completes its stream, the status that ends it, whether its waiting events go, and the events that are put to it
 pub record Touch : Type 0 where
   pub starts : Option ℕ
   pub finishes : Bool
@@ -32,11 +38,11 @@ pub record Touch : Type 0 where
   pub completes : Bool
   pub ends : Option Status
   pub clears : Bool
-  pub puts : Option Event
+  pub puts : List Event
 
 abbrev pub untouched : Touch
 untouched =
-    record { starts = None; finishes = false; cancels = false; completes = false; ends = None; clears = false; puts = None }
+    record { starts = None; finishes = false; cancels = false; completes = false; ends = None; clears = false; puts = [] }
 
 abbrev pub starting : ℕ → Touch
 starting seat = record untouched { starts = Some seat }
@@ -44,14 +50,29 @@ starting seat = record untouched { starts = Some seat }
 abbrev pub finishing : Option Status → Touch
 finishing end = record untouched { finishes = true; ends = end; clears = is_some end }
 
+-- and this client's stream is completed, or isn't
+abbrev pub finishing_so : Option Status → Bool → Touch
+finishing_so end completes = record (finishing end) { completes = completes }
+
 abbrev pub cancelling : Option Status → Touch
 cancelling status = record untouched { cancels = true; ends = if is_some status then None else Some Cancelled; clears = true }
 
 abbrev pub closing : Status → Touch
-closing status = record untouched { ends = Some status; clears = true; puts = Some (Ended status) }
+closing status = record untouched { ends = Some status; clears = true; puts = Ended status ∷ [] }
 
 abbrev pub putting : Event → Touch
-putting event = record untouched { puts = Some event }
+putting event = record untouched { puts = event ∷ [] }
+
+-- it ends, and Ended waits behind its other events
+abbrev pub ending : Status → Touch
+ending status = record untouched { ends = Some status; puts = Ended status ∷ [] }
+
+-- the same, and an event waits before Ended
+abbrev pub answering : Event → Status → Touch
+answering event status = record untouched { ends = Some status; puts = event ∷ Ended status ∷ [] }
+
+abbrev pub completing : Touch
+completing = record untouched { completes = true }
 
 -- the deed does this to call c
 pub record Touches (d : Deed) (c : ℕ) (t : Touch) : Type 0 where
@@ -61,11 +82,12 @@ pub record Touches (d : Deed) (c : ℕ) (t : Touch) : Type 0 where
   pub completes : list_any (λ item. is_for c item.call && sends_completion item.act) d.does.says ≡ t.completes
   pub ends : of_call c d.does.ends ≡ option_to_list t.ends
   pub clears : drops_of d c ≡ t.clears
-  pub puts : of_call c d.does.puts ≡ option_to_list t.puts
-  pub alone : is_some t.starts ≡ true → (t.clears ≡ false) × (t.puts ≡ None)
+  pub puts : of_call c d.does.puts ≡ t.puts
+  pub alone : is_some t.starts ≡ true → (t.clears ≡ false) × (t.puts ≡ [])
 
-abbrev pub put_at : ℕ → Option Event → List Waiting
-put_at at put = map (λ event. record { at = at; event = event }) (option_to_list put)
+-- these events, put by the entry at this place
+abbrev pub put_at : ℕ → List Event → List Waiting
+put_at at events = map (λ event. record { at = at; event = event }) events
 
 -- the oldest of these is an Ended
 abbrev pub begins_with_end : List Waiting → Bool
@@ -77,7 +99,7 @@ pub record IsTouched (at : ℕ) (t : Touch) (before after : CallState) : Type 0 
   pub method : after.method ≡ before.method
   pub status : after.status ≡ or_else t.ends before.status
   pub cancelled : after.cancelled ≡ (t.cancels || before.cancelled)
-  pub completed : after.completed ≡ (list_any is_completion (option_to_list t.puts) || before.completed)
+  pub completed : after.completed ≡ (list_any is_completion t.puts || before.completed)
   pub done : after.done ≡ (before.done || t.completes)
   pub run : after.run ≡ (if is_some t.starts then t.starts else if t.finishes then None else before.run)
   pub took_end : after.took_end ≡ (if is_some t.starts then begins_with_end before.waiting.items else before.took_end)
@@ -99,23 +121,46 @@ wants_time r =
 abbrev pub hears_answer : CallState → Bool
 hears_answer r = is_none r.status && not r.took_end
 
--- the messages of the answer go out from a server
-abbrev pub says_messages : CallState → Bool
-says_messages r = hears_answer r && streams_down r.method.kind
+-- the messages of the answer go out
+abbrev pub says_messages : Role → CallState → Bool
+says_messages role r = messages_go role r.method.kind (hears_answer r) r.done
+
+-- the status with which the end of an answer that is heard ends its call: at a client one with OK ends none
+abbrev pub end_by : Role → Option End → Option Status
+end_by role None = None
+end_by Server (Some end) = Some end.status
+end_by Client (Some end) = if is_okay end.status then None else Some end.status
+
+-- it completes the stream of a client's call, where there is one that isn't complete
+abbrev pub completes_by : Role → Kind → Bool → Option End → Bool
+completes_by role kind done None = false
+completes_by Server kind done (Some end) = false
+completes_by Client kind done (Some end) = is_okay end.status && not (is_unary kind || done)
+
+-- the peer is told of it
+abbrev pub tells_end : Role → Kind → Bool → Option End → Bool
+tells_end role kind done None = false
+tells_end Server kind done (Some end) = true
+tells_end Client kind done (Some end) = not (is_okay end.status) || not (is_unary kind || done)
 
 -- the end that the answer of the call's run gives it
-abbrev pub end_given : CallState → Answer → Option Status
-end_given r a = if not r.cancelled && hears_answer r then option_map (λ end. end.status) a.end else None
+abbrev pub end_given : Role → CallState → Answer → Option Status
+end_given role r a = if not r.cancelled && hears_answer r then end_by role a.end else None
+
+-- the answer of the call's run completes its stream
+abbrev pub completes_given : Role → CallState → Answer → Bool
+completes_given role r a = not r.cancelled && hears_answer r && completes_by role r.method.kind r.done a.end
 
 abbrev pub is_message : Out → Bool
 is_message (Say payload) = true
 is_message _ = false
 
--- how many items the answer of the call's run adds, at a server
-abbrev pub items_given : CallState → Answer → ℕ
-items_given r a =
+-- how many items the answer of the call's run adds
+abbrev pub items_given : Role → CallState → Answer → ℕ
+items_given role r a =
     if r.cancelled then 1
-    else count_by (λ out. not (is_message out) || says_messages r) a.items + (if hears_answer r && is_some a.end then 1 else 0)
+    else count_by (λ out. not (is_message out) || says_messages role r) a.items
+    + (if hears_answer r && tells_end role r.method.kind r.done a.end then 1 else 0)
 
 -- how many items a cancel of the call adds
 abbrev pub items_of_cancel : CallState → ℕ
@@ -133,9 +178,9 @@ pub record IsSame (before after : CallState) : Type 0 where
   pub took_end : after.took_end ≡ before.took_end
   pub waiting : after.waiting.items ≡ before.waiting.items
 
--- the state of a call that the packet opens at a server: its request waits
-pub record IsServed (at : ℕ) (p : Packet) (method : MethodRef) (r : CallState) : Type 0 where
-  pub name : r.name ≡ p.name
+-- the state of a call as it opens, with these events waiting for it
+pub record IsOpened (at : ℕ) (called : CallName) (method : MethodRef) (events : List Event) (r : CallState) : Type 0 where
+  pub name : r.name ≡ called
   pub of_method : r.method ≡ method
   pub unended : r.status ≡ None
   pub uncancelled : r.cancelled ≡ false
@@ -143,7 +188,15 @@ pub record IsServed (at : ℕ) (p : Packet) (method : MethodRef) (r : CallState)
   pub undone : r.done ≡ false
   pub idle : r.run ≡ None
   pub took_none : r.took_end ≡ false
-  pub waiting : r.waiting.items ≡ put_at at (Some (Request p.payload))
+  pub waiting : r.waiting.items ≡ put_at at events
+
+-- a packet opens the call at a server: its request waits
+abbrev pub IsServed : ℕ → Packet → MethodRef → CallState → Type 0
+IsServed at p method r = IsOpened at p.name method (Request p.payload ∷ []) r
+
+-- a client opens the call: no event waits
+abbrev pub IsInvoked : CallName → MethodRef → CallState → Type 0
+IsInvoked called method r = IsOpened 0 called method [] r
 
 -- the deed of this seat's entry
 abbrev pub deed_by : ℕ → EntryKind → Effect → Deed
@@ -153,10 +206,19 @@ deed_by seat kind does = record { entry = entry_by seat kind; does = does }
 abbrev pub is_told : Notice → CallState → Bool
 is_told (Time now) r = wants_time r
 is_told InputEnded r = is_none r.status
+is_told (ChannelClosed channel) r = is_none r.status && (r.name.channel == channel)
 
-abbrev pub told_event : Notice → Event
-told_event (Time now) = Tick now
-told_event InputEnded = Ended Unavailable
+-- what it does to a call that is told
+abbrev pub touch_told : Notice → Touch
+touch_told (Time now) = putting (Tick now)
+touch_told InputEnded = putting (Ended Unavailable)
+touch_told (ChannelClosed channel) = closing Aborted
 
 abbrev pub telling : Notice → CallState → Touch
-telling notice r = if is_told notice r then putting (told_event notice) else untouched
+telling notice r = if is_told notice r then touch_told notice else untouched
+
+-- how many events of a call that is told stay before the new one
+abbrev pub events_kept : Notice → CallState → ℕ
+events_kept (Time now) r = deque_len r.waiting
+events_kept InputEnded r = deque_len r.waiting
+events_kept (ChannelClosed channel) r = 0

@@ -96,6 +96,17 @@ pub enum ReplaceRefused {
     Memory,
 }
 
+/// Why a channel was not closed.
+#[derive(Clone, Copy, Debug, PartialEq, Eq, Error)]
+pub enum CloseRefused {
+    #[error("the journal is full")]
+    JournalFull,
+    #[error("the channel isn't in")]
+    NotIn,
+    #[error("out of memory")]
+    Memory,
+}
+
 /// What a cancel answers: the call's status, and whether a seat runs it.
 #[derive(Clone, Copy, Debug, PartialEq, Eq)]
 pub enum Cancelled {

@@ -1,158 +1,60 @@
-//! What a server makes of a packet, by its type and the state of the call of its name.
-ghost use Rattle.std.specs.Prelude.{◌≡◌, ℕ, ◌<◌, List, IfSome};
-ghost use Rattle.rpc_ids.specs.declared.method.MethodRef.{MethodRef};
-ghost use Rattle.rpc_journal.specs.declared.call_state.CallState.{CallState};
+//! What a table makes of a packet, by the role, the packet's type and the state of the call of its name.
+ghost use Rattle.std.specs.Prelude.{◌≡◌, List};
 ghost use Rattle.rpc_journal.specs.declared.setting.Setting.{Setting};
 ghost use Rattle.rpc_journal.specs.Calls.{call_count};
 ghost use Rattle.rpc_journal.specs.Effect.{Deed};
 ghost use Rattle.rpc_journal.specs.Entries.{arrive_row};
-ghost use Rattle.rpc_journal.specs.Marks.{streams_up, is_unary};
-ghost use Rattle.rpc_journal.specs.Moves.{IsOpenMove, IsServerOf, row_of};
-ghost use Rattle.rpc_journal.specs.Queues.{is_completed};
-ghost use Rattle.rpc_journal.specs.ServerTable.{client_error_row, request_row, client_stream_row, completion_row, known_row, unknown_row};
-ghost use Rattle.rpc_journal.specs.Tells.{IsOpenAt, Tells};
+ghost use Rattle.rpc_journal.specs.Faults.{IsSettingOf};
+ghost use Rattle.rpc_journal.specs.Moves.{IsOpenMove, row_of};
+ghost use Rattle.rpc_journal.specs.Tells.{Tells};
 
 use crate::call_states::CallStates;
+use crate::client_arrivals::client_move;
+use crate::server_arrivals::server_move;
 use rpc_channel::Channels;
-use rpc_ids::{Kind, MethodRef, Registry, Status};
-use rpc_packet::{Packet, PacketType};
+use rpc_ids::{MethodRef, Registry, Role, Status};
+use rpc_packet::Packet;
 
-/// What a server makes of a packet. A `usize` is the number of a call.
+/// What a table makes of a packet. A `usize` is the number of a call.
 #[derive(Clone, Copy, Debug, PartialEq, Eq)]
 pub enum Move {
     /// Nothing.
     Drop,
-    /// A reply of no call goes out, with this status.
+    /// At a server a reply of no call goes out, with this status.
     Reply(Status),
-    /// The call ends with this status.
+    /// At a server the call ends with this status, and what waits for it goes.
     Close(usize, Status),
-    /// A call of this method opens.
+    /// At a server a call of this method opens.
     Open(MethodRef),
     /// The same, and the call of this name before it ends with `CANCELLED`.
     OpenAnew(MethodRef, usize),
     /// A message waits for the call.
     Queue(usize),
-    /// The client's stream is complete.
+    /// At a server the client's stream is complete.
     Complete(usize),
+    /// At a client the packet is of no live call: a reply of no call goes out.
+    Stray,
+    /// At a client the call ends with this status, behind what waits for it.
+    End(usize, Status),
+    /// At a client the call ends, as its method has no such stream, and the server is told.
+    Refuse(usize),
+    /// At a client a last message waits for the call, which ends with this status.
+    Answer(usize, Status),
 }
 
-/// What a server with these channels and methods makes of a packet.
-#[tactic(auto, unfolding(crate::specs::Entries::arrive_row))]
-pub fn server_move(
+/// What an endpoint of this role with these channels and methods makes of a packet.
+pub fn move_at(
+    role: Role,
     states: &CallStates,
     p: &Packet,
     channels: &Channels,
     registry: &Registry,
 ) -> Move
-    ensures row { (set : Setting) (ds : List Deed) → IsServerOf set channels.now registry.now → Tells ds states.now → arrive_row set ds p.now ≡ row_of result p.now (call_count ds) }
+    ensures row { (set : Setting) (ds : List Deed) → IsSettingOf set role channels.now registry.now → Tells ds states.now → arrive_row set ds p.now ≡ row_of result p.now (call_count ds) }
     ensures call { IsOpenMove states.now.calls.items result }
 {
-    if !channels.is_in(p.name.channel) {
-        return unknown_move(p.ptype, Status::Unavailable);
-    }
-    match registry.find(p.name.service, p.name.method) {
-        None => unknown_move(p.ptype, Status::NotFound),
-        Some(method) => {
-            let live = states.live(p.name);
-            let completed = states.is_completed(live);
-            known_move(p, method, live, completed)
-        }
-    }
-}
-
-// There is no such channel or method.
-fn unknown_move(ptype: PacketType, status: Status) -> Move
-    ensures row { (p : _) (n : ℕ) → unknown_row ptype p status ≡ row_of result p n }
-    ensures call { (states : List CallState) → IsOpenMove states result }
-{
-    match ptype {
-        PacketType::ClientError => Move::Drop,
-        _ => Move::Reply(status),
-    }
-}
-
-// The method is known, and `live` is the live call of the packet's name.
-fn known_move(p: &Packet, method: MethodRef, live: Option<usize>, completed: bool) -> Move
-    ensures row { (ds : List Deed) → IfSome live (λ c. is_completed ds c ≡ completed) → known_row p.now.ptype p.now method ds live ≡ row_of result p.now (call_count ds) }
-    ensures call { (states : List CallState) → IfSome live (λ c. IsOpenAt states c) → IsOpenMove states result }
-{
-    match p.ptype {
-        PacketType::ClientError => client_error_move(p, live),
-        PacketType::Request => request_move(method, live),
-        PacketType::ClientStream => client_stream_move(method.kind, live, completed),
-        PacketType::Completion => completion_move(method.kind, live, completed),
-        PacketType::Response | PacketType::ServerError | PacketType::ServerStream => Move::Drop,
-    }
-}
-
-fn client_error_move(p: &Packet, live: Option<usize>) -> Move
-    ensures row { (n : ℕ) → client_error_row p.now live ≡ row_of result p.now n }
-    ensures call { (states : List CallState) → IfSome live (λ c. IsOpenAt states c) → IsOpenMove states result }
-{
-    match live {
-        None => Move::Drop,
-        Some(c) => Move::Close(c, Status::of(p.status)),
-    }
-}
-
-fn request_move(method: MethodRef, live: Option<usize>) -> Move
-    ensures row { (p : _) (n : ℕ) → request_row p method n live ≡ row_of result p n }
-    ensures call { (states : List CallState) → IfSome live (λ c. IsOpenAt states c) → IsOpenMove states result }
-{
-    match live {
-        None => Move::Open(method),
-        Some(c) => Move::OpenAnew(method, c),
-    }
-}
-
-fn client_stream_move(kind: Kind, live: Option<usize>, completed: bool) -> Move
-    ensures row { (p : _) (m : MethodRef) (ds : List Deed) → m.kind ≡ kind → IfSome live (λ c. is_completed ds c ≡ completed) → client_stream_row p m ds live ≡ row_of result p (call_count ds) }
-    ensures call { (states : List CallState) → IfSome live (λ c. IsOpenAt states c) → IsOpenMove states result }
-{
-    match live {
-        None => Move::Reply(Status::FailedPrecondition),
-        Some(c) => {
-            if !streams_up(kind) {
-                Move::Reply(Status::InvalidArgument)
-            } else if completed {
-                Move::Reply(Status::FailedPrecondition)
-            } else {
-                Move::Queue(c)
-            }
-        }
-    }
-}
-
-fn completion_move(kind: Kind, live: Option<usize>, completed: bool) -> Move
-    ensures row { (p : _) (m : MethodRef) (ds : List Deed) → m.kind ≡ kind → IfSome live (λ c. is_completed ds c ≡ completed) → completion_row p m ds live ≡ row_of result p (call_count ds) }
-    ensures call { (states : List CallState) → IfSome live (λ c. IsOpenAt states c) → IsOpenMove states result }
-{
-    match live {
-        None => Move::Reply(Status::FailedPrecondition),
-        Some(c) => {
-            if is_unary(kind) || completed {
-                Move::Drop
-            } else {
-                Move::Complete(c)
-            }
-        }
-    }
-}
-
-fn streams_up(kind: Kind) -> bool
-    ensures { result ≡ streams_up kind }
-{
-    match kind {
-        Kind::ClientStream | Kind::Bidi => true,
-        Kind::Unary | Kind::ServerStream => false,
-    }
-}
-
-fn is_unary(kind: Kind) -> bool
-    ensures { result ≡ is_unary kind }
-{
-    match kind {
-        Kind::Unary => true,
-        _ => false,
+    match role {
+        Role::Server => server_move(states, p, channels, registry),
+        Role::Client => client_move(states, p, channels, registry),
     }
 }

@@ -1,17 +1,17 @@
 //! What a history says of one call.
-ghost use Rattle.std.specs.Prelude.{◌≡◌, ◌+◌, ◌^◌, ◌||◌, ◌<◌, count_by, not, Some, None, false, true, is_some, ◌∷◌, IfOk, OnOk};
+ghost use Rattle.std.specs.Prelude.{◌≡◌, ◌+◌, ◌^◌, ◌||◌, ◌<◌, count_by, not, IfOk, None, false};
 ghost use Rattle.std.specs.List.{list_any};
 ghost use Rattle.std.specs.VecDeque.{deque_len, deque_capacity};
-ghost use Rattle.rpc_handlers.specs.declared.event.Event.{Event};
 ghost use Rattle.rpc_journal.specs.Choice.{first_place};
-ghost use Rattle.rpc_journal.specs.Marks.{is_empty, streams_down};
 ghost use Rattle.rpc_journal.specs.Queues.{is_ended, is_tick};
-ghost use Rattle.rpc_journal.specs.Touch.{IsTouched, starting, finishing, cancelling, closing, putting, is_startable, wants_time, hears_answer, end_given, items_given, items_of_cancel, is_message, IsSame, IsServed, is_told, telling};
+ghost use Rattle.rpc_journal.specs.Touch.{is_startable, wants_time, hears_answer, says_messages, end_given, completes_given, items_given, items_of_cancel, is_message, IsInvoked, IsServed, is_told};
 
+use crate::answer_ends::{completes_by, end_by, tells_end};
+use crate::kinds::{is_server, streams_out};
 use crate::notice::Notice;
 use crate::waiting::Waiting;
 use rpc_handlers::{Answer, Event, Out};
-use rpc_ids::{Kind, MethodRef, Status};
+use rpc_ids::{MethodRef, Role, Status};
 use rpc_packet::{CallName, Packet};
 use std::alloc::{AllocError, Global};
 use std::collections::VecDeque;
@@ -44,32 +44,36 @@ pub struct CallState {
 }
 
 impl CallState {
-    /// A call that a packet opens at a server: its request waits.
+    /// A call that a packet opens at a server: its request waits, with room for one more event.
     pub fn served(
         alloc: Global,
         p: &Packet,
         method: MethodRef,
         at: u64,
     ) -> Result<CallState, AllocError>
-        ensures { IfOk result (λ r. IsServed at p.now method r) }
+        ensures state { IfOk result (λ r. IsServed at p.now method r) }
+        ensures room { IfOk result (λ r. deque_len r.waiting < deque_capacity r.waiting) }
     {
+        let mut waiting = VecDeque::with_capacity(alloc, 2)?;
         let payload = p.payload.clone()?;
-        let mut waiting = VecDeque::new(alloc);
-        waiting.push_back(Waiting {
+        waiting.push_back_reserved(Waiting {
             at,
             event: Event::Request(payload),
-        })?;
-        Ok(CallState {
-            name: p.name,
-            method,
-            status: None,
-            cancelled: false,
-            completed: false,
-            done: false,
-            run: None,
-            took_end: false,
-            waiting,
-        })
+        });
+        Ok(new_call(p.name, method, waiting))
+    }
+
+    /// A call that a client opens: no event waits, and there is room for two.
+    pub fn invoked(
+        alloc: Global,
+        name: CallName,
+        method: MethodRef,
+    ) -> Result<CallState, AllocError>
+        ensures state { IfOk result (λ r. IsInvoked name method r) }
+        ensures room { IfOk result (λ r. deque_len r.waiting + 1 < deque_capacity r.waiting) }
+    {
+        let waiting = VecDeque::with_capacity(alloc, 2)?;
+        Ok(new_call(name, method, waiting))
     }
 
     /// Whether the call is told of this.
@@ -79,26 +83,10 @@ impl CallState {
         match notice {
             Notice::Time(_) => self.wants_tick(),
             Notice::InputEnded => self.status.is_none(),
+            Notice::ChannelClosed(channel) => {
+                self.status.is_none() && self.name.channel == channel
+            }
         }
-    }
-
-    /// The call is told of this, where it is to be. There must be room for the event.
-    pub fn tell(&mut self, at: u64, notice: Notice)
-        requires { is_told notice self.old ≡ true → deque_len self.old.waiting < deque_capacity self.old.waiting }
-        ensures state { IsTouched at (telling notice self.old) self.old self.new }
-    {
-        if self.is_told(notice) {
-            self.put(at, notice.event());
-        }
-    }
-
-    /// Makes room for one more event that waits.
-    pub fn make_room(&mut self) -> Result<(), AllocError>
-        ensures same { IsSame self.old self.new }
-        ensures kept { deque_len self.old.waiting < deque_capacity self.old.waiting → deque_len self.new.waiting < deque_capacity self.new.waiting }
-        ensures room { OnOk result (deque_len self.new.waiting < deque_capacity self.new.waiting) }
-    {
-        self.waiting.reserve(1)
     }
 
     /// Whether a run can begin, where so many items wait to be flushed.
@@ -153,30 +141,43 @@ impl CallState {
         self.status.is_none() && !self.took_end
     }
 
+    /// Whether the messages of the answer of the call's run go out.
+    pub fn says_messages(&self, role: Role) -> bool
+        ensures { result ≡ says_messages role self.now }
+    {
+        self.hears_answer()
+            && streams_out(role, self.method.kind)
+            && (is_server(role) || !self.done)
+    }
+
     /// The end that this answer of the call's run gives it.
-    pub fn end_given(&self, a: &Answer) -> Option<Status>
-        ensures { result ≡ end_given self.now a.now }
+    pub fn end_given(&self, role: Role, a: &Answer) -> Option<Status>
+        ensures { result ≡ end_given role self.now a.now }
     {
         if self.cancelled || !self.hears_answer() {
             return None;
         }
-        match &a.end {
-            Some(end) => Some(end.status),
-            None => None,
-        }
+        end_by(role, &a.end)
     }
 
-    /// How many items this answer of the call's run adds, at a server.
-    pub fn items_given(&self, a: &Answer) -> u64
-        ensures { result ≡ items_given self.now a.now }
+    /// Whether this answer of the call's run completes the stream that a client sends.
+    pub fn completes_given(&self, role: Role, a: &Answer) -> bool
+        ensures { result ≡ completes_given role self.now a.now }
+    {
+        !self.cancelled
+            && self.hears_answer()
+            && completes_by(role, self.method.kind, self.done, &a.end)
+    }
+
+    /// How many items this answer of the call's run adds.
+    pub fn items_given(&self, role: Role, a: &Answer) -> u64
+        ensures { result ≡ items_given role self.now a.now }
     {
         if self.cancelled {
             return 1;
         }
-        let heard = self.hears_answer();
-        let says = heard && streams_down(self.method.kind);
-        let items = items_of(a, says);
-        if heard && a.end.is_some() {
+        let items = items_of(a, self.says_messages(role));
+        if self.hears_answer() && tells_end(role, self.method.kind, self.done, &a.end) {
             items + 1
         } else {
             items
@@ -191,65 +192,21 @@ impl CallState {
         let left = if self.run.is_some() { 0u64 } else { 1 };
         told + left
     }
+}
 
-    /// A run of this seat begins, with the oldest event that waits.
-    pub fn start(&mut self, seat: u32) -> Waiting
-        requires { is_empty self.old.waiting.items ≡ false }
-        ensures state { (at : _) → IsTouched at (starting seat) self.old self.new }
-        ensures oldest { self.old.waiting.items ≡ result ∷ self.new.waiting.items }
-    {
-        let oldest = self.waiting.pop_front().unwrap();
-        self.took_end = is_ended(&oldest.event);
-        self.run = Some(seat);
-        oldest
-    }
-
-    /// The run ends, and with it the call where its answer gives an end.
-    pub fn finish(&mut self, end: Option<Status>)
-        requires { is_some end ≡ true → self.old.status ≡ None }
-        ensures state { (at : _) → IsTouched at (finishing end) self.old self.new }
-    {
-        self.run = None;
-        if end.is_some() {
-            self.status = end;
-            self.waiting.clear();
-        }
-    }
-
-    /// The call is cancelled.
-    pub fn cancel(&mut self)
-        ensures state { (at : _) → IsTouched at (cancelling self.old.status) self.old self.new }
-    {
-        self.cancelled = true;
-        self.waiting.clear();
-        if self.status.is_none() {
-            self.status = Some(Status::Cancelled);
-        }
-    }
-
-    /// The peer ends the call: what waits goes, and the end waits. There must be room for it.
-    pub fn close(&mut self, at: u64, status: Status)
-        requires open_call { self.old.status ≡ None }
-        requires room { 0 < deque_capacity self.old.waiting }
-        ensures state { IsTouched at (closing status) self.old self.new }
-    {
-        self.status = Some(status);
-        self.waiting.clear();
-        self.waiting.push_back_reserved(Waiting {
-            at,
-            event: Event::Ended(status),
-        });
-    }
-
-    /// An event waits. There must be room for it.
-    pub fn put(&mut self, at: u64, event: Event)
-        requires { deque_len self.old.waiting < deque_capacity self.old.waiting }
-        ensures state { IsTouched at (putting event) self.old self.new }
-    {
-        if let Event::Completion = event {
-            self.completed = true;
-        }
-        self.waiting.push_back_reserved(Waiting { at, event });
+fn new_call(name: CallName, method: MethodRef, waiting: VecDeque<Waiting>) -> CallState
+    ensures { result ≡ record { name = name; method = method; status = None; cancelled = false; completed = false; done = false; run = None; took_end = false; waiting = waiting } }
+{
+    CallState {
+        name,
+        method,
+        status: None,
+        cancelled: false,
+        completed: false,
+        done: false,
+        run: None,
+        took_end: false,
+        waiting,
     }
 }
 
@@ -274,17 +231,8 @@ fn is_message(out: &Out) -> bool
     }
 }
 
-/// Whether the server sends a stream of messages.
-pub fn streams_down(kind: Kind) -> bool
-    ensures { result ≡ streams_down kind }
-{
-    match kind {
-        Kind::ServerStream | Kind::Bidi => true,
-        Kind::Unary | Kind::ClientStream => false,
-    }
-}
-
-fn is_ended(event: &Event) -> bool
+/// Whether the event tells of the call's end.
+pub fn is_ended(event: &Event) -> bool
     ensures { result ≡ is_ended event.now }
 {
     match event {

@@ -2,19 +2,26 @@
 ghost use Rattle.std.specs.Prelude.{◌≡◌, ◌<◌, List, [], slice_get, Some, None, nat_le, IfSome, option_copied, if◌then◌else◌};
 ghost use Rattle.rpc_packet.specs.declared.call_name.CallName.{CallName};
 ghost use Rattle.rpc_journal.specs.Calls.{call_at, call_count, has_end, is_cancelled, live_call, runner_of};
-ghost use Rattle.rpc_journal.specs.Items.{is_ready};
-ghost use Rattle.rpc_journal.specs.Lawful.{full_among, has_stream};
+ghost use Rattle.rpc_journal.specs.Items.{is_done, is_ready};
+ghost use Rattle.rpc_channel.specs.Rising.{has_id};
+ghost use Rattle.rpc_journal.specs.declared.setting.Setting.{Setting};
+ghost use Rattle.rpc_journal.specs.Closing.{live_on};
+ghost use Rattle.rpc_journal.specs.Rows.{channels_in};
+ghost use Rattle.rpc_journal.specs.Lawful.{full_among, has_stream, is_unary_call};
 ghost use Rattle.rpc_journal.specs.Moves.{row_of};
-ghost use Rattle.rpc_ids.specs.declared.method.Role.TheVariants.{Server};
 ghost use Rattle.rpc_packet.specs.declared.owned.Packet.{Packet};
 ghost use Rattle.rpc_journal.specs.Effect.{Deed};
 ghost use Rattle.rpc_journal.specs.Queues.{is_completed, messages_waiting};
 ghost use Rattle.rpc_journal.specs.Tells.{IsOpenAt, Tells};
 
 use crate::arrival_move::Move;
-use crate::call_state::{CallState, MAX_WAITING, streams_down};
+use crate::call_state::{CallState, MAX_WAITING};
+use crate::kinds::{is_unary, streams_out};
 use crate::newest_calls::NewestCalls;
+use crate::notice::Notice;
 use link_io::Why;
+use rpc_channel::Channels;
+use rpc_ids::Role;
 use rpc_packet::CallName;
 use std::alloc::Global;
 
@@ -25,6 +32,8 @@ pub struct CallStates {
     pub calls: Vec<CallState>,
     /// The newest call of each name.
     pub newest: NewestCalls,
+    /// The channels that were closed.
+    pub closed: Vec<u32>,
     /// How many items wait to be flushed.
     pub unflushed: u64,
     /// An `EndIn` is there.
@@ -41,10 +50,26 @@ impl CallStates {
         CallStates {
             calls: Vec::new(alloc),
             newest: NewestCalls::new(alloc),
+            closed: Vec::new(alloc),
             unflushed: 0,
             input_ended: false,
             halted: None,
         }
+    }
+
+    /// Whether this channel is in: it is one of those that the history begins with, and wasn't closed.
+    pub fn is_in(&self, channels: &Channels, channel: u32) -> bool
+        ensures { (set : Setting) (ds : List Deed) → set.channels ≡ channels.now → Tells ds self.now → result ≡ has_id (channels_in set ds) channel }
+    {
+        channels.is_in(channel) && !self.closed.contains(&channel)
+    }
+
+    /// How many live calls are on this channel.
+    pub fn live_on(&self, channel: u32) -> usize
+        ensures { result ≡ live_on channel self.now.calls.items }
+    {
+        let closed = Notice::ChannelClosed(channel);
+        self.calls.iter().filter(|r| r.is_told(closed)).count()
     }
 
     /// The last call of this name, where it has no end.
@@ -113,12 +138,32 @@ impl CallStates {
         }
     }
 
-    /// Whether the method of this call has a stream from the server.
-    pub fn has_stream(&self, call: u32) -> bool
-        ensures { (ds : List Deed) → Tells ds self.now → result ≡ has_stream Server (call_at ds call) }
+    /// Whether the method of this call has a stream in the direction in which this role sends.
+    pub fn has_stream(&self, role: Role, call: u32) -> bool
+        ensures { (ds : List Deed) → Tells ds self.now → result ≡ has_stream role (call_at ds call) }
     {
         match self.state(call) {
-            Some(state) => streams_down(state.method.kind),
+            Some(state) => streams_out(role, state.method.kind),
+            None => false,
+        }
+    }
+
+    /// Whether the method of this call is unary, or there is no such call.
+    pub fn is_unary(&self, call: u32) -> bool
+        ensures { (ds : List Deed) → Tells ds self.now → result ≡ is_unary_call (call_at ds call) }
+    {
+        match self.state(call) {
+            Some(state) => is_unary(state.method.kind),
+            None => true,
+        }
+    }
+
+    /// Whether this client has completed its stream of this call.
+    pub fn is_done(&self, call: u32) -> bool
+        ensures { (ds : List Deed) → Tells ds self.now → result ≡ is_done ds call }
+    {
+        match self.state(call) {
+            Some(state) => state.done,
             None => false,
         }
     }
@@ -128,7 +173,7 @@ impl CallStates {
         ensures { (ds : List Deed) (p : Packet) → Tells ds self.now → result ≡ full_among ds (row_of arrival p (call_count ds)).does.puts }
     {
         match arrival {
-            Move::Queue(c) | Move::Complete(c) => self.full_at(c),
+            Move::Queue(c) | Move::Complete(c) | Move::Answer(c, _) => self.full_at(c),
             _ => None,
         }
     }

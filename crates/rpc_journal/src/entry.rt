@@ -43,4 +43,6 @@ pub enum EntryKind {
     EndIn,
     /// The table was halted for this reason.
     Halt(Why),
+    /// A channel was closed: its live calls ended.
+    Close(u32),
 }

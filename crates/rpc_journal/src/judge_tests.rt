@@ -1,134 +1,16 @@
 //! Journals of a server, judged.
 
 use super::*;
-use bytes::Bytes;
+use crate::test_world::{World, arrive, arrive_as, arrive_on, entry, fault, flush, request, start};
 use link_io::Why;
-use rpc_channel::Channels;
-use rpc_handlers::{Answer, End, Memo, Out, Outs, Parts, Words};
-use rpc_ids::{Kind, MethodRef, Registry, Role, Status};
-use rpc_packet::{CallName, Packet, PacketType};
-use std::alloc::{AllocError, Global};
+use rpc_handlers::Out;
+use rpc_ids::{Kind, MethodRef, Role, Status};
+use rpc_packet::PacketType;
 use std::test::Fail;
-
-/// A server with channel 1 and these methods.
-#[derive(Drop)]
-struct World {
-    alloc: Global,
-    channels: Channels,
-    registry: Registry,
-    echo: MethodRef,
-    sum: MethodRef,
-    chat: MethodRef,
-}
-
-impl World {
-    fn new(alloc: Global) -> Result<World, Fail> {
-        let mut channels = Channels::new(alloc);
-        channels.add(1)?;
-        let mut registry = Registry::new(alloc);
-        let echo = registry.add(b"demo.Demo", b"Echo", Kind::Unary, false)?;
-        let sum = registry.add(b"demo.Demo", b"Sum", Kind::ClientStream, false)?;
-        let chat = registry.add(b"demo.Demo", b"Chat", Kind::Bidi, true)?;
-        Ok(World {
-            alloc,
-            channels,
-            registry,
-            echo,
-            sum,
-            chat,
-        })
-    }
-
-    /// The fault of the journal of these entries.
-    fn judge(&self, entries: Vec<Entry>) -> Result<Option<Fault>, AllocError> {
-        let mut journal = Journal::new(self.alloc);
-        for entry in entries {
-            journal.reserve(1)?;
-            journal.push(entry);
-        }
-        check(
-            self.alloc,
-            &journal,
-            Role::Server,
-            &self.channels,
-            &self.registry,
-        )
-    }
-
-    fn answer(&self, end: Option<Status>) -> Answer {
-        let end = match end {
-            Some(status) => Some(End {
-                status,
-                payload: Bytes::new(),
-            }),
-            None => None,
-        };
-        Answer {
-            items: Outs::new(self.alloc),
-            end,
-        }
-    }
-
-    fn finish(&self, seat: u32, call: u32) -> Entry {
-        entry(seat, EntryKind::Finish(call, self.answer(None)))
-    }
-
-    fn replace(&self, seat: u32, call: u32) -> Entry {
-        let memo = Memo {
-            words: Words::new(self.alloc),
-            parts: Parts::new(self.alloc),
-        };
-        entry(seat, EntryKind::Replace(call, memo))
-    }
-}
-
-fn entry(seat: u32, kind: EntryKind) -> Entry {
-    Entry { seat, kind }
-}
-
-fn arrive_as(channel: u32, call: u32, ptype: PacketType, method: MethodRef) -> Entry {
-    let name = CallName {
-        channel,
-        service: method.service,
-        method: method.method,
-        call,
-    };
-    let packet = Packet {
-        ptype,
-        name,
-        payload: Bytes::new(),
-        status: 0,
-    };
-    entry(0, EntryKind::Arrive(packet))
-}
-
-fn arrive_on(channel: u32, ptype: PacketType, method: MethodRef) -> Entry {
-    arrive_as(channel, 1, ptype, method)
-}
-
-fn arrive(ptype: PacketType, method: MethodRef) -> Entry {
-    arrive_on(1, ptype, method)
-}
-
-fn request(method: MethodRef) -> Entry {
-    arrive(PacketType::Request, method)
-}
-
-fn flush() -> Entry {
-    entry(1, EntryKind::Flush)
-}
-
-fn start(seat: u32, call: u32) -> Entry {
-    entry(seat, EntryKind::Start(call))
-}
-
-fn fault(at: u64, rule: Broken) -> Option<Fault> {
-    Some(Fault { at, rule })
-}
 
 #[test]
 fn one_wrong_journal_for_each_rule(rt: HostRuntime) -> Result<(), Fail> {
-    let w = World::new(rt.alloc())?;
+    let w = World::new(rt.alloc(), Role::Server)?;
     let chat = w.chat;
     assert_eq!(rt; w.judge(Vec::new(w.alloc))?, None);
     assert_eq!(rt;
@@ -168,7 +50,7 @@ fn one_wrong_journal_for_each_rule(rt: HostRuntime) -> Result<(), Fail> {
 
 #[test]
 fn a_request_of_a_live_name_cancels_the_old_call(rt: HostRuntime) -> Result<(), Fail> {
-    let w = World::new(rt.alloc())?;
+    let w = World::new(rt.alloc(), Role::Server)?;
     let chat = w.chat;
     let runs = w.judge(vec![in w.alloc;
         request(chat),
@@ -195,7 +77,7 @@ fn a_request_of_a_live_name_cancels_the_old_call(rt: HostRuntime) -> Result<(), 
 
 #[test]
 fn a_name_is_used_again_after_its_end_and_while_it_lives(rt: HostRuntime) -> Result<(), Fail> {
-    let w = World::new(rt.alloc())?;
+    let w = World::new(rt.alloc(), Role::Server)?;
     let chat = w.chat;
     for call in 0..3u32 {
         let found = w.judge(vec![in w.alloc;
@@ -223,7 +105,7 @@ fn a_name_is_used_again_after_its_end_and_while_it_lives(rt: HostRuntime) -> Res
 
 #[test]
 fn each_of_many_names_has_its_own_call(rt: HostRuntime) -> Result<(), Fail> {
-    let w = World::new(rt.alloc())?;
+    let w = World::new(rt.alloc(), Role::Server)?;
     let mut journal = Journal::new(w.alloc);
     for name in 0..100u32 {
         journal.reserve(1)?;
@@ -250,7 +132,7 @@ fn each_of_many_names_has_its_own_call(rt: HostRuntime) -> Result<(), Fail> {
 
 #[test]
 fn packets_that_fit_no_call_are_answered(rt: HostRuntime) -> Result<(), Fail> {
-    let w = World::new(rt.alloc())?;
+    let w = World::new(rt.alloc(), Role::Server)?;
     let late = w.judge(vec![in w.alloc;
         request(w.sum),
         arrive(PacketType::Completion, w.sum),
@@ -287,7 +169,7 @@ fn packets_that_fit_no_call_are_answered(rt: HostRuntime) -> Result<(), Fail> {
 
 #[test]
 fn runs_end_by_their_own_seat(rt: HostRuntime) -> Result<(), Fail> {
-    let w = World::new(rt.alloc())?;
+    let w = World::new(rt.alloc(), Role::Server)?;
     let chat = w.chat;
     let replaced = w.judge(vec![in w.alloc;
         request(chat),
@@ -315,7 +197,7 @@ fn runs_end_by_their_own_seat(rt: HostRuntime) -> Result<(), Fail> {
 
 #[test]
 fn an_answer_ends_its_call(rt: HostRuntime) -> Result<(), Fail> {
-    let w = World::new(rt.alloc())?;
+    let w = World::new(rt.alloc(), Role::Server)?;
     let ended = w.judge(vec![in w.alloc;
         request(w.echo),
         start(2, 0),
@@ -339,7 +221,7 @@ fn an_answer_ends_its_call(rt: HostRuntime) -> Result<(), Fail> {
 
 #[test]
 fn ticks_wait_once(rt: HostRuntime) -> Result<(), Fail> {
-    let w = World::new(rt.alloc())?;
+    let w = World::new(rt.alloc(), Role::Server)?;
     assert_eq!(rt;
         w.judge(vec![in w.alloc; entry(1, EntryKind::Tick(5))]?)?,
         None
@@ -367,7 +249,7 @@ fn ticks_wait_once(rt: HostRuntime) -> Result<(), Fail> {
 
 #[test]
 fn sixty_four_events_wait_and_no_more(rt: HostRuntime) -> Result<(), Fail> {
-    let w = World::new(rt.alloc())?;
+    let w = World::new(rt.alloc(), Role::Server)?;
     let mut journal = Journal::new(w.alloc);
     journal.reserve(1)?;
     journal.push(request(w.chat));

@@ -1,9 +1,4 @@
 //! What all calls are told of at once.
-ghost use Rattle.std.specs.Prelude.{◌≡◌};
-ghost use Rattle.rpc_journal.specs.Touch.{told_event};
-
-use rpc_handlers::Event;
-use rpc_ids::Status;
 
 /// What all calls are told of at once.
 #[derive(Clone, Copy, Debug, PartialEq, Eq)]
@@ -13,16 +8,6 @@ pub enum Notice {
     Time(u64),
     /// The input has ended: each live call is told.
     InputEnded,
-}
-
-impl Notice {
-    /// The event that tells of it.
-    pub fn event(self) -> Event
-        ensures { result ≡ told_event self }
-    {
-        match self {
-            Notice::Time(now) => Event::Tick(now),
-            Notice::InputEnded => Event::Ended(Status::Unavailable),
-        }
-    }
+    /// This channel is closed: each live call on it ends with `ABORTED`.
+    ChannelClosed(u32),
 }

@@ -1,15 +1,14 @@
 //! The judge of a journal: whether it is lawful, and else its first fault.
 ghost use Rattle.std.specs.Prelude.{◌≡◌, ◌+◌, ◌<◌, List, length, IfOk, IfSome, IsNone, OnOk, ◌↔◌, None};
-ghost use Rattle.rpc_ids.specs.declared.method.Role.TheVariants.{Server};
 ghost use Rattle.rpc_journal.specs.declared.setting.Setting.{Setting};
 ghost use Rattle.rpc_journal.specs.Effect.{Deed};
 ghost use Rattle.rpc_journal.specs.Faults.{IsAllowedNext, IsFirstFault, IsSettingOf};
 ghost use Rattle.rpc_journal.specs.History.{tell};
 ghost use Rattle.rpc_journal.specs.Lawful.{IsLawful, broken};
-ghost use Rattle.rpc_journal.specs.Moves.{IsServerOf};
 ghost use Rattle.rpc_journal.specs.Tells.{Tells};
 
-use crate::arrival_move::server_move;
+use crate::arrival_move::move_at;
+use crate::call_state::CallState;
 use crate::call_states::CallStates;
 use crate::entry::{Entry, EntryKind};
 use crate::fault::Fault;
@@ -27,8 +26,7 @@ const MAX_ITEMS_GIVEN: u64 = MAX_ANSWER_ITEMS as u64 + 1;
 const MAX_ITEMS_OF_CANCEL: u64 = 2;
 
 /// Judges a journal as the one of an endpoint of this role, with these channels and methods: `None` where it is
-/// lawful, and else the first entry that isn't allowed after those before it, with the first rule that it breaks. Only
-/// a server's journal can be judged yet.
+/// lawful, and else the first entry that isn't allowed after those before it, with the first rule that it breaks.
 pub fn check(
     alloc: Global,
     journal: &Journal,
@@ -36,7 +34,6 @@ pub fn check(
     channels: &Channels,
     registry: &Registry,
 ) -> Result<Option<Fault>, AllocError>
-    requires { role ≡ Server }
     ensures lawful { IfOk result (λ found. (set : Setting) → IsSettingOf set role channels.now registry.now → IsNone found ↔ IsLawful set journal.now.entries) }
     ensures fault { IfOk result (λ found. IfSome found (λ fault. (set : Setting) → IsSettingOf set role channels.now registry.now → IsFirstFault set journal.now.entries fault)) }
 {
@@ -44,31 +41,48 @@ pub fn check(
     let count = journal.len();
     for at in 0..count {
         let entry = journal.get(at).unwrap();
-        if let Some(rule) = broken_rule(&states, entry, channels, registry) {
+        if let Some(rule) = broken_rule(&states, entry, role, channels, registry) {
             return Ok(Some(Fault { at, rule }));
         }
-        follow(&mut states, alloc, at, entry, channels, registry)?;
+        follow(&mut states, alloc, at, entry, role, channels, registry)?;
     }
     Ok(None)
 }
 
-/// Lets a table that tells of a history tell of it with one more entry, which a server with these channels and
-/// methods allows. The entry is at this place.
+/// Lets a table that tells of a history tell of it with one more entry, which an endpoint of this role with these
+/// channels and methods allows. The entry is at this place.
 pub fn follow(
     states: &mut CallStates,
     alloc: Global,
     at: u64,
     entry: &Entry,
+    role: Role,
     channels: &Channels,
     registry: &Registry,
 ) -> Result<(), AllocError>
-    requires { IsAllowedNext states.old entry.now channels.now registry.now }
-    ensures { OnOk result ((set : Setting) (ds : List Deed) → IsServerOf set channels.now registry.now → at ≡ length ds → broken set ds entry.now ≡ None → Tells ds states.old → Tells (tell set ds entry.now) states.new) }
+    requires { IsAllowedNext states.old entry.now role channels.now registry.now }
+    ensures { OnOk result ((set : Setting) (ds : List Deed) → IsSettingOf set role channels.now registry.now → at ≡ length ds → broken set ds entry.now ≡ None → Tells ds states.old → Tells (tell set ds entry.now) states.new) }
 {
     match &entry.kind {
         EntryKind::Arrive(p) => {
-            let arrival = server_move(states, p, channels, registry);
+            let arrival = move_at(role, states, p, channels, registry);
             states.arrive(alloc, at, p, arrival)
+        }
+        EntryKind::Invoke(p, _) => {
+            states.room_for(1)?;
+            match registry.find(p.name.service, p.name.method) {
+                Some(method) => {
+                    let state = CallState::invoked(alloc, p.name, method)?;
+                    states.invoke(state)
+                }
+                // An entry that is allowed names a method that is known.
+                None => Ok(()),
+            }
+        }
+        EntryKind::Done(call) => {
+            states.room_for(1)?;
+            states.done(*call);
+            Ok(())
         }
         EntryKind::Say(call, _) => {
             states.room_for(1)?;
@@ -81,7 +95,7 @@ pub fn follow(
         }
         EntryKind::Finish(call, a) => {
             states.room_for(MAX_ITEMS_GIVEN)?;
-            states.finish(*call, a);
+            states.finish(role, *call, a);
             Ok(())
         }
         EntryKind::Cancel(call) => {
@@ -107,9 +121,11 @@ pub fn follow(
             states.halt(*why);
             Ok(())
         }
+        EntryKind::Close(channel) => {
+            states.make_room_to_close(*channel)?;
+            states.close_channel(at, *channel);
+            Ok(())
+        }
         EntryKind::Replace(_, _) => Ok(()),
-        // A server's lawful journal has neither of these.
-        EntryKind::Invoke(_, _) => Ok(()),
-        EntryKind::Done(_) => Ok(()),
     }
 }

@@ -1,8 +1,10 @@
 -- Each move is made as its row says, over a table with more room.
 use Rattle.std.proofs.Common.{◌∷◌, length, refl, ap, ◌∙◌, subst, arith}
-use Rattle.rpc_journal.specs.declared.arrival_move.Move.TheVariants.{Drop, Reply, Close, Open, OpenAnew, Queue, Complete}
+use Rattle.rpc_journal.specs.declared.arrival_move.Move.TheVariants.{Drop, Reply, Close, Open, OpenAnew, Queue, Complete, Stray, End, Refuse, Answer}
+use Rattle.rpc_ids.specs.declared.status.Status.TheVariants.{FailedPrecondition}
+use Rattle.rpc_packet.specs.declared.packet_type.PacketType.TheVariants.{ClientError, ServerError}
 use Rattle.rpc_handlers.specs.declared.event.Event.TheVariants.{Message}
-use Rattle.rpc_journal.specs.Rows.{no_effect, puts_event}
+use Rattle.rpc_journal.specs.Rows.{both, ends_call, no_effect, puts_event}
 use Rattle.rpc_journal.specs.Calls.{call_count}
 use Rattle.rpc_journal.specs.Moves.{row_of}
 use Rattle.rpc_journal.specs.declared.entry.EntryKind.TheVariants.{Arrive}
@@ -27,14 +29,14 @@ returns-in-Drop-clause-tells c = λ set ds seat place row tells.
     arrived set ds seat c.args.p.now Drop c.args.self.now (row ∙ ap (λ m. row_of m c.args.p.now (call_count ds)) c.in-Drop.is)
     (table_idle ds (deed_by seat (Arrive c.args.p.now) no_effect) c.args.self.now c.args.self.now tells
     (record { start = λ k. refl; finish = λ k. refl; cancel = λ k. refl; ends = refl; drops = refl; puts = refl; says = λ k. refl })
-    refl (record { unflushing = refl; going_on = refl; running = refl }) refl refl (omega arith) refl refl)
+    refl (record { unflushing = refl; going_on = refl; running = refl; unclosed = refl }) refl refl refl (omega arith) refl refl)
 
 pub returns-in-Reply-clause-tells : goal.returns-in-Reply-clause-tells
 returns-in-Reply-clause-tells c =
     on_ok c.reply.result
     (λ inner set ds seat place row tells.
     arrived set ds seat c.args.p.now (Reply c.in-Reply.field-0) c.reply.new.self (row ∙ ap (λ m. row_of m c.args.p.now (call_count ds)) c.in-Reply.is)
-    (inner ds seat c.args.p.now c.in-Reply.field-0 tells))
+    (inner ds seat c.args.p.now ServerError c.in-Reply.field-0 tells))
     c.reply.ensures.tells
 
 pub returns-in_ok-make_room-in-Close-clause-tells : goal.returns-in_ok-make_room-in-Close-clause-tells
@@ -47,7 +49,7 @@ returns-in_ok-state-in-Open-clause-tells c =
     on_ok c.open.result
     (λ inner set ds seat place row tells.
     let served : IsServed (length ds) c.args.p.now c.in-Open.method c.in_ok-state-in-Open.state =
-    subst (λ n. IsServed n c.args.p.now c.in-Open.method c.in_ok-state-in-Open.state) place c.in_ok-state-in-Open.ensures in
+    subst (λ n. IsServed n c.args.p.now c.in-Open.method c.in_ok-state-in-Open.state) place c.in_ok-state-in-Open.ensures.state in
     arrived set ds seat c.args.p.now (Open c.in-Open.method) c.open.new.self (row ∙ ap (λ m. row_of m c.args.p.now (call_count ds)) c.in-Open.is)
     (inner ds seat c.args.p.now c.in-Open.method tells served))
     c.open.ensures.tells
@@ -58,7 +60,7 @@ returns-in_ok-make_room-in-OpenAnew-clause-tells c =
     (λ inner set ds seat place row tells.
     arrived set ds seat c.args.p.now (OpenAnew c.in-OpenAnew.method c.in-OpenAnew.call) c.open_anew.new.self (row ∙ ap (λ m. row_of m c.args.p.now (call_count ds)) c.in-OpenAnew.is)
     (inner ds seat c.args.p.now c.in-OpenAnew.method place (same_table_tells ds _ _ c.make_room-in-OpenAnew.ensures.same tells)
-    c.in_ok-state-in-OpenAnew.ensures))
+    c.in_ok-state-in-OpenAnew.ensures.state))
     c.open_anew.ensures.tells
 
 pub returns-in_ok-make_room-in-Queue-clause-tells : goal.returns-in_ok-make_room-in-Queue-clause-tells
@@ -71,3 +73,27 @@ pub returns-in_ok-make_room-in-Complete-clause-tells : goal.returns-in_ok-make_r
 returns-in_ok-make_room-in-Complete-clause-tells c = λ set ds seat place row tells.
     arrived set ds seat c.args.p.now (Complete c.in-Complete.call) c.put-in-Complete.new.self (row ∙ ap (λ m. row_of m c.args.p.now (call_count ds)) c.in-Complete.is)
     (c.put-in-Complete.ensures.tells ds seat c.args.p.now place (same_table_tells ds _ _ c.make_room-in-Complete.ensures.same tells))
+
+pub returns-in-Stray-clause-tells : goal.returns-in-Stray-clause-tells
+returns-in-Stray-clause-tells c =
+    on_ok c.reply-in-Stray.result
+    (λ inner set ds seat place row tells.
+    arrived set ds seat c.args.p.now Stray c.reply-in-Stray.new.self (row ∙ ap (λ m. row_of m c.args.p.now (call_count ds)) c.in-Stray.is)
+    (inner ds seat c.args.p.now ClientError FailedPrecondition tells))
+    c.reply-in-Stray.ensures.tells
+
+pub returns-in_ok-make_room-in-End-clause-tells : goal.returns-in_ok-make_room-in-End-clause-tells
+returns-in_ok-make_room-in-End-clause-tells c = λ set ds seat place row tells.
+    arrived set ds seat c.args.p.now (End c.in-End.call c.in-End.status) c.end.new.self (row ∙ ap (λ m. row_of m c.args.p.now (call_count ds)) c.in-End.is)
+    (c.end.ensures.tells ds seat c.args.p.now place (same_table_tells ds _ _ c.make_room-in-End.ensures.same tells))
+
+pub returns-in_ok-make_room-in-Refuse-clause-tells : goal.returns-in_ok-make_room-in-Refuse-clause-tells
+returns-in_ok-make_room-in-Refuse-clause-tells c = λ set ds seat place row tells.
+    arrived set ds seat c.args.p.now (Refuse c.in-Refuse.call) c.refuse.new.self (row ∙ ap (λ m. row_of m c.args.p.now (call_count ds)) c.in-Refuse.is)
+    (c.refuse.ensures.tells ds seat c.args.p.now place (same_table_tells ds _ _ c.make_room-in-Refuse.ensures.same tells))
+
+pub returns-in_ok-make_rooms-in-Answer-clause-tells : goal.returns-in_ok-make_rooms-in-Answer-clause-tells
+returns-in_ok-make_rooms-in-Answer-clause-tells c = λ set ds seat place row tells.
+    arrived set ds seat c.args.p.now (Answer c.in-Answer.call c.in-Answer.status) c.answer.new.self (row ∙ ap (λ m. row_of m c.args.p.now (call_count ds)) c.in-Answer.is)
+    (subst (λ b. Tells (deed_by seat (Arrive c.args.p.now) (both (puts_event c.in-Answer.call (Message b)) (ends_call c.in-Answer.call c.in-Answer.status)) ∷ ds) c.answer.new.self) c.in_ok-payload-in-Answer.ensures.cases
+    (c.answer.ensures.tells ds seat c.args.p.now place (same_table_tells ds _ _ c.make_rooms.ensures.same tells)))

@@ -10,11 +10,11 @@ use Rattle.rpc_journal.proofs.call_states.CallStates.cancel.Goals as goal
 
 pub returns : goal.returns
 returns c = record {
-  tells = λ set ds seat role tells.
+  tells = λ set ds seat tells.
       let there = get_read c.args.self.now.calls.items c.args.call c.index_mut-state.result.now c.requires.within c.index_mut-state.ensures.value in
       let its = tells.calls.each _ _ there in
       table_one ds (deed_by seat (Cancel c.args.call) (cancel_effect set ds c.args.call (call_at ds c.args.call))) c.args.self.now _ c.args.call _ _ c.cancel.new.self tells there
-      (cancel_one set ds seat c.args.call _ its role)
-      (c.cancel.ensures.state (length ds)) (record { unflushing = refl; going_on = refl; running = refl }) refl refl
-      (ap (λ n. c.args.self.now.unflushed + n) (c.items_of_cancel-items.ensures ∙ sym (cancel_many set ds c.args.call _ its role))) refl refl;
+      (cancel_one set ds seat c.args.call _ its)
+      (c.cancel.ensures.state (length ds)).is (record { unflushing = refl; going_on = refl; running = refl; unclosed = refl }) refl refl refl
+      (ap (λ n. c.args.self.now.unflushed + n) (c.items_of_cancel-items.ensures ∙ sym (cancel_many set ds c.args.call _ its))) refl refl;
 }

@@ -12,8 +12,8 @@ returns c = record {
   tells = λ ds seat p place tells.
       let there = get_read c.args.self.now.calls.items c.args.call c.index_mut-state.result.now c.requires.live.within c.index_mut-state.ensures.value in
       let touched : IsTouched (length ds) (closing c.args.status) c.index_mut-state.result.now c.close.new.self =
-      subst (λ n. IsTouched n (closing c.args.status) c.index_mut-state.result.now c.close.new.self) place c.close.ensures.state in
+      subst (λ n. IsTouched n (closing c.args.status) c.index_mut-state.result.now c.close.new.self) place c.close.ensures.state.is in
       table_one ds (deed_by seat (Arrive p) (ends_and_clears c.args.call c.args.status)) c.args.self.now _ c.args.call (closing c.args.status) _ c.close.new.self tells there
       (record { opens = refl; each = λ k b is. close_touches seat c.args.call k p c.args.status b is })
-      touched (record { unflushing = refl; going_on = refl; running = refl }) refl refl (omega arith) refl refl;
+      touched (record { unflushing = refl; going_on = refl; running = refl; unclosed = refl }) refl refl refl (omega arith) refl refl;
 }

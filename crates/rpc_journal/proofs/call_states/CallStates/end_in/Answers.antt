@@ -1,6 +1,7 @@
 use Rattle.std.proofs.Common.{ap, ◌∙◌, [], length, length-append, refl, subst, arith}
 use Rattle.rpc_journal.specs.declared.entry.EntryKind.TheVariants.{EndIn}
 use Rattle.rpc_journal.specs.declared.notice.Notice.TheVariants.{InputEnded}
+use Rattle.rpc_channel.specs.Rising.{has_id}
 use Rattle.rpc_journal.specs.Items.{items_sent}
 use Rattle.rpc_journal.specs.Newest.{newest_of}
 use Rattle.rpc_journal.specs.Tells.{IsToldAll}
@@ -13,8 +14,9 @@ returns c = record {
       let told : IsToldAll (length ds) InputEnded c.args.self.now.calls.items c.tell_all.new.self.calls.items =
       subst (λ n. IsToldAll n InputEnded c.args.self.now.calls.items c.tell_all.new.self.calls.items) place c.tell_all.ensures.calls in
       record {
-        calls = step_told ds seat EndIn InputEnded _ _ (record { start = λ k. refl; finish = λ k. refl; cancel = λ k. refl }) tells.calls told;
+        calls = step_told set.role ds seat EndIn InputEnded _ _ (record { start = λ k. refl; finish = λ k. refl; cancel = λ k. refl }) tells.calls told;
         newest = λ name. ap (λ m. newest_of m name) c.tell_all.ensures.newest ∙ tells.newest name;
+        closed = λ x. ap (λ v. has_id v.items x) c.tell_all.ensures.closed ∙ tells.closed x;
         items = omega (arith, c.tell_all.ensures.unflushed, tells.items, length-append (items_sent ds) []);
         input = refl;
         halt = c.tell_all.ensures.halt ∙ tells.halt;

@@ -12,6 +12,7 @@ returns c = record {
     calls = step_idle ds (deed_by seat Flush no_effect) _ tells.calls
         (record { start = λ k. refl; finish = λ k. refl; cancel = λ k. refl; ends = refl; drops = refl; puts = refl; says = λ k. refl }) refl;
     newest = tells.newest;
+    closed = tells.closed;
     items = omega (arith, c.requires, tells.items, length-append (items_sent ds) []);
     input = tells.input;
     halt = tells.halt;

@@ -10,6 +10,7 @@ returns-clause-same c =
       many = length-set c.args.self.now.calls.items c.args.call c.make_room.new.self;
       each = one_same c.args.self.now.calls.items c.args.call c.index_mut.result.now c.make_room.new.self there c.make_room.ensures.same;
       newest = λ name. refl;
+      closed = refl;
       unflushed = refl;
       input = refl;
       halt = refl;

@@ -17,10 +17,10 @@ returns-clause-tells c = λ ds seat p m tells is.
     tells_with ds d c.args.self.now _ tells
     (subst (TellsCalls (d ∷ ds)) (sym (c.push_reserved.ensures.items ∙ ap (λ rs. rs ++ c.args.state ∷ []) c.reserve.ensures.items)) (step_open ds seat p m _ c.args.state tells.calls is))
     (newest_opened ds d (record { name = p.name; method = m; given = None }) c.args.state.name c.len.result c.args.self.now.newest c.set.new.self tells.newest refl is.name (omega (arith, c.len.ensures, c.reserve.ensures.len, tells.calls.many)) c.in_ok-set.ensures.ok)
-    (record { unflushing = refl; going_on = refl; running = refl }) (omega arith) refl refl
+    (record { unflushing = refl; going_on = refl; running = refl; unclosed = refl }) refl (omega arith) refl refl
 
 pub returns-in_err-reserve-clause-err : goal.returns-in_err-reserve-clause-err
-returns-in_err-reserve-clause-err c = on_err_of _ (items_same c.args.self.now _ c.reserve.ensures.items (λ name. refl) refl refl refl)
+returns-in_err-reserve-clause-err c = on_err_of _ (items_same c.args.self.now _ c.reserve.ensures.items (λ name. refl) refl refl refl refl)
 
 pub returns-in_err-set-clause-err : goal.returns-in_err-set-clause-err
-returns-in_err-set-clause-err c = on_err_of _ (items_same c.args.self.now _ c.reserve.ensures.items c.in_err-set.ensures.err refl refl refl)
+returns-in_err-set-clause-err c = on_err_of _ (items_same c.args.self.now _ c.reserve.ensures.items c.in_err-set.ensures.err refl refl refl refl)

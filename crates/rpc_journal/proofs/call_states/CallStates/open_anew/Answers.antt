@@ -19,16 +19,16 @@ returns-clause-tells c = λ ds seat p m place tells is.
     let there = get_read c.reserve.new.self.items c.args.call c.index_mut-old.result.now (omega (arith, c.requires.live.within, ap length c.reserve.ensures.items)) c.index_mut-old.ensures.value in
     let calls : TellsCalls ds c.reserve.new.self.items = subst (TellsCalls ds) (sym c.reserve.ensures.items) tells.calls in
     let touched : IsTouched (length ds) (closing Cancelled) c.index_mut-old.result.now c.close.new.self =
-    subst (λ n. IsTouched n (closing Cancelled) c.index_mut-old.result.now c.close.new.self) place c.close.ensures.state in
+    subst (λ n. IsTouched n (closing Cancelled) c.index_mut-old.result.now c.close.new.self) place c.close.ensures.state.is in
     let served : IsServed (length ds) p m c.args.state = subst (λ n. IsServed n p m c.args.state) place is in
     tells_with ds d c.args.self.now _ tells
     (subst (TellsCalls (d ∷ ds)) (sym c.push_reserved.ensures.items)
     (step_anew ds seat p m _ c.args.call c.index_mut-old.result.now c.close.new.self c.args.state calls there touched served))
     (newest_opened ds d (record { name = p.name; method = m; given = None }) c.args.state.name c.len.result c.args.self.now.newest c.set.new.self tells.newest refl is.name (omega (arith, c.len.ensures, c.reserve.ensures.len, tells.calls.many)) c.in_ok-set.ensures.ok)
-    (record { unflushing = refl; going_on = refl; running = refl }) (omega arith) refl refl
+    (record { unflushing = refl; going_on = refl; running = refl; unclosed = refl }) refl (omega arith) refl refl
 
 pub returns-in_err-reserve-clause-err : goal.returns-in_err-reserve-clause-err
-returns-in_err-reserve-clause-err c = on_err_of _ (items_same c.args.self.now _ c.reserve.ensures.items (λ name. refl) refl refl refl)
+returns-in_err-reserve-clause-err c = on_err_of _ (items_same c.args.self.now _ c.reserve.ensures.items (λ name. refl) refl refl refl refl)
 
 pub returns-in_err-set-clause-err : goal.returns-in_err-set-clause-err
-returns-in_err-set-clause-err c = on_err_of _ (items_same c.args.self.now _ c.reserve.ensures.items c.in_err-set.ensures.err refl refl refl)
+returns-in_err-set-clause-err c = on_err_of _ (items_same c.args.self.now _ c.reserve.ensures.items c.in_err-set.ensures.err refl refl refl refl)

@@ -12,8 +12,8 @@ returns c = record {
   tells = λ ds seat p place tells.
       let there = get_read c.args.self.now.calls.items c.args.call c.index_mut-state.result.now c.requires.within c.index_mut-state.ensures.value in
       let touched : IsTouched (length ds) (putting c.args.event) c.index_mut-state.result.now c.put.new.self =
-      subst (λ n. IsTouched n (putting c.args.event) c.index_mut-state.result.now c.put.new.self) place c.put.ensures.state in
+      subst (λ n. IsTouched n (putting c.args.event) c.index_mut-state.result.now c.put.new.self) place c.put.ensures.state.is in
       table_one ds (deed_by seat (Arrive p) (puts_event c.args.call c.args.event)) c.args.self.now _ c.args.call (putting c.args.event) _ c.put.new.self tells there
       (record { opens = refl; each = λ k b is. put_touches seat c.args.call k p c.args.event b is })
-      touched (record { unflushing = refl; going_on = refl; running = refl }) refl refl (omega arith) refl refl;
+      touched (record { unflushing = refl; going_on = refl; running = refl; unclosed = refl }) refl refl refl (omega arith) refl refl;
 }

@@ -8,9 +8,9 @@ use Rattle.rpc_journal.proofs.call_states.CallStates.say.Goals as goal
 
 pub returns : goal.returns
 returns c = record {
-  tells = λ set ds seat out role tells.
+  tells = λ set ds seat out tells.
       let found = get_some c.args.self.now.calls.items c.args.call c.requires.known in
-      let one = say_one set ds seat c.args.call out found.0 (tells.calls.each _ _ found.1) role in
+      let one = say_one set ds seat c.args.call out found.0 (tells.calls.each _ _ found.1) in
       table_idle ds (deed_by seat (Say c.args.call out) (say_effect set ds c.args.call out)) c.args.self.now _ tells one.idle one.opens
-      (record { unflushing = refl; going_on = refl; running = refl }) refl refl (ap (λ n. c.args.self.now.unflushed + n) (sym one.many)) refl refl;
+      (record { unflushing = refl; going_on = refl; running = refl; unclosed = refl }) refl refl refl (ap (λ n. c.args.self.now.unflushed + n) (sym one.many)) refl refl;
 }

@@ -13,7 +13,7 @@ returns-clause-tells c = λ set ds tells.
     let there = get_read c.args.self.now.calls.items c.args.call c.index_mut-state.result.now c.requires.within c.index_mut-state.ensures.value in
     table_one ds (deed_by c.args.seat (Start c.args.call) no_effect) c.args.self.now _ c.args.call (starting c.args.seat) _ c.start.new.self tells there
     (record { opens = refl; each = λ k b is. start_touches c.args.seat c.args.call k b is })
-    (c.start.ensures.state (length ds)) (record { unflushing = refl; going_on = refl; running = refl }) refl refl (omega arith) refl refl
+    (c.start.ensures.state (length ds)).is (record { unflushing = refl; going_on = refl; running = refl; unclosed = refl }) refl refl refl (omega arith) refl refl
 
 pub returns-clause-took : goal.returns-clause-took
 returns-clause-took c = λ ds tells.

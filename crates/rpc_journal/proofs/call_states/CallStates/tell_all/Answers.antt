@@ -12,9 +12,10 @@ loop-call-preserved c =
       count = c.loop-call.invariant.count;
       many = length-set c.loop-call.self.calls.items c.loop-call.call c.tell.new.self ∙ c.loop-call.invariant.many;
       told = told_more c.args.at c.args.notice _ c.loop-call.self.calls.items c.loop-call.call c.index_mut-state.result.now c.tell.new.self there
-          c.loop-call.invariant.told (c.loop-call.invariant.rest c.loop-call.call (omega arith)) c.tell.ensures.state;
+          c.loop-call.invariant.told (c.loop-call.invariant.rest c.loop-call.call (omega arith)) c.tell.ensures.state.is;
       rest = λ k from. get_other c.loop-call.self.calls.items c.loop-call.call k c.tell.new.self (λ same. omega (arith, same, from)) ∙ c.loop-call.invariant.rest k (omega (arith, from));
       newest = c.loop-call.invariant.newest;
+      closed = c.loop-call.invariant.closed;
       unflushed = c.loop-call.invariant.unflushed;
       input = c.loop-call.invariant.input;
       halt = c.loop-call.invariant.halt;

@@ -11,6 +11,7 @@ invariant-loop-call l = record {
   told : (k : ℕ) (r x : CallState) → k < l.call → slice_get l.fn.self.calls.items k ≡ Some r → slice_get l.self.calls.items k ≡ Some x → IsTouched l.at (telling l.notice r) r x;
   rest : (k : ℕ) → l.call ≤ k → slice_get l.self.calls.items k ≡ slice_get l.fn.self.calls.items k;
   newest : l.self.newest ≡ l.fn.self.newest;
+  closed : l.self.closed ≡ l.fn.self.closed;
   unflushed : l.self.unflushed ≡ l.fn.self.unflushed;
   input : l.self.input_ended ≡ l.fn.self.input_ended;
   halt : l.self.halted ≡ l.fn.self.halted;

@@ -1,4 +1,4 @@
-use Rattle.std.proofs.Common.{length, refl, subst, arith}
+use Rattle.std.proofs.Common.{ap, length, refl, subst, arith}
 use Rattle.rpc_journal.specs.declared.entry.EntryKind.TheVariants.{Tick}
 use Rattle.rpc_journal.specs.declared.notice.Notice.TheVariants.{Time}
 use Rattle.rpc_journal.specs.Tells.{IsToldAll}
@@ -13,8 +13,8 @@ returns c = record {
   tells = λ set ds seat place tells.
       let told : IsToldAll (length ds) (Time c.args.now) c.args.self.now.calls.items c.tell_all.new.self.calls.items =
       subst (λ n. IsToldAll n (Time c.args.now) c.args.self.now.calls.items c.tell_all.new.self.calls.items) place c.tell_all.ensures.calls in
-      tells_with ds (deed_by seat (Tick c.args.now) (notice_effect ds (Time c.args.now))) c.args.self.now c.tell_all.new.self tells
-      (step_told ds seat (Tick c.args.now) (Time c.args.now) _ _ (record { start = λ k. refl; finish = λ k. refl; cancel = λ k. refl }) tells.calls told)
-      (newest_kept ds (deed_by seat (Tick c.args.now) (notice_effect ds (Time c.args.now))) c.args.self.now.newest c.tell_all.new.self.newest tells.newest refl c.tell_all.ensures.newest)
-      (record { unflushing = refl; going_on = refl; running = refl }) (omega (arith, c.tell_all.ensures.unflushed)) c.tell_all.ensures.input c.tell_all.ensures.halt;
+      tells_with ds (deed_by seat (Tick c.args.now) (notice_effect set.role ds (Time c.args.now))) c.args.self.now c.tell_all.new.self tells
+      (step_told set.role ds seat (Tick c.args.now) (Time c.args.now) _ _ (record { start = λ k. refl; finish = λ k. refl; cancel = λ k. refl }) tells.calls told)
+      (newest_kept ds (deed_by seat (Tick c.args.now) (notice_effect set.role ds (Time c.args.now))) c.args.self.now.newest c.tell_all.new.self.newest tells.newest refl c.tell_all.ensures.newest)
+      (record { unflushing = refl; going_on = refl; running = refl; unclosed = refl }) (ap (λ v. v.items) c.tell_all.ensures.closed) (omega (arith, c.tell_all.ensures.unflushed)) c.tell_all.ensures.input c.tell_all.ensures.halt;
 }

@@ -1,4 +1,4 @@
-use Rattle.rpc_journal.proofs.arrival_move.server_move.Goals as goal
+use Rattle.rpc_journal.proofs.server_arrivals.server_move.Goals as goal
 
 pub returns-then-not-is_in-clause-call : goal.returns-then-not-is_in-clause-call
 returns-then-not-is_in-clause-call c = c.unknown_move.ensures.call c.args.states.now.calls.items
