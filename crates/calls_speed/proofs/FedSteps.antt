@@ -1,7 +1,7 @@
 -- The table that is measured, over the calls of the measurement.
 use Rattle.std.proofs.Common.{◌≡◌, ℕ, false, [], Option, Some, None, Result, Ok, Err, IfOk, IfSome, refl, ap, sym, ◌∙◌, subst}
 use Rattle.rpc_handlers.specs.declared.answer.Answer.{Answer}
-use Rattle.rpc_handlers.specs.HandlerRule.{HandlerRule, empty_memo}
+use Rattle.rpc_handlers.specs.HandlerRule.{HandlerRule}
 use Rattle.rpc_ids.specs.declared.method.Role.TheVariants.{Server}
 use Rattle.rpc_packet.specs.declared.owned.Packet.{Packet}
 use Rattle.rpc_journal.specs.declared.answers.Arrived.{Arrived}
@@ -17,7 +17,7 @@ use Rattle.rpc_journal.specs.Runs.{Run, IsRunning}
 use Rattle.rpc_journal.specs.Table.{Table}
 use Rattle.rpc_journal.proofs.ChangeLemmas.{begun_runs}
 use Rattle.rpc_journal.proofs.Push.{history-push}
-use Rattle.calls_speed.specs.Fed.{IsFed}
+use Rattle.calls_speed.specs.Fed.{IsFed, bare_seed}
 
 fed_same : (t u : Table) → u.setting ≡ t.setting → u.entries ≡ t.entries → IsFed t → IsFed u
 fed_same t u same none fed = record {
@@ -70,7 +70,7 @@ fed_flushed t u seat (Some item) same did fed = fed_after t u seat Flush same di
 fed_flushed t u seat None same did fed = fed_same t u same did.kept fed
 
 -- a table without entries
-pub fed_new : (t : Table) → t.setting.role ≡ Server → empty_memo ≡ t.setting.seed → t.entries ≡ [] → IsFed t
+pub fed_new : (t : Table) → t.setting.role ≡ Server → bare_seed ≡ t.setting.seed → t.entries ≡ [] → IsFed t
 fed_new t role seed none = record {
   role = role;
   seeded = seed;

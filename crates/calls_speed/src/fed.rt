@@ -1,11 +1,11 @@
 //! A server's table of the demo service, and what is done with it.
 ghost use Rattle.std.specs.Prelude.{◌≡◌, Some, None, IfOk, IfSome};
-ghost use Rattle.rpc_handlers.specs.HandlerRule.{empty_memo};
 ghost use Rattle.rpc_journal.specs.Runs.{IsRunning};
-ghost use Rattle.calls_speed.specs.Fed.{IsFed};
+ghost use Rattle.calls_speed.specs.Fed.{IsFed, bare_seed};
 
 use bytes::Bytes;
 use demo_services::{DemoCall, DemoMaker, demo_registry, ids};
+use link_io::{Fulls, Lefts, Shelf};
 use rpc_calls::{Calls, Running};
 use rpc_channel::Channels;
 use rpc_handlers::{Handler, Maker};
@@ -13,10 +13,26 @@ use rpc_ids::Role;
 use rpc_journal::{ArriveRefused, Arrived, StartRefused};
 use rpc_packet::{CallName, Packet, PacketType};
 use std::alloc::Global;
+use transfer_base::Tuning;
+
+/// A maker whose transfers have nothing to move.
+pub fn bare_maker(alloc: Global) -> anyhow::Result<DemoMaker>
+    ensures { IfOk result (λ maker. ⟦<DemoMaker as Maker>⟧.seed_memo maker ≡ bare_seed) }
+{
+    let shelf = Shelf {
+        full: Fulls::new(alloc),
+        left: Lefts::new(alloc),
+    };
+    let tuning = Tuning {
+        window: 4,
+        chunk: 256,
+    };
+    Ok(DemoMaker::new(alloc, shelf, tuning)?)
+}
 
 /// A table of a server with channel 1 and no call.
 pub fn open_table(alloc: Global, maker: &DemoMaker) -> anyhow::Result<Calls<DemoCall>>
-    requires { ⟦<DemoMaker as Maker>⟧.seed_memo maker.now ≡ empty_memo }
+    requires { ⟦<DemoMaker as Maker>⟧.seed_memo maker.now ≡ bare_seed }
     ensures { IfOk result IsFed }
 {
     let mut channels = Channels::new(alloc);
@@ -40,7 +56,7 @@ pub fn arrive(
     sent: Sent,
     id: u32,
 ) -> Result<Arrived, ArriveRefused>
-    requires seed { ⟦<DemoMaker as Maker>⟧.seed_memo maker.now ≡ empty_memo }
+    requires seed { ⟦<DemoMaker as Maker>⟧.seed_memo maker.now ≡ bare_seed }
     requires fed { IsFed calls.old }
     ensures { IsFed calls.new }
 {

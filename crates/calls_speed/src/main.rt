@@ -9,8 +9,7 @@
 mod fed;
 mod timed;
 
-use demo_services::DemoMaker;
-use fed::open_table;
+use fed::{bare_maker, open_table};
 use std::env;
 use timed::{Times, open_calls, serve};
 
@@ -21,7 +20,7 @@ fn main(rt: HostRuntime) -> anyhow::Result<()> {
     };
     let live = live.parse::<u32>().unwrap_or(1);
     let messages = messages.parse::<u32>().unwrap_or(0);
-    let maker = DemoMaker::new(rt.alloc())?;
+    let maker = bare_maker(rt.alloc())?;
     let mut calls = open_table(rt.alloc(), &maker)?;
     open_calls(&mut calls, &maker, live)?;
     let mut times = Times::default();

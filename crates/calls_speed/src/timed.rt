@@ -1,7 +1,6 @@
 //! How long each step of a call's work takes.
 ghost use Rattle.std.specs.Prelude.{◌≡◌, OnOk};
-ghost use Rattle.rpc_handlers.specs.HandlerRule.{empty_memo};
-ghost use Rattle.calls_speed.specs.Fed.{IsFed};
+ghost use Rattle.calls_speed.specs.Fed.{IsFed, bare_seed};
 
 use crate::fed::{Sent, arrive, finish, flush, start};
 use demo_services::{DemoCall, DemoMaker};
@@ -69,7 +68,7 @@ impl fmt::Display for Times {
 
 /// So many calls are opened, and the first run of each takes its request.
 pub fn open_calls(calls: &mut Calls<DemoCall>, maker: &DemoMaker, live: u32) -> anyhow::Result<()>
-    requires seed { ⟦<DemoMaker as Maker>⟧.seed_memo maker.now ≡ empty_memo }
+    requires seed { ⟦<DemoMaker as Maker>⟧.seed_memo maker.now ≡ bare_seed }
     requires fed { IsFed calls.old }
     ensures { OnOk result (IsFed calls.new) }
 {
@@ -105,7 +104,7 @@ pub fn serve(
     messages: u32,
     times: &mut Times,
 ) -> anyhow::Result<()>
-    requires seed { ⟦<DemoMaker as Maker>⟧.seed_memo maker.now ≡ empty_memo }
+    requires seed { ⟦<DemoMaker as Maker>⟧.seed_memo maker.now ≡ bare_seed }
     requires fed { IsFed calls.old }
 {
     for message in 0..messages {
@@ -123,7 +122,7 @@ fn serve_one(
     id: u32,
     times: &mut Times,
 ) -> anyhow::Result<()>
-    requires seed { ⟦<DemoMaker as Maker>⟧.seed_memo maker.now ≡ empty_memo }
+    requires seed { ⟦<DemoMaker as Maker>⟧.seed_memo maker.now ≡ bare_seed }
     requires fed { IsFed calls.old }
     ensures { OnOk result (IsFed calls.new) }
 {

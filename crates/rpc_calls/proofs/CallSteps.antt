@@ -1,5 +1,7 @@
 -- What a table stands for, over any entry that touches one call and neither begins nor ends a run of another.
 use Rattle.std.proofs.Common.{◌≡◌, ◌≢◌, ℕ, ◌<◌, ◌≤◌, false, List, ◌∷◌, ◌++◌, length, drop, slice_get, Option, Some, None, refl, ap, sym, ◌∙◌, subst, arith, length-append, length-drop}
+use Rattle.rpc_channel.specs.Rising.{has_id}
+use Rattle.rpc_journal.specs.Rows.{channel_closed}
 use Rattle.rpc_handlers.specs.declared.event.Memo.{Memo}
 use Rattle.rpc_handlers.specs.HandlerRule.{HandlerRule}
 use Rattle.rpc_journal.specs.declared.call_state.CallState.{CallState}
@@ -17,16 +19,17 @@ use Rattle.rpc_journal.proofs.PlaceLemmas.{get_some}
 use Rattle.rpc_calls.specs.Handlers.{Keeps}
 use Rattle.rpc_calls.specs.Places.{ChangesAt}
 use Rattle.rpc_calls.specs.TableHolds.{StandsFor}
-use Rattle.rpc_calls.specs.Turns.{Turns}
+use Rattle.rpc_journal.specs.Turns.{Turns}
 use Rattle.rpc_calls.proofs.CalmSteps.{TouchesCalmly, untouching, unopened, keeps_all_calm, queue_grows}
 use Rattle.rpc_calls.proofs.OneStep.{TouchesOne, tells_one, keeps_one}
 use Rattle.rpc_calls.proofs.StepLemmas.{IsCalm, keeps_calm, tells_calm}
 
--- the entry is no Flush, EndIn or Halt
+-- the entry is no Flush, EndIn, Halt or Close
 pub record IsCallEntry (d : Deed) : Type 0 where
   pub flushes_none : is_flush d.entry.kind ≡ false
   pub goes_on : is_end_in d.entry.kind ≡ false
   pub unhalted : reason_of d.entry.kind ≡ None
+  pub unclosed : channel_closed d.entry.kind ≡ None
 
 -- the table's items grow by those of the entry
 pub record GrowsBy (d : Deed) (states after : CallStates) (items items' : List Item) : Type 0 where
@@ -34,6 +37,7 @@ pub record GrowsBy (d : Deed) (states after : CallStates) (items items' : List I
   pub unflushed : after.unflushed ≡ length items'
   pub input : after.input_ended ≡ states.input_ended
   pub halt : after.halted ≡ states.halted
+  pub closed : after.closed.items ≡ states.closed.items
 
 -- the queue, the input and the halt
 pub tells_grown : (ds : List Deed) (d : Deed) (states after : CallStates) (items items' : List Item) → Tells ds states
@@ -46,6 +50,7 @@ tells_grown ds d states after items items' tells queue entry grows calls newest 
       record {
         calls = calls;
         newest = newest;
+        closed = λ x. rw entry.unclosed (ap (λ xs. has_id xs x) grows.closed ∙ tells.closed x);
         items = omega (arith, same, grows.unflushed, ap length next, length-drop (flush_count ds) (items_sent ds ++ d.does.says), within, length-append (items_sent ds) d.does.says);
         input = grows.input ∙ tells.input ∙ rw (entry.goes_on) refl;
         halt = grows.halt ∙ tells.halt ∙ rw (entry.unhalted) refl;

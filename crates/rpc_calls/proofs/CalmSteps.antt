@@ -4,7 +4,6 @@ use Rattle.std.proofs.lemmas.Bool.{true≢false, false≢true}
 use Rattle.std.proofs.lemmas.List.{append-nil, drop-append-le}
 use Rattle.std.proofs.lemmas.Option.{slice_get_within}
 use Rattle.link_io.specs.declared.why.Why.{Why}
-use Rattle.rpc_ids.specs.declared.method.Role.TheVariants.{Server}
 use Rattle.rpc_handlers.specs.declared.event.Memo.{Memo}
 use Rattle.rpc_handlers.specs.HandlerRule.{HandlerRule}
 use Rattle.rpc_journal.specs.declared.call_state.CallState.{CallState}
@@ -48,7 +47,7 @@ untouching ds d c r does = record {
   touch = untouched;
   does = does;
   is = is_untouched (length ds) r;
-  calm = record { unstarted = refl; unfinished = refl; put_open = λ h. absurd (false≢true h) };
+  calm = record { unstarted = refl; unfinished = refl; put_open = λ h. absurd (true≢false h) };
 }
 
 pub unopened : (ds : List Deed) (d : Deed) (c : ℕ) → d.does.opens ≡ None → opens_call ds d c ≡ false
@@ -81,12 +80,11 @@ module _ {H : Type 0} (now : H → Memo) (can_act : H → Type 0) (rule : Handle
 
   -- a table with one more entry
   pub table_after : (recorded after : Recorded) (seat : ℕ) (kind : EntryKind) (states : CallStates) (handlers : List (Option H)) (items : List Item) (capacity : ℕ)
-      → after.entries ≡ adding recorded.entries seat kind → IsLegal rule set after.entries → set.role ≡ Server
+      → after.entries ≡ adding recorded.entries seat kind → IsLegal rule set after.entries
       → StandsFor now can_act rule set (tell set (history set recorded.entries) (entry_by seat kind)) states handlers items
       → HasAllRoom states items after.spare capacity → IsTable now can_act rule set after states handlers items capacity
-  table_after recorded after seat kind states handlers items capacity adds legal server stands room = record {
+  table_after recorded after seat kind states handlers items capacity adds legal stands room = record {
     legal = legal;
-    server = server;
     stands = subst (λ ds. StandsFor now can_act rule set ds states handlers items)
         (sym (ap (history set) adds ∙ history-push set recorded.entries (entry_by seat kind))) stands;
     room = room;
@@ -111,6 +109,7 @@ module _ {H : Type 0} (now : H → Memo) (can_act : H → Type 0) (rule : Handle
         tells = record {
           calls = calls;
           newest = stands.tells.newest;
+          closed = stands.tells.closed;
           items = stands.tells.items ∙ ap length (sym sent);
           input = stands.tells.input;
           halt = refl;
@@ -142,6 +141,6 @@ module _ {H : Type 0} (now : H → Memo) (can_act : H → Type 0) (rule : Handle
       let did : HaltDid set seat why recorded.entries after.entries = record { adds = rw none adds } in
       let laws : KeepsLegal H (Unit {0}) = keeps_legal in
       table_after recorded after seat (Halt why) (record states { halted = Some why }) handlers items capacity adds
-      (laws.halt rule set seat why recorded.entries after.entries is.legal can did) is.server
+      (laws.halt rule set seat why recorded.entries after.entries is.legal can did)
       (stands_halted (history set recorded.entries) seat why states handlers items is.stands)
       (room_halted states items recorded.spare after.spare capacity why unhalted less is.room)

@@ -2,7 +2,7 @@
 use Rattle.std.proofs.Common.{◌≡◌, ◌≢◌, ℕ, ◌+◌, ◌<◌, ◌≤◌, Bool, true, false, not, List, ◌∷◌, ◌++◌, length, slice_get, Option, Some, None, is_some, if◌then◌else◌, refl, ap, sym, ◌∙◌, subst, arith, length-append}
 use Rattle.std.proofs.lemmas.Bool.{true≢false, false≢true}
 use Rattle.std.proofs.lemmas.Option.{slice_get_within}
-use Rattle.rpc_ids.specs.declared.method.Role.TheVariants.{Server}
+use Rattle.rpc_ids.specs.declared.method.Role.{Role}
 use Rattle.rpc_ids.specs.declared.status.Status.{Status}
 use Rattle.rpc_ids.specs.declared.status.Status.TheVariants.{Cancelled}
 use Rattle.rpc_packet.specs.declared.call_name.CallName.{CallName}
@@ -34,7 +34,7 @@ use Rattle.rpc_calls.specs.Handlers.{is_over, Keeps}
 use Rattle.rpc_calls.specs.Places.{ChangesAt}
 use Rattle.rpc_calls.specs.Room.{uncancelled, running, HasRoom, HasPlaces}
 use Rattle.rpc_calls.specs.TableHolds.{StandsFor, HasAllRoom, IsTable}
-use Rattle.rpc_calls.specs.Turns.{Turns}
+use Rattle.rpc_journal.specs.Turns.{Turns}
 use Rattle.rpc_calls.proofs.CallSteps.{IsCallEntry, stands_one}
 use Rattle.rpc_calls.proofs.CalmSteps.{table_after, unopened}
 use Rattle.rpc_calls.proofs.FinishSteps.{touches_one}
@@ -43,32 +43,33 @@ use Rattle.rpc_calls.proofs.PlaceChanges.{count-has}
 use Rattle.rpc_calls.proofs.StepLemmas.{keeps_calm, over_is}
 
 -- what a Cancel adds
-cancel_says : (set : Setting) (ds : List Deed) (c : ℕ) (r : CallState) → TellsOf ds c r → set.role ≡ Server
-    → (cancel_effect set ds c (call_at ds c)).says ≡ cancel_items c r.name (is_some r.status) (is_some r.run)
-cancel_says set ds c r tells role =
+cancel_says : (set : Setting) (ds : List Deed) (c : ℕ) (r : CallState) → TellsOf ds c r
+    → (cancel_effect set ds c (call_at ds c)).says ≡ cancel_items set.role c r.name (is_some r.status) (is_some r.run)
+cancel_says set ds c r tells =
     let opening = opening_is ds c r tells in
-    rw (opening.1, role, ended_is ds c r tells, tells.run) (ap (λ n. cancel_items c n (is_some r.status) (is_some r.run)) opening.2)
+    rw (opening.1, ended_is ds c r tells, tells.run) (ap (λ n. cancel_items set.role c n (is_some r.status) (is_some r.run)) opening.2)
 
-two_items : (c : ℕ) (name : CallName) (ended runs : Bool) → length (cancel_items c name ended runs) ≤ 2
-two_items c name true true = omega arith
-two_items c name true false = omega arith
-two_items c name false true = omega arith
-two_items c name false false = omega arith
+two_items : (role : Role) (c : ℕ) (name : CallName) (ended runs : Bool) → length (cancel_items role c name ended runs) ≤ 2
+two_items role c name true true = omega arith
+two_items role c name true false = omega arith
+two_items role c name false true = omega arith
+two_items role c name false false = omega arith
 
 -- the states, items and handlers of a table change as the Cancel says
-pub record CancelsCall {H : Type 0} (c : ℕ) (runs : Bool) (states after : CallStates) (handlers later : List (Option H)) (items items' : List Item) : Type 0 where
-  pub says : (r : CallState) → slice_get states.calls.items c ≡ Some r → items' ≡ items ++ cancel_items c r.name (is_some r.status) (is_some r.run)
+pub record CancelsCall {H : Type 0} (role : Role) (c : ℕ) (runs : Bool) (states after : CallStates) (handlers later : List (Option H)) (items items' : List Item) : Type 0 where
+  pub says : (r : CallState) → slice_get states.calls.items c ≡ Some r → items' ≡ items ++ cancel_items role c r.name (is_some r.status) (is_some r.run)
   pub change : (at : ℕ) → ChangesAt c (λ r x. Turns at (cancelling r.status) r x) states.calls.items after.calls.items
   pub newest : after.newest ≡ states.newest
   pub unflushed : after.unflushed ≡ length items'
   pub input : after.input_ended ≡ states.input_ended
   pub halt : after.halted ≡ states.halted
+  pub closed : after.closed.items ≡ states.closed.items
   pub many : length later ≡ length handlers
   pub others : (k : ℕ) → k ≢ c → slice_get later k ≡ slice_get handlers k
   pub kept : (slot : Option H) → slice_get handlers c ≡ Some slot → slice_get later c ≡ Some (if runs then slot else None)
 
 cancel_entry : (seat c : ℕ) (e : Effect) → IsCallEntry (deed_by seat (Cancel c) e)
-cancel_entry seat c e = record { flushes_none = refl; goes_on = refl; unhalted = refl }
+cancel_entry seat c e = record { flushes_none = refl; goes_on = refl; unhalted = refl; unclosed = refl }
 
 -- a cancelled call needs no place
 places_cut : (c : ℕ) (states new : List CallState) (ended : Bool) (r : CallState) → slice_get states c ≡ Some r
@@ -92,14 +93,14 @@ places_cut c states new ended r is changes free =
 
 module _ {H : Type 0} (now : H → Memo) (can_act : H → Type 0) (rule : HandlerRule) (set : Setting) where
   pub stands_cancelled : (ds : List Deed) (seat c : ℕ) (states after : CallStates) (handlers later : List (Option H)) (items items' : List Item) (r : CallState) (runs : Bool)
-      → StandsFor now can_act rule set ds states handlers items → set.role ≡ Server → slice_get states.calls.items c ≡ Some r → runs ≡ is_some r.run
-      → CancelsCall c runs states after handlers later items items'
+      → StandsFor now can_act rule set ds states handlers items → slice_get states.calls.items c ≡ Some r → runs ≡ is_some r.run
+      → CancelsCall set.role c runs states after handlers later items items'
       → StandsFor now can_act rule set (tell set ds (entry_by seat (Cancel c))) after later items'
-  stands_cancelled ds seat c states after handlers later items items' r runs stands role is ran cancels =
+  stands_cancelled ds seat c states after handlers later items items' r runs stands is ran cancels =
       let d : Deed = deed_by seat (Cancel c) (cancel_effect set ds c (call_at ds c)) in
       let tells = stands.tells.calls.each c r is in
       let there : c < length states.calls.items = slice_get_within states.calls.items c r is in
-      let one = touches_one d c (cancelling r.status) (cancel_one set ds seat c r tells role) in
+      let one = touches_one d c (cancelling r.status) (cancel_one set ds seat c r tells) in
       let changes : ChangesAt c (Turns (length ds) (cancelling r.status)) states.calls.items after.calls.items = record {
         many = (cancels.change (length ds)).many;
         others = (cancels.change (length ds)).others;
@@ -107,10 +108,11 @@ module _ {H : Type 0} (now : H → Memo) (can_act : H → Type 0) (rule : Handle
       } in
       stands_one now can_act rule set ds d c (cancelling r.status) states after handlers later items items' stands (cancel_entry seat c _) one changes there
       (record {
-        says = cancels.says r is ∙ ap (λ xs. items ++ xs) (sym (cancel_says set ds c r tells role));
+        says = cancels.says r is ∙ ap (λ xs. items ++ xs) (sym (cancel_says set ds c r tells));
         unflushed = cancels.unflushed;
         input = cancels.input;
         halt = cancels.halt;
+        closed = cancels.closed;
       })
       cancels.newest
       (λ k apart. refl) cancels.many cancels.others
@@ -121,7 +123,7 @@ module _ {H : Type 0} (now : H → Memo) (can_act : H → Type 0) (rule : Handle
       let same : (if runs then slot.0 else None) ≡ slot' = some_same _ slot' (sym (cancels.kept slot.0 slot.1) ∙ slot_is) in
       let over : is_over (d ∷ ds) c ≡ true = over_is (d ∷ ds) c it.0 (calls.each c it.0 it.1) ∙ rw (turns.is.cancelled) refl in
       let calm = keeps_calm now can_act rule set ds d c (cancelling r.status) r it.0 slot.0 tells (calls.each c it.0 it.1) one.here turns.is
-      (record { unstarted = refl; unfinished = refl; put_open = λ h. absurd (false≢true h) }) refl (unopened ds d c one.unopened) (stands.keeps.each c slot.0 slot.1) in
+      (record { unstarted = refl; unfinished = refl; put_open = λ h. absurd (true≢false h) }) refl (unopened ds d c one.unopened) (stands.keeps.each c slot.0 slot.1) in
       subst (λ s. Keeps now can_act rule set (d ∷ ds) c (runner_of (d ∷ ds) c) s) same
       (at r.run tells.run runs ran slot.0 over calm))
     where
@@ -137,7 +139,7 @@ module _ {H : Type 0} (now : H → Memo) (can_act : H → Type 0) (rule : Handle
 
   pub table_cancelled : (recorded after : Recorded) (seat c : ℕ) (states later : CallStates) (handlers left : List (Option H)) (items items' : List Item) (runs : Bool) (capacity capacity' : ℕ)
       → IsTable now can_act rule set recorded states handlers items capacity → IsCall set recorded.entries c → is_cancelled (history set recorded.entries) c ≡ false
-      → ((r : CallState) → slice_get states.calls.items c ≡ Some r → runs ≡ is_some r.run) → CancelsCall c runs states later handlers left items items'
+      → ((r : CallState) → slice_get states.calls.items c ≡ Some r → runs ≡ is_some r.run) → CancelsCall set.role c runs states later handlers left items items'
       → capacity' ≡ capacity → after.entries ≡ adding recorded.entries seat (Cancel c) → after.spare + 1 ≡ recorded.spare
       → IsTable now can_act rule set after later left items' capacity'
   table_cancelled recorded after seat c states later handlers left items items' runs capacity capacity' is call uncut ran cancels same adds spent =
@@ -154,13 +156,13 @@ module _ {H : Type 0} (now : H → Memo) (can_act : H → Type 0) (rule : Handle
       let fewer : uncancelled later.calls.items + 1 ≡ uncancelled states.calls.items = omega (arith, counts.going, was, cut) in
       let busy : running later.calls.items ≡ running states.calls.items = omega (arith, counts.busy, ap (λ o. one_if (is_some o)) turns.is.run) in
       let few : length items' ≤ length items + 2 =
-      omega (arith, ap length (cancels.says row.0 row.1), length-append items (cancel_items c row.0.name (is_some row.0.status) (is_some row.0.run)), two_items c row.0.name (is_some row.0.status) (is_some row.0.run)) in
+      omega (arith, ap length (cancels.says row.0 row.1), length-append items (cancel_items set.role c row.0.name (is_some row.0.status) (is_some row.0.run)), two_items set.role c row.0.name (is_some row.0.status) (is_some row.0.run)) in
       let did : CancelDid set seat c (cancel_answer _ _) recorded.entries after.entries = record { adds = rw uncut adds; answer = refl } in
       let laws : KeepsLegal H (Unit {0}) = keeps_legal in
       subst (λ n. IsTable now can_act rule set after later left items' n) (sym same)
       (table_after now can_act rule set recorded after seat (Cancel c) later left items' capacity adds
-      (laws.cancel rule set seat c _ recorded.entries after.entries is.legal call did) is.server
-      (stands_cancelled ds seat c states later handlers left items items' row.0 runs is.stands is.server row.1 (ran row.0 row.1) cancels)
+      (laws.cancel rule set seat c _ recorded.entries after.entries is.legal call did)
+      (stands_cancelled ds seat c states later handlers left items items' row.0 runs is.stands row.1 (ran row.0 row.1) cancels)
       (record {
         room = subst (λ b. HasRoom later.calls.items (length items') b (is_some later.halted) after.spare capacity) (sym cancels.input)
             (subst (λ o. HasRoom later.calls.items (length items') states.input_ended (is_some o) after.spare capacity) (sym cancels.halt)

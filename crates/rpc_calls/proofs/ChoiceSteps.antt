@@ -6,23 +6,24 @@ use Rattle.std.proofs.lemmas.List.Sums.{count_by-le-length}
 use Rattle.std.proofs.lemmas.Option.{slice_get_within}
 use Rattle.rpc_journal.specs.declared.call_state.CallState.{CallState}
 use Rattle.rpc_journal.specs.declared.call_states.CallStates.{CallStates}
-use Rattle.rpc_journal.specs.Calls.{call_count}
+use Rattle.rpc_journal.specs.Calls.{call_count, runner_of}
 use Rattle.rpc_journal.specs.Choice.{IsFirstReady, NoneReady, first_place, oldest_place}
 use Rattle.rpc_journal.specs.Effect.{Deed}
 use Rattle.rpc_journal.specs.Items.{is_ready}
 use Rattle.rpc_journal.specs.Marks.{is_empty}
 use Rattle.rpc_journal.specs.Queues.{waiting_of}
-use Rattle.rpc_journal.specs.Quiet.{all_below}
+use Rattle.rpc_journal.specs.Quiet.{all_below, none_runs}
 use Rattle.rpc_journal.specs.Tells.{Tells}
 use Rattle.rpc_journal.specs.Touch.{is_startable}
 use Rattle.rpc_journal.proofs.KnownStates.{ready_known}
 use Rattle.rpc_journal.proofs.PlaceLemmas.{get_some}
+use Rattle.rpc_journal.proofs.StayLemmas.{all_at}
 use Rattle.rpc_calls.specs.declared.index.Index.{Index}
 use Rattle.rpc_calls.specs.First.{FoundAmong, IsFirstAmong, IsNoneAmong, Precedes, first_of, goes_first, ready_in, ready_since}
 use Rattle.rpc_calls.specs.Indexed.{IsIndexed}
 use Rattle.rpc_calls.specs.Listed.{times}
 use Rattle.rpc_calls.specs.Marks.{one_if, waits}
-use Rattle.rpc_calls.proofs.PlaceChanges.{count-cons, count-push}
+use Rattle.rpc_calls.proofs.PlaceChanges.{count-cons, count-has, count-push}
 
 -- a call that goes first precedes the other, and else the other precedes it
 first_precedes : (c p k q : ℕ) → goes_first c p k q ≡ true → Precedes c p k q
@@ -181,16 +182,6 @@ all_true : (n : ℕ) (test : ℕ → Bool) → ((k : ℕ) → k < n → test k �
 all_true zero test each = refl
 all_true (suc n) test each = rw (all_true n test (λ k below. each k (omega (arith, below))), each n (omega arith)) refl
 
-all_at : (n c : ℕ) (test : ℕ → Bool) → all_below n test ≡ true → c < n → test c ≡ true
-all_at zero c test all below = absurd (omega (arith, below))
-all_at (suc n) c test all below =
-    let parts = and_parts (all_below n test) (test n) all in
-    at (c == n) refl parts.1 (all_at n c test parts.0)
-  where
-    at : (b : Bool) → (c == n) ≡ b → test n ≡ true → (c < n → test c ≡ true) → test c ≡ true
-    at true same last before = subst (λ k. test k ≡ true) (sym (eqb-true c n same)) last
-    at false apart last before = before (omega (arith, below, eqb-false c n apart))
-
 -- no event waits for any call exactly where the list is empty
 pub none_waits : (ds : List Deed) (t : CallStates) (index : Index) (empty : Bool) → Tells ds t → IsIndexed t.calls.items index
     → empty ≡ (length index.waiting.calls.items == 0) → empty ≡ all_below (call_count ds) (λ c. is_empty (waiting_of ds c))
@@ -219,3 +210,32 @@ none_waits ds t index empty tells indexed is = at (length index.waiting.calls.it
         let within : it.number < length t.calls.items = slice_get_within t.calls.items it.number it.state it.there in
         let empty = all_at (call_count ds) it.number (λ c. is_empty (waiting_of ds c)) all (omega (arith, within, tells.calls.many)) in
         absurd (false≢true (ap not (sym empty ∙ ap is_empty (tells.calls.each it.number it.state it.there).waiting) ∙ it.passes))
+
+-- no call runs exactly where none is counted
+pub none_run : (ds : List Deed) (t : CallStates) (n : ℕ) (empty : Bool) → Tells ds t → n ≡ count_by (λ r. is_some r.run) t.calls.items → empty ≡ (n == 0)
+    → empty ≡ none_runs ds
+none_run ds t n empty tells many is = at (n == 0) refl (none_runs ds) refl
+  where
+    idle : n ≡ 0 → (k : ℕ) (r : CallState) → slice_get t.calls.items k ≡ Some r → is_none r.run ≡ true
+    idle none k r there = by r.run refl
+      where
+        by : (o : Option ℕ) → r.run ≡ o → is_none o ≡ true
+        by None same = refl
+        by (Some seat) same = absurd (omega (arith, none, many, count-has (λ q. is_some q.run) t.calls.items k r there (ap is_some same)))
+
+    runs : (o : Option ℕ) → is_some o ≡ true → is_none o ≡ true → ⊥
+    runs None some none = absurd (false≢true some)
+    runs (Some seat) some none = false≢true none
+
+    at : (b : Bool) → (n == 0) ≡ b → (a : Bool) → none_runs ds ≡ a → empty ≡ none_runs ds
+    at true none a all =
+        is ∙ none ∙ sym (all_true (call_count ds) (λ c. is_none (runner_of ds c)) (λ k below.
+        let row = get_some t.calls.items k (omega (arith, below, tells.calls.many)) in
+        ap is_none (tells.calls.each k row.0 row.1).run ∙ idle (eqb-true n 0 none) k row.0 row.1))
+    at false some false all = is ∙ some ∙ sym all
+    at false some true all =
+        let one : 1 ≤ count_by (λ r. is_some r.run) t.calls.items = omega (arith, many, eqb-false n 0 some) in
+        let it = counted (λ r. is_some r.run) t.calls.items one in
+        let within : it.number < length t.calls.items = slice_get_within t.calls.items it.number it.state it.there in
+        let free = all_at (call_count ds) it.number (λ c. is_none (runner_of ds c)) all (omega (arith, within, tells.calls.many)) in
+        absurd (runs it.state.run it.passes (sym (ap is_none (tells.calls.each it.number it.state it.there).run) ∙ free))

@@ -2,6 +2,8 @@
 use Rattle.std.proofs.Common.{◌≡◌, ℕ, ◌+◌, ◌≤◌, true, false, not, List, [], ◌∷◌, length, drop, Option, is_some, refl, ap, sym, ◌∙◌, subst, arith, length-append}
 use Rattle.std.proofs.lemmas.Bool.{true≢false}
 use Rattle.std.proofs.lemmas.List.{append-nil}
+use Rattle.std.proofs.lemmas.Option.{slice_get_within}
+use Rattle.rpc_channel.specs.Rising.{has_id}
 use Rattle.rpc_handlers.specs.declared.event.Memo.{Memo}
 use Rattle.rpc_handlers.specs.HandlerRule.{HandlerRule}
 use Rattle.rpc_journal.specs.declared.call_states.CallStates.{CallStates}
@@ -21,12 +23,13 @@ use Rattle.rpc_journal.specs.Tells.{IsToldAll, Tells}
 use Rattle.rpc_journal.specs.Touch.{IsTouched, telling}
 use Rattle.rpc_journal.proofs.NewestLemmas.{newest_kept}
 use Rattle.rpc_journal.proofs.NoticeLemmas.{step_told}
+use Rattle.rpc_journal.proofs.PlaceLemmas.{get_some}
 use Rattle.rpc_journal.proofs.VerdictLemmas.{history_length}
 use Rattle.rpc_journal.proofs.LegalLemmas.{keeps_legal}
 use Rattle.rpc_calls.specs.Room.{uncancelled, running, HasRoom}
 use Rattle.rpc_calls.specs.Places.{ChangesAll}
 use Rattle.rpc_calls.specs.TableHolds.{IsTable}
-use Rattle.rpc_calls.specs.Turns.{IsTold}
+use Rattle.rpc_journal.specs.Turns.{IsTold}
 use Rattle.rpc_calls.proofs.CalmSteps.{table_after}
 use Rattle.rpc_calls.proofs.NoticeSteps.{notice_deed, notice_keeps, same_counts}
 
@@ -34,10 +37,10 @@ module _ {H : Type 0} (now : H → Memo) (can_act : H → Type 0) (rule : Handle
   pub table_ended : (recorded after : Recorded) (seat at : ℕ) (states later : CallStates) (handlers : List (Option H)) (items : List Item) (capacity : ℕ)
       → IsTable now can_act rule set recorded states handlers items capacity → IsInputOpen set recorded.entries seat
       → at ≡ length recorded.entries → ChangesAll (IsTold at InputEnded) states.calls.items later.calls.items
-      → later.unflushed ≡ states.unflushed → later.input_ended ≡ true → later.halted ≡ states.halted → later.newest ≡ states.newest
+      → later.unflushed ≡ states.unflushed → later.input_ended ≡ true → later.halted ≡ states.halted → later.newest ≡ states.newest → later.closed.items ≡ states.closed.items
       → after.entries ≡ adding recorded.entries seat EndIn → after.spare + 1 ≡ recorded.spare
       → IsTable now can_act rule set after later handlers items capacity
-  table_ended recorded after seat at states later handlers items capacity is input place changes unflushed shut kept newest adds spent =
+  table_ended recorded after seat at states later handlers items capacity is input place changes unflushed shut kept newest chans adds spent =
       let ds : List Deed = history set recorded.entries in
       let old = is.stands.tells.calls in
       let told : IsToldAll (length ds) InputEnded states.calls.items later.calls.items =
@@ -47,13 +50,14 @@ module _ {H : Type 0} (now : H → Memo) (can_act : H → Type 0) (rule : Handle
       } in
       let tells : Tells (tell set ds (entry_by seat EndIn)) later =
       record {
-        calls = step_told ds seat EndIn InputEnded states.calls.items later.calls.items (record { start = λ k. refl; finish = λ k. refl; cancel = λ k. refl }) old told;
-        newest = newest_kept ds (notice_deed ds seat InputEnded) states.newest later.newest is.stands.tells.newest refl newest;
+        calls = step_told set.role ds seat EndIn InputEnded states.calls.items later.calls.items (record { start = λ k. refl; finish = λ k. refl; cancel = λ k. refl }) old told;
+        newest = newest_kept ds (notice_deed set.role ds seat InputEnded) states.newest later.newest is.stands.tells.newest refl newest;
         items = omega (arith, unflushed, is.stands.tells.items, length-append (items_sent ds) []);
         input = shut;
+        closed = λ x. ap (λ xs. has_id xs x) chans ∙ is.stands.tells.closed x;
         halt = kept ∙ is.stands.tells.halt;
       } in
-      let sent : items_sent (notice_deed ds seat InputEnded ∷ ds) ≡ items_sent ds = append-nil (items_sent ds) in
+      let sent : items_sent (notice_deed set.role ds seat InputEnded ∷ ds) ≡ items_sent ds = append-nil (items_sent ds) in
       let many : length later.calls.items ≡ length states.calls.items =
       tells.calls.many ∙ ap length (append-nil (calls ds)) ∙ sym old.many in
       let going : uncancelled later.calls.items ≡ uncancelled states.calls.items =
@@ -69,7 +73,7 @@ module _ {H : Type 0} (now : H → Memo) (can_act : H → Type 0) (rule : Handle
       let before : HasRoom states.calls.items (length items) false (is_some states.halted) recorded.spare capacity =
       subst (λ b. HasRoom states.calls.items (length items) b (is_some states.halted) recorded.spare capacity) open_now is.room.room in
       table_after now can_act rule set recorded after seat EndIn later handlers items capacity adds
-      (laws.end_in rule set seat recorded.entries after.entries is.legal input did) is.server
+      (laws.end_in rule set seat recorded.entries after.entries is.legal input did)
       (record {
         tells = tells;
         keeps = notice_keeps now can_act rule set ds seat InputEnded handlers is.stands.keeps;
@@ -79,7 +83,12 @@ module _ {H : Type 0} (now : H → Memo) (can_act : H → Type 0) (rule : Handle
         room = subst (λ b. HasRoom later.calls.items (length items) b (is_some later.halted) after.spare capacity) (sym shut)
             (subst (λ b. HasRoom later.calls.items (length items) true b after.spare capacity) (sym halted)
             (record { items_fit = omega (arith, before.items_fit, going, busy); entries_fit = omega (arith, before.entries_fit, going, busy, spent) }));
-        places = record { free = λ k y there unended going_on. absurd (true≢false (sym shut ∙ going_on)) };
+        places = record {
+          one = λ k y there.
+              let row = get_some states.calls.items k (omega (arith, slice_get_within later.calls.items k y there, many)) in
+              omega (arith, (changes.each k row.0 y row.1 there).capacity, is.room.places.one k row.0 row.1);
+          free = λ k y there unended going_on. absurd (true≢false (sym shut ∙ going_on));
+        };
         few = omega (arith, is.room.few, many);
       })
 

@@ -1,11 +1,15 @@
 -- What a table stands for, over a Finish.
-use Rattle.std.proofs.Common.{◌≡◌, ℕ, ◌+◌, ◌<◌, ◌≤◌, Bool, true, false, not, ◌&&◌, ◌||◌, List, [], ◌∷◌, ◌++◌, length, flat_map, slice_get, Option, Some, None, is_some, is_none, option_map, IsTrue, if◌then◌else◌, refl, ap, sym, ◌∙◌, subst, arith, eq-eqb, ne_eqb, length-append}
+use Rattle.std.proofs.Common.{◌≡◌, ℕ, ◌+◌, ◌<◌, ◌≤◌, Bool, true, false, not, ◌&&◌, ◌||◌, List, [], ◌∷◌, ◌++◌, length, flat_map, slice_get, Option, Some, None, is_some, is_none, IsTrue, if◌then◌else◌, refl, ap, sym, ◌∙◌, subst, arith, eq-eqb, ne_eqb, length-append}
 use Rattle.std.proofs.lemmas.Bool.{false≢true}
 use Rattle.std.proofs.lemmas.List.{append-nil}
 use Rattle.rpc_ids.specs.declared.method.Kind.{Kind}
-use Rattle.rpc_ids.specs.declared.method.Role.TheVariants.{Server}
+use Rattle.rpc_ids.specs.declared.method.MethodRef.{MethodRef}
+use Rattle.rpc_ids.specs.declared.method.Role.{Role}
+use Rattle.rpc_ids.specs.declared.method.Role.TheVariants.{Server, Client}
 use Rattle.rpc_ids.specs.declared.status.Status.{Status}
+use Rattle.rpc_ids.specs.declared.status.Status.TheVariants.{Okay}
 use Rattle.rpc_packet.specs.declared.call_name.CallName.{CallName}
+use Rattle.rpc_packet.specs.declared.packet_type.PacketType.TheVariants.{ClientError, Completion}
 use Rattle.rpc_handlers.specs.declared.answer.Answer.{Answer}
 use Rattle.rpc_handlers.specs.declared.answer.End.{End}
 use Rattle.rpc_handlers.specs.declared.answer.Out.{Out}
@@ -21,25 +25,24 @@ use Rattle.rpc_journal.specs.Calls.{call_at, has_end, is_cancelled, is_replaced}
 use Rattle.rpc_journal.specs.Changes.{is_spent}
 use Rattle.rpc_journal.specs.Effect.{Deed, Opening}
 use Rattle.rpc_journal.specs.Entries.{answer_item, answered, end_effect, finish_effect, leaves, messages_go}
-use Rattle.rpc_journal.specs.Items.{is_done}
-use Rattle.rpc_journal.specs.Marks.{is_empty, or_else}
+use Rattle.rpc_journal.specs.Marks.{is_empty, is_okay, is_unary, or_else}
 use Rattle.rpc_journal.specs.Queues.{taken_event, waiting_of}
-use Rattle.rpc_journal.specs.Rows.{says_item}
+use Rattle.rpc_journal.specs.Rows.{no_effect, says_item, sends, status_packet}
 use Rattle.rpc_journal.specs.States.{state_before_run}
 use Rattle.rpc_journal.specs.declared.waiting.Waiting.{Waiting}
 use Rattle.rpc_journal.specs.Tells.{TellsOf}
-use Rattle.rpc_journal.specs.Touch.{Touch, finishing, hears_answer}
+use Rattle.rpc_journal.specs.Touch.{Touch, end_by, finishing_so, hears_answer}
 use Rattle.rpc_journal.proofs.FinishLemmas.{heard_is}
 use Rattle.rpc_journal.proofs.PlaceLemmas.{get_some}
 use Rattle.rpc_journal.proofs.TableLemmas.{opening_is}
 use Rattle.rpc_journal.proofs.TableSteps as steps
-use Rattle.rpc_calls.specs.AnswerItems.{answer_items, end_items, end_given}
+use Rattle.rpc_calls.specs.AnswerItems.{answer_items, end_given, items_by}
 use Rattle.rpc_calls.specs.Marks.{one_if}
 use Rattle.rpc_calls.specs.Handlers.{is_over, over_state, Keeps}
 use Rattle.rpc_calls.specs.Places.{ChangesAt}
 use Rattle.rpc_calls.specs.Room.{uncancelled, running, HasRoom, HasPlaces}
 use Rattle.rpc_calls.specs.TableHolds.{HasAllRoom}
-use Rattle.rpc_calls.specs.Turns.{Turns}
+use Rattle.rpc_journal.specs.Turns.{Turns}
 use Rattle.rpc_calls.proofs.KeepLemmas.{keeps_returned, keeps_newer}
 use Rattle.rpc_calls.proofs.OneStep.{TouchesOne, counts_one, places_one}
 use Rattle.rpc_calls.proofs.PlaceChanges.{count-has}
@@ -54,74 +57,70 @@ touches_one d c t one = record {
   unopened = one.opens;
 }
 
-pub given_is : (cut heard : Bool) (end : Option End) → end_given cut heard end ≡ (if not cut && heard then option_map (λ x. x.status) end else None)
-given_is true heard None = refl
-given_is true heard (Some end) = refl
-given_is false true None = refl
-given_is false true (Some end) = refl
-given_is false false None = refl
-given_is false false (Some end) = refl
-
-says_of : (c : ℕ) (o : Opening) (cut heard done : Bool) (a : Answer)
-    → (if cut then says_item (leaves c) else answered Server c o heard done a).says ≡ answer_items c o.name o.method.kind cut heard a.items a.end
-says_of c o true heard done a = refl
-says_of c o false false done a = refl
-says_of c o false true done a = at a.end
-  where
-    at : (end : Option End) → flat_map (answer_item Server c o.name (messages_go Server o.method.kind true done)) a.items ++ (end_effect Server c o.name o.method.kind done end).says
-        ≡ flat_map (answer_item Server c o.name (messages_go Server o.method.kind true false)) a.items ++ end_items c o.name end
-    at None = refl
-    at (Some end) = refl
+says_of : (role : Role) (c : ℕ) (o : Opening) (cut heard done : Bool) (a : Answer)
+    → (if cut then says_item (leaves c) else answered role c o heard done a).says ≡ items_by role c o.name o.method.kind cut heard done a.items a.end
+says_of role c o true heard done a = refl
+says_of role c o false false done a = refl
+says_of role c o false true done a = refl
 
 -- what the Finish of a call adds
-pub finish_says : (set : Setting) (ds : List Deed) (c : ℕ) (r : CallState) (a : Answer) → TellsOf ds c r → set.role ≡ Server
-    → (finish_effect set ds c a (call_at ds c)).says ≡ answer_items c r.name r.method.kind r.cancelled (hears_answer r) a.items a.end
-finish_says set ds c r a tells role =
+pub finish_says : (set : Setting) (ds : List Deed) (c : ℕ) (r : CallState) (a : Answer) → TellsOf ds c r
+    → (finish_effect set ds c a (call_at ds c)).says ≡ answer_items set.role c r a.items a.end
+finish_says set ds c r a tells =
     let opening = opening_is ds c r tells in
-    rw (opening.1, role, tells.cancelled, heard_is ds c r tells)
-    (says_of c opening.0 r.cancelled (hears_answer r) (is_done ds c) a
-    ∙ ap (λ n. answer_items c n opening.0.method.kind r.cancelled (hears_answer r) a.items a.end) opening.2
-    ∙ ap (λ m. answer_items c r.name m.kind r.cancelled (hears_answer r) a.items a.end) opening.3)
+    rw (opening.1, tells.cancelled, heard_is ds c r tells, tells.done)
+    (says_of set.role c opening.0 r.cancelled (hears_answer r) r.done a
+    ∙ ap (λ n. items_by set.role c n opening.0.method.kind r.cancelled (hears_answer r) r.done a.items a.end) opening.2
+    ∙ ap (λ (m : MethodRef). items_by set.role c r.name m.kind r.cancelled (hears_answer r) r.done a.items a.end) opening.3)
 
-one_each : (c : ℕ) (name : CallName) (says : Bool) (out : Out) → length (answer_item Server c name says out) ≤ 1
-one_each c name true (Say payload) = omega arith
-one_each c name false (Say payload) = omega arith
-one_each c name says (Begin session resource offset) = omega arith
-one_each c name says (Append session bytes) = omega arith
-one_each c name says (Commit session) = omega arith
-one_each c name says (Leave session) = omega arith
+one_each : (role : Role) (c : ℕ) (name : CallName) (says : Bool) (out : Out) → length (answer_item role c name says out) ≤ 1
+one_each role c name true (Say payload) = omega arith
+one_each role c name false (Say payload) = omega arith
+one_each role c name says (Begin session resource offset) = omega arith
+one_each role c name says (Append session bytes) = omega arith
+one_each role c name says (Commit session) = omega arith
+one_each role c name says (Leave session) = omega arith
 
-few_outs : (c : ℕ) (name : CallName) (says : Bool) (outs : List Out) → length (flat_map (answer_item Server c name says) outs) ≤ length outs
-few_outs c name says [] = omega arith
-few_outs c name says (out ∷ outs) =
-    omega (arith, length-append (answer_item Server c name says out) (flat_map (answer_item Server c name says) outs), one_each c name says out, few_outs c name says outs)
+few_outs : (role : Role) (c : ℕ) (name : CallName) (says : Bool) (outs : List Out) → length (flat_map (answer_item role c name says) outs) ≤ length outs
+few_outs role c name says [] = omega arith
+few_outs role c name says (out ∷ outs) =
+    omega (arith, length-append (answer_item role c name says out) (flat_map (answer_item role c name says) outs), one_each role c name says out, few_outs role c name says outs)
 
-few_ends : (c : ℕ) (name : CallName) (heard : Bool) (end : Option End) → length (if heard then end_items c name end else []) ≤ 1
-few_ends c name true None = omega arith
-few_ends c name true (Some end) = omega arith
-few_ends c name false end = omega arith
+-- of a client's end that is OK or not, where its stream is shut or not
+client_few : (c : ℕ) (name : CallName) (end : End) (okay shut : Bool)
+    → length (if okay then (if shut then no_effect else says_item (sends c (status_packet Completion name Okay)))
+    else record no_effect { ends = (c, end.status) ∷ []; drops = c ∷ []; says = sends c (status_packet ClientError name end.status) ∷ [] }).says ≤ 1
+client_few c name end true true = omega arith
+client_few c name end true false = omega arith
+client_few c name end false shut = omega arith
+
+few_ends : (role : Role) (c : ℕ) (name : CallName) (kind : Kind) (done heard : Bool) (end : Option End)
+    → length (if heard then (end_effect role c name kind done end).says else []) ≤ 1
+few_ends role c name kind done false end = omega arith
+few_ends role c name kind done true None = omega arith
+few_ends Server c name kind done true (Some end) = omega arith
+few_ends Client c name kind done true (Some end) = client_few c name end (is_okay end.status) (is_unary kind || done)
 
 -- at most one item more than the answer has
-pub few_items : (c : ℕ) (name : CallName) (kind : Kind) (cut heard : Bool) (outs : List Out) (end : Option End)
-    → length (answer_items c name kind cut heard outs end) ≤ length outs + 1
-few_items c name kind true heard outs end = omega arith
-few_items c name kind false heard outs end =
+pub few_items : (role : Role) (c : ℕ) (name : CallName) (kind : Kind) (cut heard done : Bool) (outs : List Out) (end : Option End)
+    → length (items_by role c name kind cut heard done outs end) ≤ length outs + 1
+few_items role c name kind true heard done outs end = omega arith
+few_items role c name kind false heard done outs end =
     omega (
       arith,
-      length-append (flat_map (answer_item Server c name (messages_go Server kind heard false)) outs) (if heard then end_items c name end else []),
-      few_outs c name (messages_go Server kind heard false) outs,
-      few_ends c name heard end,
+      length-append (flat_map (answer_item role c name (messages_go role kind heard done)) outs) (if heard then (end_effect role c name kind done end).says else []),
+      few_outs role c name (messages_go role kind heard done) outs,
+      few_ends role c name kind done heard end,
     )
 
 -- an end is given only to a call without one
-pub given_once : (r : CallState) (end : Option End) → is_some (end_given r.cancelled (hears_answer r) end) ≡ true → r.status ≡ None
-given_once r end is = at r.status (heard_of r.cancelled (hears_answer r) end is)
+pub given_once : (role : Role) (r : CallState) (end : Option End) → is_some (end_given role r end) ≡ true → r.status ≡ None
+given_once role r end is = at r.status (heard_of r.cancelled (hears_answer r) (end_by role end) is)
   where
-    heard_of : (cut heard : Bool) (end : Option End) → is_some (end_given cut heard end) ≡ true → heard ≡ true
-    heard_of cut heard None is = absurd (false≢true is)
-    heard_of true heard (Some end) is = absurd (false≢true is)
-    heard_of false true (Some end) is = refl
-    heard_of false false (Some end) is = absurd (false≢true is)
+    heard_of : (cut heard : Bool) (o : Option Status) → is_some (if not cut && heard then o else None) ≡ true → heard ≡ true
+    heard_of true heard o is = absurd (false≢true is)
+    heard_of false true o is = refl
+    heard_of false false o is = absurd (false≢true is)
 
     at : (o : Option Status) → (is_none o && not r.took_end) ≡ true → o ≡ None
     at None heard = refl
@@ -153,11 +152,11 @@ or_else_none None b is = is
 or_else_none (Some x) b is = absurd cc
 
 -- the room after the run
-pub room_finished : (at c : ℕ) (end : Option Status) (states after : CallStates) (items items' : List Item) (r : CallState) (seat spare spare' capacity : ℕ)
+pub room_finished : (at c : ℕ) (end : Option Status) (completes : Bool) (states after : CallStates) (items items' : List Item) (r : CallState) (seat spare spare' capacity : ℕ)
     → HasAllRoom states items spare capacity → c < length states.calls.items → slice_get states.calls.items c ≡ Some r → r.run ≡ Some seat
-    → ChangesAt c (Turns at (finishing end)) states.calls.items after.calls.items → after.input_ended ≡ states.input_ended → after.halted ≡ states.halted
+    → ChangesAt c (Turns at (finishing_so end completes)) states.calls.items after.calls.items → after.input_ended ≡ states.input_ended → after.halted ≡ states.halted
     → length items' ≤ length items + 513 → spare' + 1 ≡ spare → HasAllRoom after items' spare' capacity
-room_finished at c end states after items items' r seat spare spare' capacity room there is runs changes input halt few less =
+room_finished at c end completes states after items items' r seat spare spare' capacity room there is runs changes input halt few less =
     let it = get_some after.calls.items c (omega (arith, there, changes.many)) in
     let turns = changes.here r it.0 is it.1 in
     let counts = counts_one _ states.calls.items after.calls.items c r it.0 changes is it.1 in
@@ -174,7 +173,7 @@ room_finished at c end states after items items' r seat spare spare' capacity ro
             entries_fit = omega (arith, room.room.entries_fit, fewer, still, few, less);
           }));
       places = subst (λ b. HasPlaces after.calls.items b) (sym input)
-          (places_one at (finishing end) states.calls.items after.calls.items c states.input_ended changes there
+          (places_one at (finishing_so end completes) states.calls.items after.calls.items c states.input_ended changes there
           (λ q x turn unended. (or_else_none end q.status (sym turn.is.status ∙ unended), omega (arith, ap length turn.is.waiting, over_waits (is_some end) 0 q.waiting.items))) room.places);
       few = omega (arith, room.few, changes.many);
     }

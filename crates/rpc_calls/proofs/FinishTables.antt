@@ -2,7 +2,8 @@
 use Rattle.std.proofs.Common.{◌≡◌, ◌≢◌, ℕ, ◌+◌, ◌<◌, ◌≤◌, Bool, true, false, ◌&&◌, ◌||◌, ◌==◌, List, ◌∷◌, ◌++◌, length, reverse, drop, slice_get, nat_lt, Option, Some, None, is_some, IfSome, IsTrue, if◌then◌else◌, refl, ap, sym, ◌∙◌, subst, arith, eq-eqb, length-append, length-drop}
 use Rattle.std.proofs.lemmas.Bool.{true≢false, ltb-false}
 use Rattle.std.proofs.lemmas.Option.{slice_get_within}
-use Rattle.rpc_ids.specs.declared.method.Role.TheVariants.{Server}
+use Rattle.rpc_channel.specs.Rising.{has_id}
+use Rattle.rpc_ids.specs.declared.method.Role.{Role}
 use Rattle.rpc_handlers.specs.declared.answer.Answer.{Answer}
 use Rattle.rpc_handlers.specs.declared.answer.End.{End}
 use Rattle.rpc_handlers.specs.declared.answer.Out.{Out}
@@ -28,7 +29,7 @@ use Rattle.rpc_journal.specs.Recorded.{Recorded}
 use Rattle.rpc_journal.specs.Runs.{Run, IsRunning, IsAnswerOf}
 use Rattle.rpc_journal.specs.States.{state_before_run}
 use Rattle.rpc_journal.specs.Tells.{TellsOf}
-use Rattle.rpc_journal.specs.Touch.{finishing, hears_answer}
+use Rattle.rpc_journal.specs.Touch.{finishing_so, hears_answer}
 use Rattle.rpc_journal.specs.Touch as touch
 use Rattle.rpc_journal.proofs.FinishLemmas.{finish_so, finish_touches}
 use Rattle.rpc_journal.proofs.KnownLemmas.{run_known}
@@ -37,33 +38,32 @@ use Rattle.rpc_journal.proofs.NewestLemmas.{newest_kept}
 use Rattle.rpc_journal.proofs.PlaceLemmas.{get_some}
 use Rattle.rpc_journal.proofs.Push.{history-push}
 use Rattle.rpc_journal.proofs.TableLemmas.{some_same}
-use Rattle.rpc_calls.specs.AnswerItems.{answer_items, end_given}
+use Rattle.rpc_calls.specs.AnswerItems.{answer_items, completes_given, end_given}
 use Rattle.rpc_calls.specs.Handlers.{over_state, Keeps}
 use Rattle.rpc_calls.specs.Places.{ChangesAt}
 use Rattle.rpc_calls.specs.TableHolds.{StandsFor, IsTable}
-use Rattle.rpc_calls.specs.Turns.{Turns}
+use Rattle.rpc_journal.specs.Turns.{Turns}
 use Rattle.rpc_calls.proofs.CalmSteps.{table_after, queue_grows}
-use Rattle.rpc_calls.proofs.FinishSteps.{touches_one, given_is, finish_says, few_items, spent_is, room_finished, run_room, keeps_finished}
+use Rattle.rpc_calls.proofs.FinishSteps.{touches_one, finish_says, few_items, spent_is, room_finished, run_room, keeps_finished}
 use Rattle.rpc_calls.proofs.KeepLemmas.{replaced_is}
 use Rattle.rpc_calls.proofs.OneStep.{TouchesOne, tells_one, keeps_one}
 use Rattle.rpc_calls.proofs.StateLemmas.{FinishesHandler}
 use Rattle.rpc_calls.proofs.StepLemmas.{over_is}
 
-finish_one : (set : Setting) (ds : List Deed) (seat c : ℕ) (a : Answer) (r : CallState) → TellsOf ds c r → set.role ≡ Server
-    → TouchesOne (record { entry = entry_by seat (Finish c a); does = finish_effect set ds c a (call_at ds c) }) c (finishing (end_given r.cancelled (hears_answer r) a.end))
-finish_one set ds seat c a r tells role =
-    subst (λ e. TouchesOne (record { entry = entry_by seat (Finish c a); does = finish_effect set ds c a (call_at ds c) }) c (finishing e))
-    (sym (given_is r.cancelled (hears_answer r) a.end))
-    (touches_one _ c _ (finish_touches seat c a (touch.end_given r a) (touch.items_given r a) (finish_effect set ds c a (call_at ds c)) (finish_so set ds c r a tells role)))
+finish_one : (set : Setting) (ds : List Deed) (seat c : ℕ) (a : Answer) (r : CallState) → TellsOf ds c r
+    → TouchesOne (record { entry = entry_by seat (Finish c a); does = finish_effect set ds c a (call_at ds c) }) c (finishing_so (end_given set.role r a.end) (completes_given set.role r a.end))
+finish_one set ds seat c a r tells =
+    touches_one _ c _ (finish_touches seat c a (touch.end_given set.role r a) (touch.completes_given set.role r a) (touch.items_given set.role r a) (finish_effect set ds c a (call_at ds c)) (finish_so set.role set ds c r a tells refl))
 
 -- the states and items of a table change as the Finish says
-pub record EndsRun (c : ℕ) (outs : List Out) (end : Option End) (states after : CallStates) (items items' : List Item) : Type 0 where
-  pub says : (r : CallState) → slice_get states.calls.items c ≡ Some r → items' ≡ items ++ answer_items c r.name r.method.kind r.cancelled (hears_answer r) outs end
-  pub change : (at : ℕ) (r : CallState) → slice_get states.calls.items c ≡ Some r → ChangesAt c (Turns at (finishing (end_given r.cancelled (hears_answer r) end))) states.calls.items after.calls.items
+pub record EndsRun (role : Role) (c : ℕ) (outs : List Out) (end : Option End) (states after : CallStates) (items items' : List Item) : Type 0 where
+  pub says : (r : CallState) → slice_get states.calls.items c ≡ Some r → items' ≡ items ++ answer_items role c r outs end
+  pub change : (at : ℕ) (r : CallState) → slice_get states.calls.items c ≡ Some r → ChangesAt c (Turns at (finishing_so (end_given role r end) (completes_given role r end))) states.calls.items after.calls.items
   pub newest : after.newest ≡ states.newest
   pub unflushed : after.unflushed ≡ length items'
   pub input : after.input_ended ≡ states.input_ended
   pub halt : after.halted ≡ states.halted
+  pub closed : after.closed.items ≡ states.closed.items
 
 -- and the handlers: that of c comes back, but where c is over or has another one
 pub record PutsBack {H : Type 0} (c : ℕ) (h : H) (over : Bool) (handlers later : List (Option H)) (result : Option H) : Type 0 where
@@ -82,26 +82,26 @@ short n b c is = ltb-false 512 n (first_false (nat_lt 512 n) b c is)
 
 module _ {H : Type 0} (now : H → Memo) (can_act : H → Type 0) (rule : HandlerRule) (set : Setting) where
   pub stands_finished : (ds : List Deed) (seat c : ℕ) (a : Answer) (event : Event) (m : Memo) (h : H) (states after : CallStates) (handlers later : List (Option H)) (items items' : List Item) (r x : CallState) (over : Bool) (result : Option H)
-      → StandsFor now can_act rule set ds states handlers items → set.role ≡ Server → slice_get states.calls.items c ≡ Some r → slice_get after.calls.items c ≡ Some x
+      → StandsFor now can_act rule set ds states handlers items → slice_get states.calls.items c ≡ Some r → slice_get after.calls.items c ≡ Some x
       → runner_of ds c ≡ Some seat → taken_event ds c ≡ Some event → (IsTrue rule.ruled → state_before_run rule set ds c ≡ Some m)
-      → can_act h → (IsTrue rule.ruled → now h ≡ rule.next m event) → EndsRun c a.items a.end states after items items' → over ≡ over_state x
+      → can_act h → (IsTrue rule.ruled → now h ≡ rule.next m event) → EndsRun set.role c a.items a.end states after items items' → over ≡ over_state x
       → PutsBack c h over handlers later result
       → StandsFor now can_act rule set (tell set ds (entry_by seat (Finish c a))) after later items'
-  stands_finished ds seat c a event m h states after handlers later items items' r x over result stands role is its runs took had able moved ends same puts =
+  stands_finished ds seat c a event m h states after handlers later items items' r x over result stands is its runs took had able moved ends same puts =
       let d : Deed = record { entry = entry_by seat (Finish c a); does = finish_effect set ds c a (call_at ds c) } in
       let tells = stands.tells.calls.each c r is in
-      let one = finish_one set ds seat c a r tells role in
+      let one = finish_one set ds seat c a r tells in
       let changes = ends.change (length ds) r is in
       let there : c < length states.calls.items = slice_get_within _ _ _ is in
       let calls = tells_one ds d states.calls.items after.calls.items c _ stands.tells.calls one changes there in
       let own : (c == c) ≡ true = eq-eqb c c refl in
-      let says : items_sent (d ∷ ds) ≡ items_sent ds ++ answer_items c r.name r.method.kind r.cancelled (hears_answer r) a.items a.end =
-      ap (λ xs. items_sent ds ++ xs) (finish_says set ds c r a tells role) in
+      let says : items_sent (d ∷ ds) ≡ items_sent ds ++ answer_items set.role c r a.items a.end =
+      ap (λ xs. items_sent ds ++ xs) (finish_says set ds c r a tells) in
       let within : flush_count ds ≤ length (items_sent ds) = omega (arith, stands.tells.items) in
       let queue : items' ≡ drop (flush_count ds) (items_sent (d ∷ ds)) =
       ends.says r is ∙ queue_grows items (items_sent ds) _ (flush_count ds) within stands.queue ∙ ap (drop (flush_count ds)) (sym says) in
       let more : length (items_sent ds) ≤ length (items_sent (d ∷ ds)) =
-      omega (arith, ap length says, length-append (items_sent ds) (answer_items c r.name r.method.kind r.cancelled (hears_answer r) a.items a.end)) in
+      omega (arith, ap length says, length-append (items_sent ds) (answer_items set.role c r a.items a.end)) in
       let finishes : FinishesHandler ds d c = record { start = refl; finish = own; replace = refl; opens = ap (λ o. is_some o && (call_count ds == c)) one.unopened } in
       let idle : runner_of (d ∷ ds) c ≡ None = rw own refl in
       record {
@@ -110,6 +110,7 @@ module _ {H : Type 0} (now : H → Memo) (can_act : H → Type 0) (rule : Handle
           newest = newest_kept ds d states.newest after.newest stands.tells.newest one.unopened ends.newest;
           items = omega (arith, ends.unflushed, ap length queue, length-drop (flush_count ds) (items_sent (d ∷ ds)), within, more);
           input = ends.input ∙ stands.tells.input;
+          closed = λ x. ap (λ xs. has_id xs x) ends.closed ∙ stands.tells.closed x;
           halt = ends.halt ∙ stands.tells.halt;
         };
         keeps = keeps_one now can_act rule set ds d states.calls.items after.calls.items c _ handlers later stands.tells.calls calls one changes (λ k apart. refl)
@@ -131,7 +132,7 @@ module _ {H : Type 0} (now : H → Memo) (can_act : H → Type 0) (rule : Handle
 
   pub table_finished : (recorded after : Recorded) (run : Run) (a : Answer) (h : H) (states later : CallStates) (handlers left : List (Option H)) (items items' : List Item) (capacity capacity' : ℕ) (over : Bool) (result : Option H)
       → IsTable now can_act rule set recorded states handlers items capacity → IsRunning rule set recorded.entries run → IsAnswerOf rule run a
-      → can_act h → (IsTrue rule.ruled → now h ≡ rule.next run.state run.event) → EndsRun run.call a.items a.end states later items items'
+      → can_act h → (IsTrue rule.ruled → now h ≡ rule.next run.state run.event) → EndsRun set.role run.call a.items a.end states later items items'
       → ((x : CallState) → slice_get later.calls.items run.call ≡ Some x → over ≡ over_state x) → PutsBack run.call h over handlers left result
       → capacity' ≡ capacity → after.entries ≡ adding recorded.entries run.seat (Finish run.call a) → after.spare + 1 ≡ recorded.spare
       → Finishes recorded after run a h states later left items' capacity' result
@@ -144,7 +145,7 @@ module _ {H : Type 0} (now : H → Memo) (can_act : H → Type 0) (rule : Handle
       let it = get_some later.calls.items c (omega (arith, slice_get_within states.calls.items c row.0 row.1, changes.many)) in
       let tells = is.stands.tells.calls.each c row.0 row.1 in
       let runs : row.0.run ≡ Some run.seat = sym tells.run ∙ on.unfinished in
-      let stands = stands_finished ds run.seat c a run.event run.state h states later handlers left items items' row.0 it.0 over result is.stands is.server row.1 it.1 on.unfinished on.took on.had able moved ends (overs it.0 it.1) puts in
+      let stands = stands_finished ds run.seat c a run.event run.state h states later handlers left items items' row.0 it.0 over result is.stands row.1 it.1 on.unfinished on.took on.had able moved ends (overs it.0 it.1) puts in
       let grown : history set after.entries ≡ tell set ds (entry_by run.seat (Finish c a)) = ap (history set) adds ∙ history-push set recorded.entries (entry_by run.seat (Finish c a)) in
       let slot = get_some handlers c (omega (arith, below, is.stands.keeps.many)) in
       let replaced = replaced_is now can_act rule set ds c run.seat slot.0 (subst (λ o. Keeps now can_act rule set ds c o slot.0) on.unfinished (is.stands.keeps.each c slot.0 slot.1)) in
@@ -160,15 +161,15 @@ module _ {H : Type 0} (now : H → Memo) (can_act : H → Type 0) (rule : Handle
       omega (
         arith,
         ap length (ends.says row.0 row.1),
-        length-append items (answer_items c row.0.name row.0.method.kind row.0.cancelled (hears_answer row.0) a.items a.end),
-        few_items c row.0.name row.0.method.kind row.0.cancelled (hears_answer row.0) a.items a.end,
+        length-append items (answer_items set.role c row.0 a.items a.end),
+        few_items set.role c row.0.name row.0.method.kind row.0.cancelled (hears_answer row.0) row.0.done a.items a.end,
         short (length a.items) (list_any is_long_out a.items) (is_long_end a.end) answers.limits,
       ) in
       record {
         table = subst (λ n. IsTable now can_act rule set after later left items' n) (sym same)
             (table_after now can_act rule set recorded after run.seat (Finish c a) later left items' capacity adds
-            (laws.finish rule set run a h result recorded.entries after.entries is.legal on answers did) is.server stands
-            (room_finished (length ds) c _ states later items items' row.0 run.seat recorded.spare after.spare capacity is.room (slice_get_within states.calls.items c row.0 row.1) row.1 runs changes ends.input ends.halt few spent));
+            (laws.finish rule set run a h result recorded.entries after.entries is.legal on answers did) stands
+            (room_finished (length ds) c _ _ states later items items' row.0 run.seat recorded.spare after.spare capacity is.room (slice_get_within states.calls.items c row.0 row.1) row.1 runs changes ends.input ends.halt few spent));
         did = did;
       }
 
@@ -183,14 +184,14 @@ module _ {H : Type 0} (now : H → Memo) (can_act : H → Type 0) (rule : Handle
   pub run_finished : (recorded after : Recorded) (run : Run) (a : Answer) (call seat : ℕ) (answer : Answer) (outs : List Out) (end : Option End) (h : H) (states later : CallStates) (handlers left : List (Option H)) (items items' : List Item) (capacity capacity' : ℕ) (over : Bool) (result : Option H)
       → IsTable now can_act rule set recorded states handlers items capacity → IsRunning rule set recorded.entries run → IsAnswerOf rule run a
       → IsOf run a call seat answer outs end
-      → can_act h → (IsTrue rule.ruled → now h ≡ rule.next run.state run.event) → EndsRun call outs end states later items items'
+      → can_act h → (IsTrue rule.ruled → now h ≡ rule.next run.state run.event) → EndsRun set.role call outs end states later items items'
       → ((x : CallState) → slice_get later.calls.items call ≡ Some x → over ≡ over_state x) → PutsBack call h over handlers left result
       → capacity' ≡ capacity → after.entries ≡ adding recorded.entries seat (Finish call answer) → after.spare + 1 ≡ recorded.spare
       → Finishes recorded after run a h states later left items' capacity' result
   run_finished recorded after run a call seat answer outs end h states later handlers left items items' capacity capacity' over result is on answers of able moved ends overs puts same adds spent =
       table_finished recorded after run a h states later handlers left items items' capacity capacity' over result is on answers able moved
-      (subst (λ n. EndsRun n a.items a.end states later items items') of.call_is
-      (subst (λ xs. EndsRun call xs a.end states later items items') of.outs_is (subst (λ e. EndsRun call outs e states later items items') of.end_is ends)))
+      (subst (λ n. EndsRun set.role n a.items a.end states later items items') of.call_is
+      (subst (λ xs. EndsRun set.role call xs a.end states later items items') of.outs_is (subst (λ e. EndsRun set.role call outs e states later items items') of.end_is ends)))
       (subst (λ n. (x : CallState) → slice_get later.calls.items n ≡ Some x → over ≡ over_state x) of.call_is overs)
       (subst (λ n. PutsBack n h over handlers left result) of.call_is puts)
       same

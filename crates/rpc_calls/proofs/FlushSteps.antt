@@ -69,6 +69,7 @@ module _ {H : Type 0} (now : H → Memo) (can_act : H → Type 0) (rule : Handle
         tells = record {
           calls = calls;
           newest = stands.tells.newest;
+          closed = stands.tells.closed;
           items = omega (arith, stands.tells.items, less, ap length sent);
           input = stands.tells.input;
           halt = stands.tells.halt;
@@ -107,7 +108,7 @@ module _ {H : Type 0} (now : H → Memo) (can_act : H → Type 0) (rule : Handle
       let laws : KeepsLegal H (Unit {0}) = keeps_legal in
       let did = flush_did recorded after seat states handlers item rest capacity is unset adds in
       table_after now can_act rule set recorded after seat Flush (record states { unflushed = left }) handlers rest capacity' adds
-      (laws.flush_front rule set seat (Some item) recorded.entries after.entries is.legal by did) is.server
+      (laws.flush_front rule set seat (Some item) recorded.entries after.entries is.legal by did)
       (stands_flushed (history set recorded.entries) seat states handlers item rest left is.stands less)
       (subst (HasAllRoom (record states { unflushed = left }) rest after.spare) (sym same)
       (room_flushed states item rest left recorded.spare after.spare capacity spent is.room))

@@ -15,6 +15,11 @@ pub mod FinishSteps
 pub mod FinishTables
 pub mod CallSteps
 pub mod ArriveSteps
+pub mod ClientArrivals
+pub mod CloseTables
+pub mod InvokeSteps
+pub mod SaySteps
+pub mod TouchTables
 pub mod OpenSteps
 pub mod OpenTables
 pub mod MoveLemmas
@@ -26,6 +31,5 @@ pub mod NoticeSteps
 pub mod WiderSteps
 pub mod TickSteps
 pub mod Openings
-pub mod CancelledEnds
 pub mod ReplaceTables
 pub mod RunsStand

@@ -1,7 +1,7 @@
 -- The call that a move names is live.
 use Rattle.std.proofs.Common.{ℕ, ◌<◌, ◌^◌, List, length, is_some, ap, ◌∙◌, arith}
 use Rattle.rpc_journal.specs.declared.arrival_move.Move.{Move}
-use Rattle.rpc_journal.specs.declared.arrival_move.Move.TheVariants.{Drop, Reply, Close, Open, OpenAnew, Queue, Complete}
+use Rattle.rpc_journal.specs.declared.arrival_move.Move.TheVariants.{Drop, Reply, Close, Open, OpenAnew, Queue, Complete, Stray, End, Refuse, Answer}
 use Rattle.rpc_journal.specs.declared.call_state.CallState.{CallState}
 use Rattle.rpc_journal.specs.Effect.{Deed}
 use Rattle.rpc_journal.specs.Moves.{IsOpenMove}
@@ -27,3 +27,7 @@ live_move ds states (Open m) tells few is = tt
 live_move ds states (OpenAnew m c) tells few is = live_call ds states c tells few is
 live_move ds states (Queue c) tells few is = live_call ds states c tells few is
 live_move ds states (Complete c) tells few is = live_call ds states c tells few is
+live_move ds states Stray tells few is = tt
+live_move ds states (End c s) tells few is = live_call ds states c tells few is
+live_move ds states (Refuse c) tells few is = live_call ds states c tells few is
+live_move ds states (Answer c s) tells few is = live_call ds states c tells few is

@@ -16,7 +16,7 @@ use Rattle.rpc_calls.specs.Marks.{one_if}
 use Rattle.rpc_calls.specs.Handlers.{Keeps, KeepsAll}
 use Rattle.rpc_calls.specs.Places.{ChangesAt}
 use Rattle.rpc_calls.specs.Room.{uncancelled, running, HasPlaces}
-use Rattle.rpc_calls.specs.Turns.{Turns}
+use Rattle.rpc_journal.specs.Turns.{Turns}
 use Rattle.std.specs.VecDeque.{deque_capacity}
 use Rattle.rpc_calls.proofs.CalmSteps.{untouching, unopened}
 use Rattle.rpc_calls.proofs.PlaceChanges.{count-change}
@@ -90,8 +90,18 @@ counts_one R states new c r x changes was is = record {
 pub places_one : (at : ℕ) (t : Touch) (states new : List CallState) (c : ℕ) (ended : Bool) → ChangesAt c (Turns at t) states new → c < length states
     → ((r x : CallState) → Turns at t r x → x.status ≡ None → (r.status ≡ None) × (length x.waiting.items ≤ length r.waiting.items))
     → HasPlaces states ended → HasPlaces new ended
-places_one at t states new c ended changes within smaller places = record { free = λ k y is unended input. case k y is unended input (same_or_not k c) }
+places_one at t states new c ended changes within smaller places = record {
+  one = λ k y is. one k y is (same_or_not k c);
+  free = λ k y is unended input. case k y is unended input (same_or_not k c);
+}
   where
+    one : (k : ℕ) (y : CallState) → slice_get new k ≡ Some y → (k ≡ c) ⊎ (k ≢ c) → 0 < deque_capacity y.waiting
+    one k y is (inl same) =
+        let was = get_some states c within in
+        let turns = changes.here was.0 y was.1 (subst (λ n. slice_get new n ≡ Some y) same is) in
+        omega (arith, turns.capacity, places.one c was.0 was.1)
+    one k y is (inr apart) = places.one k y (sym (changes.others k apart) ∙ is)
+
     case : (k : ℕ) (y : CallState) → slice_get new k ≡ Some y → y.status ≡ None → ended ≡ false → (k ≡ c) ⊎ (k ≢ c) → length y.waiting.items < deque_capacity y.waiting
     case k y is unended input (inl same) =
         let was = get_some states c within in

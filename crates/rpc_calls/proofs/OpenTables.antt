@@ -4,10 +4,12 @@ use Rattle.std.proofs.lemmas.Bool.{false≢true}
 use Rattle.std.proofs.lemmas.List.{append-nil}
 use Rattle.std.proofs.lemmas.Option.{slice_get_within}
 use Rattle.std.specs.VecDeque.{deque_capacity}
+use Rattle.rpc_channel.specs.Rising.{has_id}
 use Rattle.rpc_ids.specs.declared.method.MethodRef.{MethodRef}
 use Rattle.rpc_ids.specs.declared.status.Status.TheVariants.{Cancelled}
 use Rattle.rpc_packet.specs.declared.call_name.CallName.{CallName}
 use Rattle.rpc_packet.specs.declared.owned.Packet.{Packet}
+use Rattle.rpc_handlers.specs.declared.event.Event.TheVariants.{Request}
 use Rattle.rpc_handlers.specs.declared.event.Memo.{Memo}
 use Rattle.rpc_handlers.specs.HandlerRule.{HandlerRule}
 use Rattle.rpc_journal.specs.declared.call_state.CallState.{CallState}
@@ -16,7 +18,7 @@ use Rattle.rpc_journal.specs.declared.entry.EntryKind.TheVariants.{Arrive}
 use Rattle.rpc_journal.specs.declared.item.Item.{Item}
 use Rattle.rpc_journal.specs.declared.setting.Setting.{Setting}
 use Rattle.rpc_journal.specs.Calls.{call_count}
-use Rattle.rpc_journal.specs.Effect.{Deed}
+use Rattle.rpc_journal.specs.Effect.{Deed, Effect, Opening}
 use Rattle.rpc_journal.specs.History.{history, adding}
 use Rattle.rpc_journal.specs.Items.{flush_count}
 use Rattle.rpc_journal.specs.Newest.{IsNamed, IsSameNewest, Numbers}
@@ -36,16 +38,23 @@ use Rattle.rpc_calls.specs.Outside.{SameRest}
 use Rattle.rpc_calls.specs.Places.{ChangesAt}
 use Rattle.rpc_calls.specs.Room.{uncancelled, running, items_owed, HasRoom, HasPlaces}
 use Rattle.rpc_calls.specs.TableHolds.{StandsFor, IsTable}
-use Rattle.rpc_calls.specs.Turns.{Turns}
-use Rattle.rpc_calls.proofs.ArriveSteps.{Arrives, table_arrived, live_status, table_roomier}
+use Rattle.rpc_journal.specs.Turns.{Turns}
+use Rattle.rpc_calls.proofs.ArriveSteps.{Arrives, arrive_entry, table_arrived, live_status, table_roomier}
 use Rattle.rpc_calls.proofs.CalmSteps.{TouchesCalmly, untouching}
 use Rattle.rpc_calls.proofs.FlushSteps.{waits_one}
 use Rattle.rpc_calls.proofs.OneStep.{counts_one, places_one}
-use Rattle.rpc_calls.proofs.OpenSteps.{Opens, opening, stands_opened, room_opened}
+use Rattle.rpc_calls.proofs.OpenSteps.{IsOpeningEntry, Opens, stands_opened, room_opened}
+
+-- the call that a packet opens
+abbrev pub served_opening : Packet → MethodRef → Opening
+served_opening p m = record { name = p.name; method = m; given = None }
+
+arrive_opens : (seat : ℕ) (p : Packet) (e : Effect) → IsOpeningEntry seat (Arrive p) e
+arrive_opens seat p e = record { entry = arrive_entry seat p e; unreplaced = λ k. refl }
 
 -- the calls of an opening that touches no other call
 open_opens : (ds : List Deed) (seat : ℕ) (p : Packet) (m : MethodRef) (states : List CallState) (x : CallState) → TellsCalls ds states → IsServed (length ds) p m x
-    → Opens ds (deed_by seat (Arrive p) (opens_served p m (call_count ds))) p m states states x
+    → Opens ds (deed_by seat (Arrive p) (opens_served p m (call_count ds))) (served_opening p m) (Request p.payload ∷ []) states states x
 open_opens ds seat p m states x tells served = record {
   opens = refl;
   newest = open_touches seat (call_count ds) (call_count ds) p m true (eq-eqb (call_count ds) (call_count ds) refl);
@@ -57,20 +66,22 @@ open_opens ds seat p m states x tells served = record {
       subst (λ z. TouchesCalmly ds (deed_by seat (Arrive p) (opens_served p m (call_count ds))) k r z) it
       (untouching ds (deed_by seat (Arrive p) (opens_served p m (call_count ds))) k r
       (open_touches seat (call_count ds) k p m false (ne_eqb (call_count ds) k (λ same. absurd (omega (arith, same, below))))));
-  served = served;
+  incomplete = refl;
+  fresh = served;
 }
 
 -- and of one that ends the call before it
 anew_opens : (ds : List Deed) (seat c : ℕ) (p : Packet) (m : MethodRef) (states mid : List CallState) (x : CallState) → TellsCalls ds states → IsServed (length ds) p m x
     → c < call_count ds → ((r : CallState) → slice_get states c ≡ Some r → r.status ≡ None) → ChangesAt c (Turns (length ds) (closing Cancelled)) states mid
-    → Opens ds (deed_by seat (Arrive p) (both (ends_and_clears c Cancelled) (opens_served p m (call_count ds)))) p m states mid x
+    → Opens ds (deed_by seat (Arrive p) (both (ends_and_clears c Cancelled) (opens_served p m (call_count ds)))) (served_opening p m) (Request p.payload ∷ []) states mid x
 anew_opens ds seat c p m states mid x tells served below live changes = record {
   opens = refl;
   newest = anew_touches seat n c n p m false true (ne_eqb c n (λ same. absurd (omega (arith, same, below)))) (eq-eqb n n refl) (λ h. absurd (false≢true h));
   beyond = λ k past. anew_touches seat n c k p m false false (ne_eqb c k (λ same. absurd (omega (arith, same, below, past)))) (ne_eqb n k (λ same. absurd (omega (arith, same, past)))) (λ h. absurd (false≢true h));
   many = changes.many;
   calm = λ k r y is there. at k r y is there (same_or_not k c);
-  served = served;
+  incomplete = refl;
+  fresh = served;
 }
   where
     n : ℕ
@@ -96,7 +107,7 @@ anew_opens ds seat c p m states mid x tells served below live changes = record {
         (anew_touches seat (call_count ds) c k p m false false (ne_eqb c k (λ same. apart (sym same))) (ne_eqb (call_count ds) k (λ same. absurd (omega (arith, same, within)))) (λ h. absurd (false≢true h))))
 
 -- the newest call of a name and its number, in other words
-named_so : (name other : CallName) (n k : ℕ) (before after : Numbers) → other ≡ name → k ≡ n → IsNamed other k before after → IsNamed name n before after
+pub named_so : (name other : CallName) (n k : ℕ) (before after : Numbers) → other ≡ name → k ≡ n → IsNamed other k before after → IsNamed name n before after
 named_so name other n k before after same many named = subst (λ x. IsNamed name x before after) many (subst (λ x. IsNamed x k before after) same named)
 
 module _ {H : Type 0} (now : H → Memo) (can_act : H → Type 0) (rule : HandlerRule) (set : Setting) where
@@ -106,12 +117,12 @@ module _ {H : Type 0} (now : H → Memo) (can_act : H → Type 0) (rule : Handle
       → IsSameNewest states.newest moved.newest → SameRest states moved → IsTable now can_act rule set recorded moved handlers items capacity
   table_recalled recorded states moved handlers items capacity is same newest rest = record {
     legal = is.legal;
-    server = is.server;
     stands = record {
       tells = record {
         calls = subst (TellsCalls (history set recorded.entries)) (sym same) is.stands.tells.calls;
         newest = λ name. newest name ∙ is.stands.tells.newest name;
         items = ap (λ n. n + flush_count (history set recorded.entries)) rest.unflushed ∙ is.stands.tells.items;
+        closed = λ x. ap (λ xs. has_id xs x) rest.closed ∙ is.stands.tells.closed x;
         input = rest.input ∙ is.stands.tells.input;
         halt = rest.halt ∙ is.stands.tells.halt;
       };
@@ -151,19 +162,21 @@ module _ {H : Type 0} (now : H → Memo) (can_act : H → Type 0) (rule : Handle
   arrives_opened recorded after seat at p m x h states later handlers left items items' capacity capacity' spare is can place served own few able first grown named rest kept same adds spent places records =
       let ds : List Deed = history set recorded.entries in
       let its : IsServed (length ds) p m x = subst (λ k. IsServed k p m x) (place ∙ sym (history_length set recorded.entries)) served in
-      table_arrived now can_act rule set recorded after seat p (opened (call_count ds) (opens_served p m (call_count ds))) later left items' capacity' is.legal is.server can adds
+      table_arrived now can_act rule set recorded after seat p (opened (call_count ds) (opens_served p m (call_count ds))) later left items' capacity' is.legal can adds
       (subst (λ hs. StandsFor now can_act rule set (deed_by seat (Arrive p) (opens_served p m (call_count ds)) ∷ ds) later hs items') (sym kept)
-      (stands_opened now can_act rule set ds seat p m (opens_served p m (call_count ds)) states later states.calls.items x h handlers items items' is.stands
+      (stands_opened now can_act rule set ds seat (Arrive p) (opens_served p m (call_count ds)) (served_opening p m) (Request p.payload ∷ []) states later states.calls.items x h handlers items items' is.stands
+      (arrive_opens seat p (opens_served p m (call_count ds)))
       (open_opens ds seat p m states.calls.items x is.stands.tells.calls its) able first grown
       (record {
         says = same ∙ sym (append-nil items);
         unflushed = rest.unflushed ∙ sym (waits_one now can_act rule set recorded states handlers items capacity is) ∙ ap length (sym same);
         input = rest.input;
         halt = rest.halt;
+        closed = rest.closed;
       })
-      (newest_opened ds (deed_by seat (Arrive p) (opens_served p m (call_count ds))) (opening p m) p.name (call_count ds) states.newest later.newest is.stands.tells.newest refl refl refl
+      (newest_opened ds (deed_by seat (Arrive p) (opens_served p m (call_count ds))) (served_opening p m) p.name (call_count ds) states.newest later.newest is.stands.tells.newest refl refl refl
       (named_so p.name x.name (call_count ds) (length states.calls.items) states.newest later.newest its.name is.stands.tells.calls.many named))))
-      (room_opened states later states.calls.items x items items' after.spare capacity' refl refl its.uncancelled its.idle grown same
+      (room_opened states later states.calls.items x items items' 0 after.spare capacity' refl refl its.uncancelled its.idle grown (omega (arith, ap length same))
       (subst (λ b. HasPlaces states.calls.items b) (sym rest.input) is.room.places) own few places
       (subst (λ k. length items + items_owed states.calls.items + 2 + (uncancelled states.calls.items + running states.calls.items + 2) + 2 ≤ k) (sym spent) records))
 
@@ -191,9 +204,10 @@ module _ {H : Type 0} (now : H → Memo) (can_act : H → Type 0) (rule : Handle
       let going : uncancelled mid ≡ uncancelled states.calls.items = omega (arith, counts.going, ap (λ b. one_if (not b)) turns.is.cancelled) in
       let busy : running mid ≡ running states.calls.items = omega (arith, counts.busy, ap (λ o. one_if (is_some o)) turns.is.run) in
       let free = places_mid c at states mid row.0 row.1 changes is.room.places in
-      table_arrived now can_act rule set recorded after seat p (opened (call_count ds) (both (ends_and_clears c Cancelled) (opens_served p m (call_count ds)))) later left items' capacity' is.legal is.server can adds
+      table_arrived now can_act rule set recorded after seat p (opened (call_count ds) (both (ends_and_clears c Cancelled) (opens_served p m (call_count ds)))) later left items' capacity' is.legal can adds
       (subst (λ hs. StandsFor now can_act rule set (deed_by seat (Arrive p) (both (ends_and_clears c Cancelled) (opens_served p m (call_count ds))) ∷ ds) later hs items') (sym kept)
-      (stands_opened now can_act rule set ds seat p m (both (ends_and_clears c Cancelled) (opens_served p m (call_count ds))) states later mid x h handlers items items' is.stands
+      (stands_opened now can_act rule set ds seat (Arrive p) (both (ends_and_clears c Cancelled) (opens_served p m (call_count ds))) (served_opening p m) (Request p.payload ∷ []) states later mid x h handlers items items' is.stands
+      (arrive_opens seat p (both (ends_and_clears c Cancelled) (opens_served p m (call_count ds))))
       (anew_opens ds seat c p m states.calls.items mid x is.stands.tells.calls its live.below
       (λ r r_is. live_status now can_act rule set ds states handlers items c r is.stands live r_is) turned) able first grown
       (record {
@@ -201,10 +215,11 @@ module _ {H : Type 0} (now : H → Memo) (can_act : H → Type 0) (rule : Handle
         unflushed = rest.unflushed ∙ sym (waits_one now can_act rule set recorded states handlers items capacity is) ∙ ap length (sym same);
         input = rest.input;
         halt = rest.halt;
+        closed = rest.closed;
       })
-      (newest_opened ds (deed_by seat (Arrive p) (both (ends_and_clears c Cancelled) (opens_served p m (call_count ds)))) (opening p m) p.name (call_count ds) states.newest later.newest is.stands.tells.newest refl refl refl
+      (newest_opened ds (deed_by seat (Arrive p) (both (ends_and_clears c Cancelled) (opens_served p m (call_count ds)))) (served_opening p m) p.name (call_count ds) states.newest later.newest is.stands.tells.newest refl refl refl
       (named_so p.name x.name (call_count ds) (length states.calls.items) states.newest later.newest its.name is.stands.tells.calls.many named))))
-      (room_opened states later mid x items items' after.spare capacity' going busy its.uncancelled its.idle grown same
+      (room_opened states later mid x items items' 0 after.spare capacity' going busy its.uncancelled its.idle grown (omega (arith, ap length same))
       (subst (λ b. HasPlaces mid b) (sym rest.input) free) own (omega (arith, few, changes.many)) places
       (subst (λ k. length items + items_owed states.calls.items + 2 + (uncancelled states.calls.items + running states.calls.items + 2) + 2 ≤ k) (sym spent) records))
     where

@@ -25,8 +25,8 @@ use Rattle.rpc_calls.specs.Handlers.{Keeps}
 use Rattle.rpc_calls.specs.Places.{ChangesAt}
 use Rattle.rpc_calls.specs.Room.{uncancelled, running, items_owed}
 use Rattle.rpc_calls.specs.TableHolds.{IsTable}
-use Rattle.rpc_calls.specs.Turns.{Turns}
-use Rattle.rpc_calls.proofs.ArriveSteps.{room_grown}
+use Rattle.rpc_journal.specs.Turns.{Turns}
+use Rattle.rpc_calls.proofs.TouchTables.{room_grown}
 use Rattle.rpc_calls.proofs.CallSteps.{stands_one}
 use Rattle.rpc_calls.proofs.CalmSteps.{table_after}
 use Rattle.rpc_calls.proofs.FlushSteps.{waits_one}
@@ -35,7 +35,7 @@ use Rattle.rpc_calls.proofs.KeepLemmas.{keeps_replaced}
 replace_touches : (seat c : ℕ) (m : Memo) (k : ℕ) → Touches (deed_by seat (Replace c m) no_effect) k untouched
 replace_touches seat c m k = record { starts = refl; finishes = refl; cancels = refl; completes = refl; ends = refl; clears = refl; puts = refl; alone = λ h. absurd (false≢true h) }
 
-unchanged : (at c : ℕ) (states : List CallState) → ChangesAt c (Turns at untouched) states states
+pub unchanged : (at c : ℕ) (states : List CallState) → ChangesAt c (Turns at untouched) states states
 unchanged at c states = record {
   many = refl;
   others = λ k apart. refl;
@@ -63,9 +63,9 @@ module _ {H : Type 0} (now : H → Memo) (can_act : H → Type 0) (rule : Handle
       let laws : KeepsLegal H (Unit {0}) = keeps_legal in
       record {
         table = table_after now can_act rule set recorded after seat (Replace c m) states left items' capacity' adds
-            (laws.replace rule set seat c m (Ok old) recorded.entries after.entries is.legal did) is.server
+            (laws.replace rule set seat c m (Ok old) recorded.entries after.entries is.legal did)
             (stands_one now can_act rule set ds d c untouched states states handlers left items items' is.stands
-            (record { flushes_none = refl; goes_on = refl; unhalted = refl })
+            (record { flushes_none = refl; goes_on = refl; unhalted = refl; unclosed = refl })
             (record { here = replace_touches seat c m c; others = λ k apart. replace_touches seat c m k; unopened = refl })
             (unchanged (length ds) c states.calls.items) there
             (record {
@@ -73,6 +73,7 @@ module _ {H : Type 0} (now : H → Memo) (can_act : H → Type 0) (rule : Handle
               unflushed = sym (waits_one now can_act rule set recorded states handlers items capacity is) ∙ ap length (sym same);
               input = refl;
               halt = refl;
+              closed = refl;
             })
             refl
             (λ k apart. ne_eqb c k (λ it. apart (sym it))) many others

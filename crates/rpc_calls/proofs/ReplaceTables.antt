@@ -1,5 +1,5 @@
 -- The handler that a Replace gives back.
-use Rattle.std.proofs.Common.{◌≡◌, ℕ, ◌<◌, Bool, true, false, not, List, [], ◌∷◌, reverse, slice_get, Option, Some, None, is_some, is_none, option_map, if◌then◌else◌, refl, ap, sym, ◌∙◌, arith}
+use Rattle.std.proofs.Common.{◌≡◌, ℕ, ◌<◌, Bool, true, false, not, nat_le, List, [], ◌∷◌, reverse, slice_get, Option, Some, None, is_some, is_none, IfSome, option_map, if◌then◌else◌, refl, ap, sym, ◌∙◌, subst, arith}
 use Rattle.std.proofs.lemmas.Bool.{true≢false}
 use Rattle.rpc_handlers.specs.declared.event.Memo.{Memo}
 use Rattle.rpc_handlers.specs.HandlerRule.{HandlerRule}
@@ -16,15 +16,18 @@ use Rattle.rpc_journal.specs.Marks.{is_empty, or_else}
 use Rattle.rpc_journal.specs.Recorded.{Recorded}
 use Rattle.rpc_journal.specs.Refusals.{refused_where, replace_refusal}
 use Rattle.rpc_journal.proofs.PlaceLemmas.{get_some}
-use Rattle.rpc_calls.specs.Handlers.{Keeps, is_over}
+use Rattle.rpc_calls.specs.Handlers.{IsHandlerOf, Keeps, is_over}
 use Rattle.rpc_calls.specs.TableHolds.{IsTable}
-use Rattle.rpc_calls.proofs.CancelledEnds.{below, cancelled_ends}
+use Rattle.rpc_journal.proofs.EndedLemmas.{cancelled_ends}
 use Rattle.rpc_calls.proofs.KeepLemmas.{has_handler}
 
 -- where nothing speaks against another handler, the call is there and has no end
 pub record IsReplaceable (ds : List Deed) (c : ℕ) : Type 0 where
   pub there : c < call_count ds
   pub live : has_end ds c ≡ false
+
+below : (n c : ℕ) → nat_le n c ≡ false → c < n
+below n c h = grind (arith, h)
 
 second : {A : Type 0} (a b : Option A) → or_else a b ≡ None → b ≡ None
 second None b h = h
@@ -75,3 +78,29 @@ module _ {H : Type 0} (now : H → Memo) (can_act : H → Type 0) (rule : Handle
       let run = (is.stands.tells.calls.each c row.0 row.1).run in
       given_back ds c (runner_of ds c) slot.0 old (going rule set recorded.entries c is.legal it.live) (is.stands.keeps.each c slot.0 slot.1)
       (back slot.0 slot.1 ∙ ap (λ b. if b then None else slot.0) (busy row.0 row.1 ∙ ap is_some (sym run)))
+
+  was_kept : (ds : List Deed) (c : ℕ) (run : Option ℕ) (slot old : Option H) → Keeps now can_act rule set ds c run slot
+      → old ≡ (if is_some run then None else slot) → IfSome old (IsHandlerOf now can_act rule set ds c)
+  was_kept ds c None None old keeps is = subst (λ o. IfSome o (IsHandlerOf now can_act rule set ds c)) (sym is) tt
+  was_kept ds c None (Some h) old keeps is = subst (λ o. IfSome o (IsHandlerOf now can_act rule set ds c)) (sym is) keeps
+  was_kept ds c (Some seat) slot old keeps is = subst (λ o. IfSome o (IsHandlerOf now can_act rule set ds c)) (sym is) tt
+
+  -- and it is the one that the history gives to the call
+  pub handler_was : (recorded : Recorded) (states : CallStates) (handlers : List (Option H)) (items : List Item) (capacity c : ℕ) (runs : Bool) (old : Option H)
+      → IsTable now can_act rule set recorded states handlers items capacity → replace_refusal set recorded.entries c ≡ None
+      → ((r : CallState) → slice_get states.calls.items c ≡ Some r → runs ≡ is_some r.run)
+      → ((slot : Option H) → slice_get handlers c ≡ Some slot → old ≡ (if runs then None else slot))
+      → IfSome old (IsHandlerOf now can_act rule set (history set recorded.entries) c)
+  handler_was recorded states handlers items capacity c runs old is unrefused busy back =
+      let ds : List Deed = history set recorded.entries in
+      let it = replaceable set recorded.entries c unrefused in
+      let row = get_some states.calls.items c (omega (arith, it.there, is.stands.tells.calls.many)) in
+      let slot = get_some handlers c (omega (arith, it.there, is.stands.keeps.many)) in
+      let run = (is.stands.tells.calls.each c row.0 row.1).run in
+      was_kept ds c (runner_of ds c) slot.0 old (is.stands.keeps.each c slot.0 slot.1)
+      (back slot.0 slot.1 ∙ ap (λ b. if b then None else slot.0) (busy row.0 row.1 ∙ ap is_some (sym run)))
+
+-- what holds of a value that is there
+pub if_some : {A : Type 0} (P Q : A → Type 0) (o : Option A) → ((x : A) → P x → Q x) → IfSome o P → IfSome o Q
+if_some P Q None f is = tt
+if_some P Q (Some x) f is = f x is

@@ -2,6 +2,7 @@
 use Rattle.std.proofs.Common.{◌≡◌, ◌≢◌, ◌⊎◌, ℕ, ◌+◌, ◌<◌, ◌≤◌, Bool, true, false, not, ◌&&◌, ◌||◌, ◌==◌, List, ◌∷◌, length, map, drop, slice_get, Option, Some, None, is_some, is_none, if◌then◌else◌, refl, ap, sym, ◌∙◌, subst, inl, inr, arith, eq-eqb, ne_eqb}
 use Rattle.std.proofs.lemmas.Bool.{true≢false, false≢true, and_parts, not-true}
 use Rattle.std.proofs.lemmas.List.{append-nil, length-drop}
+use Rattle.rpc_channel.specs.Rising.{has_id}
 use Rattle.rpc_handlers.specs.declared.event.Memo.{Memo}
 use Rattle.rpc_handlers.specs.HandlerRule.{HandlerRule}
 use Rattle.rpc_journal.specs.declared.call_state.CallState.{CallState}
@@ -30,10 +31,11 @@ use Rattle.rpc_calls.specs.Outside.{SameOutside}
 use Rattle.rpc_calls.specs.Places.{ChangesAt}
 use Rattle.rpc_calls.specs.Room.{uncancelled, running, items_owed, HasPlaces}
 use Rattle.rpc_calls.specs.TableHolds.{StandsFor, HasAllRoom}
-use Rattle.rpc_calls.specs.Turns.{Turns}
+use Rattle.rpc_journal.specs.Turns.{Turns}
 use Rattle.rpc_calls.proofs.KeepLemmas.{keeps_started, has_handler}
 use Rattle.rpc_calls.proofs.OneStep.{TouchesOne, tells_one, keeps_one, counts_one, places_one}
 use Rattle.rpc_calls.proofs.StateLemmas.{StartsHandler}
+use Rattle.rpc_calls.proofs.TouchTables.{at_most_one}
 use Rattle.rpc_calls.proofs.StepLemmas.{over_is}
 
 start_deed : ℕ → ℕ → Deed
@@ -119,6 +121,7 @@ module _ {H : Type 0} (now : H → Memo) (can_act : H → Type 0) (rule : Handle
           calls = calls;
           newest = newest_kept ds d states.newest after.newest stands.tells.newest refl same.newest;
           items = omega (arith, stands.tells.items, same.unflushed, ap length sent);
+          closed = λ x. ap (λ xs. has_id xs x) same.closed ∙ stands.tells.closed x;
           input = same.input ∙ stands.tells.input;
           halt = same.halt ∙ stands.tells.halt;
         };
@@ -156,7 +159,3 @@ room_started at seat c states after items r spare spare' capacity capacity' room
           (λ q x turn open_still. (sym turn.is.status ∙ open_still, omega (arith, ap length turn.is.waiting, length-drop 1 q.waiting.items))) room.places);
       few = omega (arith, room.few, changes.many);
     }
-  where
-    at_most_one : (b : Bool) → (if b then 0 else 1) ≤ 1
-    at_most_one true = omega arith
-    at_most_one false = omega arith

@@ -25,7 +25,7 @@ use Rattle.rpc_calls.specs.Outside.{SameOutside}
 use Rattle.rpc_calls.specs.Places.{ChangesAt}
 use Rattle.rpc_calls.specs.Room.{uncancelled, running, items_owed}
 use Rattle.rpc_calls.specs.TableHolds.{IsTable}
-use Rattle.rpc_calls.specs.Turns.{Turns}
+use Rattle.rpc_journal.specs.Turns.{Turns}
 use Rattle.rpc_calls.proofs.CalmSteps.{table_after}
 use Rattle.rpc_calls.proofs.StartSteps.{ready_row, ready_there, ready_handler, stands_started, room_started}
 
@@ -64,7 +64,7 @@ module _ {H : Type 0} (now : H → Memo) (can_act : H → Type 0) (rule : Handle
       let legal : IsLegal rule set after.entries =
       subst (IsLegal rule set) (sym adds) (legal-push rule set recorded.entries (entry_by seat (Start c)) is.legal (allow set ds (entry_by seat (Start c)) (start_allowed set ds seat c ready below)) tt) in
       subst (λ xs. IsTable now can_act rule set after later left xs capacity') (sym unmoved)
-      (table_after now can_act rule set recorded after seat (Start c) later left items capacity' adds legal is.server
+      (table_after now can_act rule set recorded after seat (Start c) later left items capacity' adds legal
       (stands_started now can_act rule set ds seat c states later handlers left items is.stands ready (changes (length ds)) same many others out)
       (room_started (length ds) seat c states later items row.0 recorded.spare after.spare capacity capacity' is.room there row.1 its (changes (length ds)) same places
       (subst (λ n. length items + items_owed states.calls.items + 513 + (uncancelled states.calls.items + running states.calls.items + 2) + 2 ≤ n) (sym spent) records)))

@@ -35,11 +35,11 @@ over_is ds c r tells = rw (tells.cancelled, ended_is ds c r tells, tells.waiting
 pub record IsCalm (t : Touch) (r : CallState) : Type 0 where
   pub unstarted : t.starts ≡ None
   pub unfinished : t.finishes ≡ false
-  pub put_open : is_some t.puts ≡ true → r.status ≡ None
+  pub put_open : is_empty t.puts ≡ false → r.status ≡ None
 
-no_put : (at : ℕ) (o : Option Event) → is_some o ≡ false → put_at at o ≡ []
-no_put at None none = refl
-no_put at (Some event) none = absurd (true≢false none)
+no_put : (at : ℕ) (events : List Event) → is_empty events ≡ true → put_at at events ≡ []
+no_put at [] none = refl
+no_put at (event ∷ events) none = absurd (false≢true none)
 
 kept_status : (end status : Option Status) → is_some status ≡ true → is_some (or_else end status) ≡ true
 kept_status None status is = is
@@ -59,9 +59,9 @@ over_from false false true true s' e' is first second = rw (first refl refl, sec
 over_from false false true false s' e' is first second = absurd (false≢true is)
 over_from false false false e s' e' is first second = absurd (false≢true is)
 
-puts_none : (o : Option Event) (status : Option Status) → (is_some o ≡ true → status ≡ None) → is_some status ≡ true → is_some o ≡ false
-puts_none None status only is = refl
-puts_none (Some event) status only is = absurd (false≢true (sym (ap is_some (only refl)) ∙ is))
+puts_none : (events : List Event) (status : Option Status) → (is_empty events ≡ false → status ≡ None) → is_some status ≡ true → is_empty events ≡ true
+puts_none [] status only is = refl
+puts_none (event ∷ events) status only is = absurd (false≢true (sym (ap is_some (only refl)) ∙ is))
 
 pub over_stays : (at : ℕ) (t : Touch) (r x : CallState) → IsTouched at t r x → IsCalm t r → over_state r ≡ true → over_state x ≡ true
 over_stays at t r x is calm over =
@@ -70,11 +70,11 @@ over_stays at t r x is calm over =
     (λ ended none. kept_status t.ends r.status ended)
     (λ ended none. rw (no_put at t.puts (puts_none t.puts r.status calm.put_open ended)) (cleared_empty t.clears r.waiting.items none)))
 
-start_none : (b : Bool) (seat : ℕ) → (if b then Some seat else None) ≡ None → b ≡ false
+pub start_none : (b : Bool) (seat : ℕ) → (if b then Some seat else None) ≡ None → b ≡ false
 start_none true seat is = absurd cc
 start_none false seat is = refl
 
-runner_same : (ds : List Deed) (d : Deed) (c : ℕ) → is_start_of c d.entry.kind ≡ false → is_finish_of c d.entry.kind ≡ false
+pub runner_same : (ds : List Deed) (d : Deed) (c : ℕ) → is_start_of c d.entry.kind ≡ false → is_finish_of c d.entry.kind ≡ false
     → runner_of (d ∷ ds) c ≡ runner_of ds c
 runner_same ds d c start finish = rw (start, finish) refl
 

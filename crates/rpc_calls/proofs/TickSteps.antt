@@ -1,5 +1,5 @@
 -- A table over a tick.
-use Rattle.std.proofs.Common.{◌≡◌, ℕ, ◌+◌, ◌<◌, ◌≤◌, Bool, true, false, not, List, ◌∷◌, length, drop, slice_get, Option, Some, None, Ok, is_some, if◌then◌else◌, refl, ap, sym, ◌∙◌, subst, arith, length-append}
+use Rattle.std.proofs.Common.{◌≡◌, ℕ, ◌+◌, ◌<◌, ◌≤◌, Bool, true, false, not, List, [], ◌∷◌, length, drop, slice_get, Option, Some, None, Ok, is_some, if◌then◌else◌, refl, ap, sym, ◌∙◌, subst, arith, length-append}
 use Rattle.std.proofs.lemmas.List.{append-nil}
 use Rattle.std.proofs.lemmas.Option.{slice_get_within}
 use Rattle.std.specs.VecDeque.{deque_capacity}
@@ -20,7 +20,7 @@ use Rattle.rpc_journal.specs.Items.{flush_count, items_sent}
 use Rattle.rpc_journal.specs.Recorded.{Recorded}
 use Rattle.rpc_journal.specs.Refusals.{is_full}
 use Rattle.rpc_journal.specs.Tells.{IsToldAll}
-use Rattle.rpc_journal.specs.Touch.{IsTouched, is_told, put_at, putting, telling, told_event, untouched}
+use Rattle.rpc_journal.specs.Touch.{IsTouched, telling}
 use Rattle.rpc_journal.proofs.LegalLemmas.{keeps_legal}
 use Rattle.rpc_journal.proofs.NewestLemmas.{newest_kept}
 use Rattle.rpc_journal.proofs.NoticeLemmas.{step_told}
@@ -30,45 +30,24 @@ use Rattle.rpc_journal.proofs.VerdictLemmas.{history_length}
 use Rattle.rpc_calls.specs.Places.{ChangesAll}
 use Rattle.rpc_calls.specs.Room.{uncancelled, running, items_owed}
 use Rattle.rpc_calls.specs.TableHolds.{IsTable}
-use Rattle.rpc_calls.specs.Turns.{IsTold}
+use Rattle.rpc_journal.specs.Turns.{IsTold}
 use Rattle.rpc_calls.specs.Widened.{HaveTwoPlaces}
-use Rattle.rpc_calls.proofs.ArriveSteps.{room_grown}
+use Rattle.rpc_calls.proofs.TouchTables.{room_grown}
 use Rattle.rpc_calls.proofs.CalmSteps.{table_after}
-use Rattle.rpc_calls.proofs.NoticeSteps.{notice_deed, notice_keeps, same_counts}
-
--- the places of a call that was told of the time
-one_more : (at : ℕ) (notice : Notice) (r x : CallState) → IsTold at notice r x → length x.waiting.items ≤ length r.waiting.items + 1
-one_more at notice r x told = by (is_told notice r) told.is
-  where
-    by : (b : Bool) → IsTouched at (if b then putting (told_event notice) else untouched) r x → length x.waiting.items ≤ length r.waiting.items + 1
-    by true is = omega (arith, ap length is.waiting, length-append r.waiting.items (put_at at (Some (told_event notice))))
-    by false is = omega (arith, ap length is.waiting, length-append r.waiting.items (put_at at None))
-
--- what a notice leaves as it is
-record IsLeft (r x : CallState) : Type 0 where
-  pub status : x.status ≡ r.status
-  pub cancelled : x.cancelled ≡ r.cancelled
-  pub run : x.run ≡ r.run
-
-left : (at : ℕ) (notice : Notice) (r x : CallState) → IsTold at notice r x → IsLeft r x
-left at notice r x told = by (is_told notice r) told.is
-  where
-    by : (b : Bool) → IsTouched at (if b then putting (told_event notice) else untouched) r x → IsLeft r x
-    by true is = record { status = is.status; cancelled = is.cancelled; run = is.run }
-    by false is = record { status = is.status; cancelled = is.cancelled; run = is.run }
+use Rattle.rpc_calls.proofs.NoticeSteps.{left, notice_deed, notice_keeps, one_more, same_counts}
 
 module _ {H : Type 0} (now : H → Memo) (can_act : H → Type 0) (rule : HandlerRule) (set : Setting) where
   pub table_ticked : (recorded after : Recorded) (seat at time spare : ℕ) (states later : CallStates) (handlers : List (Option H)) (items items' : List Item) (capacity capacity' : ℕ)
       → IsTable now can_act rule set recorded states handlers items capacity → seat ≡ 1 → is_full recorded.entries ≡ false → HaveTwoPlaces states.calls.items
       → at ≡ length recorded.entries → ChangesAll (IsTold at (Time time)) states.calls.items later.calls.items
-      → later.unflushed ≡ states.unflushed → later.input_ended ≡ states.input_ended → later.halted ≡ states.halted → later.newest ≡ states.newest → items' ≡ items
+      → later.unflushed ≡ states.unflushed → later.input_ended ≡ states.input_ended → later.halted ≡ states.halted → later.newest ≡ states.newest → later.closed.items ≡ states.closed.items → items' ≡ items
       → after.entries ≡ adding recorded.entries seat (Tick time) → after.spare + 1 ≡ spare
       → length items + items_owed states.calls.items + 0 ≤ capacity'
       → length items + items_owed states.calls.items + 0 + (uncancelled states.calls.items + running states.calls.items + 2) + 1 ≤ spare
       → IsTable now can_act rule set after later handlers items' capacity'
-  table_ticked recorded after seat at time spare states later handlers items items' capacity capacity' is judged unfilled free place changes unflushed input halt newest same adds spent places records =
+  table_ticked recorded after seat at time spare states later handlers items items' capacity capacity' is judged unfilled free place changes unflushed input halt newest chans same adds spent places records =
       let ds : List Deed = history set recorded.entries in
-      let d : Deed = notice_deed ds seat (Time time) in
+      let d : Deed = notice_deed set.role ds seat (Time time) in
       let sent : items_sent (d ∷ ds) ≡ items_sent ds = append-nil (items_sent ds) in
       let told : IsToldAll (length ds) (Time time) states.calls.items later.calls.items =
       record {
@@ -83,20 +62,26 @@ module _ {H : Type 0} (now : H → Memo) (can_act : H → Type 0) (rule : Handle
       record { unrefused = rw unfilled refl; answer = tt; adds = adds; cause = tt; kept = tt } in
       let laws : KeepsLegal H (Unit {0}) = keeps_legal in
       table_after now can_act rule set recorded after seat (Tick time) later handlers items' capacity' adds
-      (laws.tick rule set seat time (Ok (record {})) recorded.entries after.entries is.legal judged did) is.server
+      (laws.tick rule set seat time (Ok (record {})) recorded.entries after.entries is.legal judged did)
       (record {
         tells = tells_with ds d states later is.stands.tells
-            (step_told ds seat (Tick time) (Time time) states.calls.items later.calls.items (record { start = λ k. refl; finish = λ k. refl; cancel = λ k. refl }) is.stands.tells.calls told)
+            (step_told set.role ds seat (Tick time) (Time time) states.calls.items later.calls.items (record { start = λ k. refl; finish = λ k. refl; cancel = λ k. refl }) is.stands.tells.calls told)
             (newest_kept ds d states.newest later.newest is.stands.tells.newest refl newest)
-            (record { unflushing = refl; going_on = refl; running = refl }) (omega (arith, unflushed)) input halt;
+            (record { unflushing = refl; going_on = refl; running = refl; unclosed = refl }) chans (omega (arith, unflushed)) input halt;
         keeps = notice_keeps now can_act rule set ds seat (Time time) handlers is.stands.keeps;
         queue = same ∙ is.stands.queue ∙ ap (drop (flush_count ds)) (sym sent);
       })
       (room_grown states later items items' 0 after.spare capacity' going busy (omega (arith, ap length same))
-      (record { free = λ k y there unended open_now. place_free k y there unended (sym input ∙ open_now) })
+      (record { one = λ k y there. place_one k y there; free = λ k y there unended open_now. place_free k y there unended (sym input ∙ open_now) })
       (omega (arith, is.room.few, changes.many)) places
       (subst (λ n. length items + items_owed states.calls.items + 0 + (uncancelled states.calls.items + running states.calls.items + 2) + 1 ≤ n) (sym spent) records))
     where
+      place_one : (k : ℕ) (y : CallState) → slice_get later.calls.items k ≡ Some y → 0 < deque_capacity y.waiting
+      place_one k y there =
+          let within : k < length later.calls.items = slice_get_within _ _ _ there in
+          let row = get_some states.calls.items k (omega (arith, within, changes.many)) in
+          omega (arith, (changes.each k row.0 y row.1 there).capacity, is.room.places.one k row.0 row.1)
+
       place_free : (k : ℕ) (y : CallState) → slice_get later.calls.items k ≡ Some y → y.status ≡ None → states.input_ended ≡ false → length y.waiting.items < deque_capacity y.waiting
       place_free k y there unended open_now =
           let within : k < length later.calls.items = slice_get_within _ _ _ there in

@@ -2,6 +2,7 @@
 use Rattle.std.proofs.Common.{◌≡◌, ◌≢◌, ◌⊎◌, ℕ, ◌+◌, ◌<◌, false, not, List, length, slice_get, Option, Some, None, is_some, refl, ap, sym, ◌∙◌, subst, inl, inr, arith}
 use Rattle.std.proofs.lemmas.Option.{slice_get_within}
 use Rattle.std.specs.VecDeque.{deque_capacity}
+use Rattle.rpc_channel.specs.Rising.{has_id}
 use Rattle.rpc_handlers.specs.declared.event.Memo.{Memo}
 use Rattle.rpc_handlers.specs.HandlerRule.{HandlerRule}
 use Rattle.rpc_journal.specs.declared.call_state.CallState.{CallState}
@@ -69,16 +70,15 @@ module _ {H : Type 0} (now : H → Memo) (can_act : H → Type 0) (rule : Handle
   -- a table in which all calls have more places
   pub table_all_wider : (recorded : Recorded) (states mid : CallStates) (handlers : List (Option H)) (items : List Item) (capacity : ℕ)
       → IsTable now can_act rule set recorded states handlers items capacity → ChangesAll IsWider states.calls.items mid.calls.items
-      → mid.unflushed ≡ states.unflushed → mid.input_ended ≡ states.input_ended → mid.halted ≡ states.halted → mid.newest ≡ states.newest
+      → mid.unflushed ≡ states.unflushed → mid.input_ended ≡ states.input_ended → mid.halted ≡ states.halted → mid.newest ≡ states.newest → mid.closed.items ≡ states.closed.items
       → IsTable now can_act rule set recorded mid handlers items capacity
-  table_all_wider recorded states mid handlers items capacity is wide unflushed input halt newest =
+  table_all_wider recorded states mid handlers items capacity is wide unflushed input halt newest chans =
       let going : uncancelled mid.calls.items ≡ uncancelled states.calls.items =
       same_counts (λ r. not r.cancelled) states.calls.items mid.calls.items wide.many (λ k x y was later. ap not (wide.each k x y was later).same.cancelled) in
       let busy : running mid.calls.items ≡ running states.calls.items =
       same_counts (λ r. is_some r.run) states.calls.items mid.calls.items wide.many (λ k x y was later. ap is_some (wide.each k x y was later).same.run) in
       record {
         legal = is.legal;
-        server = is.server;
         stands = record {
           tells = record {
             calls = record {
@@ -89,6 +89,7 @@ module _ {H : Type 0} (now : H → Memo) (can_act : H → Type 0) (rule : Handle
             newest = λ name. ap (λ m. newest_of m name) newest ∙ is.stands.tells.newest name;
             items = ap (λ n. n + flush_count (history set recorded.entries)) unflushed ∙ is.stands.tells.items;
             input = input ∙ is.stands.tells.input;
+            closed = λ x. ap (λ xs. has_id xs x) chans ∙ is.stands.tells.closed x;
             halt = halt ∙ is.stands.tells.halt;
           };
           keeps = is.stands.keeps;
@@ -98,7 +99,7 @@ module _ {H : Type 0} (now : H → Memo) (can_act : H → Type 0) (rule : Handle
           room = subst (λ b. HasRoom mid.calls.items (length items) b (is_some mid.halted) recorded.spare capacity) (sym input)
               (subst (λ o. HasRoom mid.calls.items (length items) states.input_ended (is_some o) recorded.spare capacity) (sym halt)
               (record { items_fit = omega (arith, is.room.room.items_fit, going, busy); entries_fit = omega (arith, is.room.room.entries_fit, going, busy) }));
-          places = record { free = λ k y there unended open_now. place k y there unended (sym input ∙ open_now) };
+          places = record { one = λ k y there. one k y there; free = λ k y there unended open_now. place k y there unended (sym input ∙ open_now) };
           few = omega (arith, is.room.few, wide.many);
         };
       }
@@ -113,6 +114,11 @@ module _ {H : Type 0} (now : H → Memo) (can_act : H → Type 0) (rule : Handle
           let row = old k y there in
           same_tells (history set recorded.entries) k row.0 y (is.stands.tells.calls.each k row.0 row.1) (wide.each k row.0 y row.1 there).same
 
+      one : (k : ℕ) (y : CallState) → slice_get mid.calls.items k ≡ Some y → 0 < deque_capacity y.waiting
+      one k y there =
+          let row = old k y there in
+          omega (arith, (wide.each k row.0 y row.1 there).capacity, is.room.places.one k row.0 row.1)
+
       place : (k : ℕ) (y : CallState) → slice_get mid.calls.items k ≡ Some y → y.status ≡ None → states.input_ended ≡ false → length y.waiting.items < deque_capacity y.waiting
       place k y there unended open_now =
           let row = old k y there in
@@ -125,4 +131,4 @@ module _ {H : Type 0} (now : H → Memo) (can_act : H → Type 0) (rule : Handle
       → IsTable now can_act rule set recorded mid handlers items capacity
   table_widened recorded c states mid handlers items capacity is wide =
       table_all_wider recorded states mid handlers items capacity is (wider_more c states.calls.items states.calls.items mid.calls.items (all_wider_refl states.calls.items) wide.change)
-      wide.unflushed wide.input wide.halt wide.newest
+      wide.unflushed wide.input wide.halt wide.newest wide.closed

@@ -8,7 +8,7 @@ use Rattle.rpc_journal.specs.Calls.{call_count, has_end}
 use Rattle.rpc_journal.specs.Effect.{Deed}
 use Rattle.rpc_journal.specs.declared.answers.Arrived.{Arrived}
 use Rattle.rpc_journal.specs.declared.arrival_move.Move.{Move}
-use Rattle.rpc_journal.specs.declared.arrival_move.Move.TheVariants.{Close, OpenAnew, Queue, Complete}
+use Rattle.rpc_journal.specs.declared.arrival_move.Move.TheVariants.{Close, OpenAnew, Queue, Complete, End, Refuse, Answer}
 use Rattle.rpc_journal.specs.declared.entry.Entry.{Entry}
 use Rattle.rpc_journal.specs.declared.setting.Setting.{Setting}
 use Rattle.rpc_journal.specs.Changes.{ArriveDid}
@@ -47,4 +47,7 @@ IsLiveMove ds (Close c s) = IsLiveCall ds c
 IsLiveMove ds (OpenAnew m c) = IsLiveCall ds c
 IsLiveMove ds (Queue c) = IsLiveCall ds c
 IsLiveMove ds (Complete c) = IsLiveCall ds c
+IsLiveMove ds (End c s) = IsLiveCall ds c
+IsLiveMove ds (Refuse c) = IsLiveCall ds c
+IsLiveMove ds (Answer c s) = IsLiveCall ds c
 IsLiveMove ds _ = Unit {0}

@@ -5,11 +5,9 @@ pub mod Handlers
 pub mod Places
 pub mod Room
 pub mod TableHolds
-pub mod Turns
 pub mod Widened
 pub mod Arrivals
 pub mod CancelItems
-pub mod Still
 pub mod Marks
 pub mod Owed
 pub mod Outside
@@ -17,3 +15,4 @@ pub mod Listed
 pub mod Indexed
 pub mod First
 pub mod Opened
+pub mod Seeds

@@ -7,6 +7,7 @@ pub record SameRest (states after : CallStates) : Type 0 where
   pub unflushed : after.unflushed ≡ states.unflushed
   pub input : after.input_ended ≡ states.input_ended
   pub halt : after.halted ≡ states.halted
+  pub closed : after.closed.items ≡ states.closed.items
 
 -- all but the calls is as it was
 pub record SameOutside (states after : CallStates) : Type 0 where
@@ -14,3 +15,4 @@ pub record SameOutside (states after : CallStates) : Type 0 where
   pub unflushed : after.unflushed ≡ states.unflushed
   pub input : after.input_ended ≡ states.input_ended
   pub halt : after.halted ≡ states.halted
+  pub closed : after.closed.items ≡ states.closed.items

@@ -26,6 +26,7 @@ pub record HasRoom (states : List CallState) (items : ℕ) (ended halted : Bool)
   pub items_fit : items + items_owed states ≤ capacity
   pub entries_fit : items + items_owed states + entries_owed states ended halted ≤ spare
 
--- until the input ends each open call has a place for one more event
+-- until the input ends each open call has a place for one more event, and each call always has one for its end
 pub record HasPlaces (states : List CallState) (ended : Bool) : Type 0 where
+  pub one : (c : ℕ) (r : CallState) → slice_get states c ≡ Some r → 0 < deque_capacity r.waiting
   pub free : (c : ℕ) (r : CallState) → slice_get states c ≡ Some r → r.status ≡ None → ended ≡ false → length r.waiting.items < deque_capacity r.waiting

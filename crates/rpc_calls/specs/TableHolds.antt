@@ -1,6 +1,5 @@
 -- What holds of the parts of a call table.
 use Rattle.std.specs.Prelude.{◌≡◌, ℕ, ◌<◌, ◌^◌, List, length, drop, Option, is_some}
-use Rattle.rpc_ids.specs.declared.method.Role.TheVariants.{Server}
 use Rattle.rpc_handlers.specs.declared.event.Memo.{Memo}
 use Rattle.rpc_handlers.specs.HandlerRule.{HandlerRule}
 use Rattle.rpc_journal.specs.declared.call_states.CallStates.{CallStates}
@@ -27,9 +26,8 @@ pub record HasAllRoom (states : CallStates) (items : List Item) (spare capacity 
   pub places : HasPlaces states.calls.items states.input_ended
   pub few : length states.calls.items < 2 ^ 32
 
--- a server's table: its journal is legal, and its parts stand for it
+-- a table: its journal is legal, and its parts stand for it
 pub record IsTable {H : Type 0} (now : H → Memo) (can_act : H → Type 0) (rule : HandlerRule) (set : Setting) (recorded : Recorded) (states : CallStates) (handlers : List (Option H)) (items : List Item) (capacity : ℕ) : Type 0 where
   pub legal : IsLegal rule set recorded.entries
-  pub server : set.role ≡ Server
   pub stands : StandsFor now can_act rule set (history set recorded.entries) states handlers items
   pub room : HasAllRoom states items recorded.spare capacity

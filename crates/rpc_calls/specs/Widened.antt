@@ -17,6 +17,7 @@ pub record IsWidened (c : ℕ) (states after : CallStates) : Type 0 where
   pub unflushed : after.unflushed ≡ states.unflushed
   pub input : after.input_ended ≡ states.input_ended
   pub halt : after.halted ≡ states.halted
+  pub closed : after.closed.items ≡ states.closed.items
 
 -- there are places for two more events
 abbrev pub HasTwoPlaces : CallState → Type 0

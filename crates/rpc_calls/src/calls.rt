@@ -1,16 +1,25 @@
-//! The table of the calls of a server.
-ghost use Rattle.std.specs.Prelude.{◌≡◌, [], IfOk};
-ghost use Rattle.rpc_ids.specs.declared.method.Role.TheVariants.{Server};
+//! The table of the calls of one end.
+ghost use Rattle.std.specs.Prelude.{◌≡◌, ℕ, ◌≤◌, true, List, [], ◌++◌, length, IfOk};
+ghost use mathlib.Core.List.{IsPrefix};
+ghost use Rattle.rpc_journal.specs.declared.entry.Entry.{Entry};
+ghost use Rattle.rpc_journal.specs.Calls.{ends_of, has_end};
+ghost use Rattle.rpc_journal.specs.History.{history};
+ghost use Rattle.rpc_journal.specs.Items.{items_sent};
 ghost use Rattle.rpc_journal.specs.Lawful.{IsLegal};
+ghost use Rattle.rpc_journal.specs.Laws.{SaysNoMoreOf};
+ghost use Rattle.rpc_calls.specs.Seeds.{IsSeedFor};
 
 mod arriving;
 mod cancels;
+mod closing;
 mod finishing;
 mod flushing;
 mod halting;
+mod invoking;
 mod opening;
 mod questions;
 mod replacing;
+mod saying;
 mod starting;
 mod ticking;
 
@@ -23,7 +32,7 @@ use std::alloc::{AllocError, Global};
 use std::collections::VecDeque;
 use std::marker::Model;
 
-/// The calls of a server, each with its handler, the items that wait to go out, and the journal of all that was done.
+/// The calls of one end, each with its handler, the items that wait to go out, and the journal of all that was done.
 /// Contracts see what is fixed with it, and the entries of its journal.
 #[derive(Drop)]
 pub struct Calls<H: Handler> {
@@ -49,7 +58,8 @@ impl<H: Handler> Model for Calls<H> {
 }
 
 impl<H: Handler> Calls<H> {
-    /// A table of a server without a call. It takes the room for the end of input and for a halt.
+    /// A table without a call. It takes the room for the end of input and for a halt. The seed is that of the maker of a
+    /// server; a client has none.
     pub fn new(
         alloc: Global,
         role: Role,
@@ -57,7 +67,7 @@ impl<H: Handler> Calls<H> {
         registry: Registry,
         seed: Memo,
     ) -> Result<Calls<H>, AllocError>
-        requires { role ≡ Server }
+        requires { IsSeedFor role seed }
         ensures setting { IfOk result (λ t. t.setting ≡ record { role = role; channels = channels; registry = registry; seed = seed }) }
         ensures entries { IfOk result (λ t. t.entries ≡ []) }
     {
@@ -79,18 +89,25 @@ impl<H: Handler> Calls<H> {
         })
     }
 
-    /// The journal of all that was done. It is legal.
+    /// The journal of all that was done. It is legal, and so is each beginning of it; each call has at most one end, and
+    /// no packet of it stands behind that.
     pub fn journal(&self) -> &Journal
         ensures entries { result.now.entries ≡ self.now.entries }
         ensures legal { IsLegal H.rule self.now.setting self.now.entries }
+        ensures beginnings { (h : List Entry) → IsPrefix h self.now.entries → IsLegal H.rule self.now.setting h }
+        ensures once { (c : ℕ) → length (ends_of (history self.now.setting self.now.entries) c) ≤ 1 }
+        ensures silent { (h more : List Entry) (c : ℕ) → h ++ more ≡ self.now.entries → has_end (history self.now.setting h) c ≡ true → SaysNoMoreOf c (items_sent (history self.now.setting h)) (items_sent (history self.now.setting self.now.entries)) }
     {
         &self.journal
     }
 
-    /// The journal alone.
+    /// The journal alone. The same holds of it.
     pub fn into_journal(self) -> Journal
         ensures entries { result.entries ≡ self.entries }
         ensures legal { IsLegal H.rule self.setting self.entries }
+        ensures beginnings { (h : List Entry) → IsPrefix h self.entries → IsLegal H.rule self.setting h }
+        ensures once { (c : ℕ) → length (ends_of (history self.setting self.entries) c) ≤ 1 }
+        ensures silent { (h more : List Entry) (c : ℕ) → h ++ more ≡ self.entries → has_end (history self.setting h) c ≡ true → SaysNoMoreOf c (items_sent (history self.setting h)) (items_sent (history self.setting self.entries)) }
     {
         self.journal
     }

@@ -4,60 +4,44 @@ ghost use Rattle.std.specs.VecDeque.{deque_len, deque_capacity};
 ghost use Rattle.rpc_journal.specs.declared.call_state.CallState.{CallState};
 ghost use Rattle.rpc_journal.specs.Touch.{cancelling};
 ghost use Rattle.rpc_calls.specs.CancelItems.{cancel_items};
-ghost use Rattle.rpc_journal.specs.Rows.{sends, status_packet};
-ghost use Rattle.rpc_packet.specs.declared.packet_type.PacketType.TheVariants.{ServerError};
 ghost use Rattle.rpc_calls.specs.Places.{ChangesAt};
-ghost use Rattle.rpc_calls.specs.Turns.{Turns};
+ghost use Rattle.rpc_journal.specs.Turns.{Turns};
 
-use crate::answer_items::leave_item;
 use crate::indexed_states::IndexedStates;
-use bytes::Bytes;
-use rpc_ids::Status;
-use rpc_journal::{Act, CallState, Item};
-use rpc_packet::{CallName, Packet, PacketType};
+use crate::packets::{error_type, leave_item, send_item, status_packet};
+use rpc_ids::{Role, Status};
+use rpc_journal::{CallState, Item};
 use std::collections::VecDeque;
 
 /// Cancels this call. There is room for two items.
-pub fn cancel_call(states: &mut IndexedStates, items: &mut VecDeque<Item>, call: u32)
+pub fn cancel_call(states: &mut IndexedStates, items: &mut VecDeque<Item>, role: Role, call: u32)
     requires there { call < length states.old.calls.items }
     requires room { deque_len items.old + 2 ≤ deque_capacity items.old }
-    ensures items { (r : CallState) → slice_get states.old.calls.items call ≡ Some r → items.new.items ≡ items.old.items ++ cancel_items call r.name (is_some r.status) (is_some r.run) }
+    ensures items { (r : CallState) → slice_get states.old.calls.items call ≡ Some r → items.new.items ≡ items.old.items ++ cancel_items role call r.name (is_some r.status) (is_some r.run) }
     ensures capacity { deque_capacity items.new ≡ deque_capacity items.old }
     ensures change { (at : ℕ) → ChangesAt call (λ r x. Turns at (cancelling r.status) r x) states.old.calls.items states.new.calls.items }
     ensures newest { states.new.newest ≡ states.old.newest }
     ensures unflushed { states.new.unflushed ≡ length items.new.items }
     ensures input { states.new.input_ended ≡ states.old.input_ended }
     ensures halt { states.new.halted ≡ states.old.halted }
+    ensures closed { states.new.closed.items ≡ states.old.closed.items }
 {
-    say_cancel(&states.all().calls[call as usize], items, call);
+    say_cancel(&states.all().calls[call as usize], items, role, call);
     states.cancel(call);
     states.set_unflushed(items.len() as u64);
 }
 
-fn say_cancel(state: &CallState, items: &mut VecDeque<Item>, call: u32)
+fn say_cancel(state: &CallState, items: &mut VecDeque<Item>, role: Role, call: u32)
     requires { deque_len items.old + 2 ≤ deque_capacity items.old }
-    ensures items { items.new.items ≡ items.old.items ++ cancel_items call state.now.name (is_some state.now.status) (is_some state.now.run) }
+    ensures items { items.new.items ≡ items.old.items ++ cancel_items role call state.now.name (is_some state.now.status) (is_some state.now.run) }
     ensures capacity { deque_capacity items.new ≡ deque_capacity items.old }
 {
     if state.status.is_none() {
-        items.push_back_reserved(cancelled_item(call, state.name));
+        let packet = status_packet(error_type(role), state.name, Status::Cancelled);
+        items.push_back_reserved(send_item(call, packet));
     }
     if state.run.is_none() {
         items.push_back_reserved(leave_item(call));
-    }
-}
-
-fn cancelled_item(call: u32, name: CallName) -> Item
-    ensures { result ≡ sends call (status_packet ServerError name Status.Cancelled) }
-{
-    Item {
-        call: Some(call),
-        act: Act::Send(Packet {
-            ptype: PacketType::ServerError,
-            name,
-            payload: Bytes::new(),
-            status: Status::Cancelled.number(),
-        }),
     }
 }
 

@@ -12,6 +12,13 @@ pub struct Copies {
     pub end: Option<End>,
 }
 
+/// A copy of a message or of a store action.
+pub fn copy_out(out: &Out) -> Result<Out, AllocError>
+    ensures { IfOk result (λ copy. copy ≡ out.now) }
+{
+    out.clone()
+}
+
 /// A copy of an answer.
 pub fn copy_answer(alloc: Global, answer: &Answer) -> Result<Copies, AllocError>
     ensures items { IfOk result (λ k. k.outs.items ≡ answer.now.items) }

@@ -2,16 +2,16 @@
 ghost use Rattle.std.specs.Prelude.{◌≡◌, ℕ, ◌+◌, ◌<◌, ◌++◌, length, slice_get, Some};
 ghost use Rattle.std.specs.VecDeque.{deque_len, deque_capacity};
 ghost use Rattle.rpc_journal.specs.declared.call_state.CallState.{CallState};
-ghost use Rattle.rpc_journal.specs.Touch.{finishing, hears_answer};
-ghost use Rattle.rpc_calls.specs.AnswerItems.{answer_items, end_given};
+ghost use Rattle.rpc_journal.specs.Touch.{finishing_so};
+ghost use Rattle.rpc_calls.specs.AnswerItems.{answer_items, completes_given, end_given};
 ghost use Rattle.rpc_calls.specs.Handlers.{over_state};
 ghost use Rattle.rpc_calls.specs.Places.{ChangesAt};
-ghost use Rattle.rpc_calls.specs.Turns.{Turns};
+ghost use Rattle.rpc_journal.specs.Turns.{Turns};
 
 use crate::answer_items::say_answer;
 use crate::copies::Copies;
 use crate::indexed_states::IndexedStates;
-use rpc_ids::Status;
+use rpc_ids::Role;
 use rpc_journal::{CallState, Item};
 use std::collections::VecDeque;
 
@@ -19,48 +19,32 @@ use std::collections::VecDeque;
 pub fn end_run(
     states: &mut IndexedStates,
     items: &mut VecDeque<Item>,
+    role: Role,
     call: u32,
     copies: Copies,
 ) -> bool
     requires there { call < length states.old.calls.items }
     requires room { deque_len items.old + deque_len copies.outs < deque_capacity items.old }
-    ensures items { (r : CallState) → slice_get states.old.calls.items call ≡ Some r → items.new.items ≡ items.old.items ++ answer_items call r.name r.method.kind r.cancelled (hears_answer r) copies.outs.items copies.end }
+    ensures items { (r : CallState) → slice_get states.old.calls.items call ≡ Some r → items.new.items ≡ items.old.items ++ answer_items role call r copies.outs.items copies.end }
     ensures capacity { deque_capacity items.new ≡ deque_capacity items.old }
-    ensures change { (at : ℕ) (r : CallState) → slice_get states.old.calls.items call ≡ Some r → ChangesAt call (Turns at (finishing (end_given r.cancelled (hears_answer r) copies.end))) states.old.calls.items states.new.calls.items }
+    ensures change { (at : ℕ) (r : CallState) → slice_get states.old.calls.items call ≡ Some r → ChangesAt call (Turns at (finishing_so (end_given role r copies.end) (completes_given role r copies.end))) states.old.calls.items states.new.calls.items }
     ensures newest { states.new.newest ≡ states.old.newest }
     ensures unflushed { states.new.unflushed ≡ length items.new.items }
     ensures input { states.new.input_ended ≡ states.old.input_ended }
     ensures halt { states.new.halted ≡ states.old.halted }
+    ensures closed { states.new.closed.items ≡ states.old.closed.items }
     ensures over { (x : CallState) → slice_get states.new.calls.items call ≡ Some x → result ≡ over_state x }
 {
-    let end = say_run(&states.all().calls[call as usize], items, call, copies);
-    states.finish(call, end);
+    let end = say_answer(
+        items,
+        role,
+        call,
+        &states.all().calls[call as usize],
+        copies,
+    );
+    states.finish(call, end.status, end.completes);
     states.set_unflushed(items.len() as u64);
     is_over(&states.all().calls[call as usize])
-}
-
-// What the run of a call in this state says, and the end that it gives to the call.
-fn say_run(
-    state: &CallState,
-    items: &mut VecDeque<Item>,
-    call: u32,
-    copies: Copies,
-) -> Option<Status>
-    requires { deque_len items.old + deque_len copies.outs < deque_capacity items.old }
-    ensures items { items.new.items ≡ items.old.items ++ answer_items call state.now.name state.now.method.kind state.now.cancelled (hears_answer state.now) copies.outs.items copies.end }
-    ensures end { result ≡ end_given state.now.cancelled (hears_answer state.now) copies.end }
-    ensures capacity { deque_capacity items.new ≡ deque_capacity items.old }
-{
-    let heard = state.hears_answer();
-    say_answer(
-        items,
-        call,
-        state.name,
-        state.method.kind,
-        state.cancelled,
-        heard,
-        copies,
-    )
 }
 
 /// Whether no further run of a call in this state can begin.

@@ -1,28 +1,18 @@
 //! A call is told of the time, or of the end of the input.
 ghost use Rattle.std.specs.Prelude.{◌≡◌, ◌<◌, length, slice_get, Some, true};
-ghost use Rattle.std.specs.VecDeque.{deque_len, deque_capacity};
+ghost use Rattle.std.specs.VecDeque.{deque_capacity};
 ghost use Rattle.rpc_journal.specs.declared.call_state.CallState.{CallState};
-ghost use Rattle.rpc_journal.specs.Touch.{is_told};
+ghost use Rattle.rpc_journal.specs.Touch.{events_kept, is_told};
 ghost use Rattle.rpc_calls.specs.Places.{ChangesAt};
-ghost use Rattle.rpc_calls.specs.Turns.{IsTold};
+ghost use Rattle.rpc_journal.specs.Turns.{IsTold};
 
-use crate::state_changes::put;
 use rpc_journal::{CallState, Notice};
 
 /// The call is told of this, where it is to be. There is a place for it.
 pub fn tell_at(calls: &mut Vec<CallState>, call: usize, at: u64, notice: Notice)
     requires there { call < length calls.old.items }
-    requires place { (r : CallState) → slice_get calls.old.items call ≡ Some r → is_told notice r ≡ true → deque_len r.waiting < deque_capacity r.waiting }
+    requires place { (r : CallState) → slice_get calls.old.items call ≡ Some r → is_told notice r ≡ true → events_kept notice r < deque_capacity r.waiting }
     ensures { ChangesAt call (IsTold at notice) calls.old.items calls.new.items }
 {
-    tell(&mut calls[call], at, notice);
-}
-
-fn tell(state: &mut CallState, at: u64, notice: Notice)
-    requires { is_told notice state.old ≡ true → deque_len state.old.waiting < deque_capacity state.old.waiting }
-    ensures { IsTold at notice state.old state.new }
-{
-    if state.is_told(notice) {
-        put(state, at, notice.event());
-    }
+    calls[call].tell(at, notice);
 }

@@ -1,5 +1,8 @@
-//! A server's table at work.
+//! Tables at work.
 
+mod client;
+mod client_desk;
+mod closing;
 mod desk;
 mod letters;
 mod limits;

@@ -1,7 +1,8 @@
 //! Packets arrive.
 ghost use Rattle.std.specs.Prelude.{◌≡◌, IfOk, OnErr};
-ghost use Rattle.rpc_packet.specs.declared.packet_type.PacketType.TheVariants.{ServerError};
-ghost use Rattle.rpc_journal.specs.Rows.{closed, dropped, ends_and_clears, queued, replied};
+ghost use Rattle.rpc_handlers.specs.declared.event.Event.TheVariants.{Message};
+ghost use Rattle.rpc_journal.specs.ClientTable.{refuses_stream};
+ghost use Rattle.rpc_journal.specs.Rows.{both, closed, dropped, ends_and_clears, ends_call, puts_event, queued, replied};
 ghost use Rattle.rpc_journal.specs.Table.{past};
 ghost use Rattle.rpc_calls.specs.Arrivals.{CanTake, IsLiveCall, IsLiveMove, Took, event_put};
 ghost use Rattle.rpc_journal.specs.Calls.{call_count};
@@ -12,17 +13,17 @@ ghost use Rattle.rpc_journal.specs.Lawful.{IsLegal, full_queue as queue_full};
 ghost use Rattle.rpc_journal.specs.Moves.{row_of};
 
 use super::Calls;
-use crate::replies::{copy_packet, copy_with_event, reply};
+use crate::replies::{copy_packet, copy_with_event, copy_with_payload, refuse_stream, reply};
 use crate::room::take_room;
 use rpc_handlers::{Handler, Maker};
 use rpc_ids::Status;
-use rpc_journal::{ArriveRefused, Arrived, Entry, EntryKind, MAX_ENTRIES, Move, server_move};
-use rpc_packet::Packet;
+use rpc_journal::{ArriveRefused, Arrived, Entry, EntryKind, MAX_ENTRIES, Move, move_at};
+use rpc_packet::{Packet, PacketType};
 use std::alloc::AllocError;
 
 impl<H: Handler> Calls<H> {
-    /// A packet arrives. It is for a server to hear, none of its ids is 0, and the input hasn't ended. The maker's seed is
-    /// the one of the table; it makes the handler of a call that opens.
+    /// A packet arrives. It is one that this role hears, none of its ids is 0, and the input hasn't ended. The maker's seed
+    /// is the one of the table; it makes the handler of a call that opens.
     pub fn arrive<M: Maker<H = H>>(
         &mut self,
         seat: u32,
@@ -54,7 +55,8 @@ impl<H: Handler> Calls<H> {
         ensures row { arrive_row self.now.setting (past self.now) p.now ≡ row_of result p.now (call_count (past self.now)) }
         ensures live { IsLiveMove (past self.now) result }
     {
-        server_move(
+        move_at(
+            self.setting.role,
             self.states.all(),
             p,
             &self.setting.channels,
@@ -88,7 +90,10 @@ impl<H: Handler> Calls<H> {
     {
         match arrival {
             Move::Drop => self.arrive_dropped(seat, p),
-            Move::Reply(status) => self.arrive_replied(seat, p, status),
+            Move::Reply(status) => self.arrive_replied(seat, p, PacketType::ServerError, status),
+            Move::Stray => {
+                self.arrive_replied(seat, p, PacketType::ClientError, Status::FailedPrecondition)
+            }
             Move::Close(call, status) => self.arrive_closed(seat, p, call as u32, status),
             Move::Open(method) => {
                 let handler = maker.make(method)?;
@@ -100,6 +105,9 @@ impl<H: Handler> Calls<H> {
             }
             Move::Queue(call) => self.arrive_put(seat, p, call as u32, false),
             Move::Complete(call) => self.arrive_put(seat, p, call as u32, true),
+            Move::End(call, status) => self.arrive_ended(seat, p, call as u32, status),
+            Move::Refuse(call) => self.arrive_refused(seat, p, call as u32),
+            Move::Answer(call, status) => self.arrive_answered(seat, p, call as u32, status),
         }
     }
 
@@ -124,16 +132,17 @@ impl<H: Handler> Calls<H> {
         &mut self,
         seat: u32,
         p: &Packet,
+        ptype: PacketType,
         status: Status,
     ) -> Result<Arrived, AllocError>
-        requires { CanTake self.old.setting self.old.entries seat p.now (replied ServerError p.now status) }
+        requires { CanTake self.old.setting self.old.entries seat p.now (replied ptype p.now status) }
         ensures took { IfOk result (λ a. Took H.rule self.old.setting seat p.now a self.old.entries self.new.entries) }
         ensures setting { self.new.setting ≡ self.old.setting }
         ensures err { OnErr result (self.new ≡ self.old) }
     {
         take_room(&mut self.journal, &mut self.items, self.states.owed(), 1, 1)?;
         let packet = copy_packet(p)?;
-        reply(&mut self.items, p.name, status);
+        reply(&mut self.items, ptype, p.name, status);
         self.states.set_unflushed(self.items.len() as u64);
         self.journal.push(Entry {
             seat,
@@ -191,5 +200,77 @@ impl<H: Handler> Calls<H> {
             kind: EntryKind::Arrive(packet),
         });
         Ok(Arrived::Queued(call))
+    }
+
+    // A packet that ends a client's call, behind what waits for it.
+    fn arrive_ended(
+        &mut self,
+        seat: u32,
+        p: &Packet,
+        call: u32,
+        status: Status,
+    ) -> Result<Arrived, AllocError>
+        requires take { CanTake self.old.setting self.old.entries seat p.now (closed call (ends_call call status)) }
+        requires live { IsLiveCall (past self.old) call }
+        ensures took { IfOk result (λ a. Took H.rule self.old.setting seat p.now a self.old.entries self.new.entries) }
+        ensures setting { self.new.setting ≡ self.old.setting }
+        ensures err { OnErr result (self.new ≡ self.old) }
+    {
+        let at = self.journal.len();
+        take_room(&mut self.journal, &mut self.items, self.states.owed(), 0, 1)?;
+        let packet = copy_packet(p)?;
+        self.states.end(call, at, status);
+        self.journal.push(Entry {
+            seat,
+            kind: EntryKind::Arrive(packet),
+        });
+        Ok(Arrived::Closed(call))
+    }
+
+    // A message of a stream that a client's call doesn't have: the call ends, and the server is told.
+    fn arrive_refused(&mut self, seat: u32, p: &Packet, call: u32) -> Result<Arrived, AllocError>
+        requires take { CanTake self.old.setting self.old.entries seat p.now (closed call (refuses_stream p.now call)) }
+        requires live { IsLiveCall (past self.old) call }
+        ensures took { IfOk result (λ a. Took H.rule self.old.setting seat p.now a self.old.entries self.new.entries) }
+        ensures setting { self.new.setting ≡ self.old.setting }
+        ensures err { OnErr result (self.new ≡ self.old) }
+    {
+        let at = self.journal.len();
+        take_room(&mut self.journal, &mut self.items, self.states.owed(), 1, 1)?;
+        let packet = copy_packet(p)?;
+        refuse_stream(&mut self.items, call, p.name);
+        self.states.end(call, at, Status::InvalidArgument);
+        self.states.set_unflushed(self.items.len() as u64);
+        self.journal.push(Entry {
+            seat,
+            kind: EntryKind::Arrive(packet),
+        });
+        Ok(Arrived::Closed(call))
+    }
+
+    // A packet that ends a client's call with a last message.
+    fn arrive_answered(
+        &mut self,
+        seat: u32,
+        p: &Packet,
+        call: u32,
+        status: Status,
+    ) -> Result<Arrived, AllocError>
+        requires take { CanTake self.old.setting self.old.entries seat p.now (closed call (both (puts_event call (Message p.now.payload)) (ends_call call status))) }
+        requires live { IsLiveCall (past self.old) call }
+        ensures took { IfOk result (λ a. Took H.rule self.old.setting seat p.now a self.old.entries self.new.entries) }
+        ensures setting { self.new.setting ≡ self.old.setting }
+        ensures err { OnErr result (self.new ≡ self.old) }
+    {
+        let at = self.journal.len();
+        self.states.widen(call)?;
+        take_room(&mut self.journal, &mut self.items, self.states.owed(), 0, 1)?;
+        let (packet, payload) = copy_with_payload(p)?;
+        self.states.answer(call, at, payload, status);
+        self.journal.push(Entry {
+            seat,
+            kind: EntryKind::Arrive(packet),
+        });
+        Ok(Arrived::Closed(call))
     }
 }

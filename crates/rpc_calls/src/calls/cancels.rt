@@ -66,7 +66,7 @@ impl<H: Handler> Calls<H> {
         ensures legal { IsLegal H.rule self.new.setting self.new.entries }
     {
         let runs = self.states.all().calls[call as usize].run.is_some();
-        cancel_call(&mut self.states, &mut self.items, call);
+        cancel_call(&mut self.states, &mut self.items, self.setting.role, call);
         let_go(&mut self.handlers, call as usize, runs);
         self.journal.push(Entry {
             seat,

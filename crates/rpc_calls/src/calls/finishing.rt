@@ -1,5 +1,5 @@
 //! Runs end.
-ghost use Rattle.std.specs.Prelude.{◌≡◌, Some};
+ghost use Rattle.std.specs.Prelude.{◌≡◌, Some, IfSome};
 ghost use Rattle.rpc_journal.specs.Changes.{FinishDid};
 ghost use Rattle.rpc_journal.specs.Lawful.{IsLegal};
 ghost use Rattle.rpc_journal.specs.Runs.{IsRunning};
@@ -19,6 +19,7 @@ impl<H: Handler> Calls<H> {
         requires on { IsRunning H.rule self.old.setting self.old.entries running.run }
         requires answered { running.answer ≡ Some running.gives }
         ensures did { (h : H) × (H.now h ≡ running.moves) × FinishDid self.old.setting running.run running.gives h result self.old.entries self.new.entries }
+        ensures able { IfSome result H.can_act }
         ensures setting { self.new.setting ≡ self.old.setting }
         ensures legal { IsLegal H.rule self.new.setting self.new.entries }
     {
@@ -29,7 +30,8 @@ impl<H: Handler> Calls<H> {
             answer,
             copies,
         } = running.into_answered();
-        let over = end_run(&mut self.states, &mut self.items, call, copies);
+        let role = self.setting.role;
+        let over = end_run(&mut self.states, &mut self.items, role, call, copies);
         let back = put_back(&mut self.handlers, call as usize, handler, over);
         self.journal.push(Entry {
             seat,

@@ -16,7 +16,7 @@ use rpc_packet::Packet;
 use std::alloc::AllocError;
 
 /// How many calls a table can have, so that a `u32` numbers them.
-const MAX_CALLS: usize = u32::MAX as usize;
+pub(super) const MAX_CALLS: usize = u32::MAX as usize;
 
 impl<H: Handler> Calls<H> {
     // A packet that opens a call.

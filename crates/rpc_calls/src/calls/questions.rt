@@ -1,18 +1,18 @@
 //! What a table tells of its calls.
-ghost use Rattle.std.specs.Prelude.{◌≡◌, ◌&&◌, length, Some, option_map};
+ghost use Rattle.std.specs.Prelude.{◌≡◌, ◌≤◌, ◌&&◌, length, Some, option_map};
 ghost use Rattle.rpc_journal.specs.Calls.{call_at, call_count, end_of};
 ghost use Rattle.rpc_journal.specs.Conditions.{IsCall};
 ghost use Rattle.rpc_journal.specs.Items.{halt_reason, input_ended as no_input_left};
 ghost use Rattle.rpc_journal.specs.Queues.{waiting_of};
 ghost use Rattle.rpc_journal.specs.Marks.{is_empty};
-ghost use Rattle.rpc_journal.specs.Quiet.{all_below, is_settled as settles};
+ghost use Rattle.rpc_journal.specs.Quiet.{all_below, is_settled as settles, none_runs};
 ghost use Rattle.rpc_journal.specs.Table.{past};
 
 use super::Calls;
-use crate::still::all_still;
 use link_io::Why;
 use rpc_handlers::Handler;
 use rpc_ids::{MethodRef, Status};
+use rpc_journal::CallState;
 use rpc_packet::CallName;
 
 impl<H: Handler> Calls<H> {
@@ -57,21 +57,20 @@ impl<H: Handler> Calls<H> {
         self.states.all().halted
     }
 
-    // Whether the input has ended.
-    #[cfg(test)]
-    pub(crate) fn input_ended(&self) -> bool
+    /// Whether the input has ended.
+    pub fn input_ended(&self) -> bool
         ensures { result ≡ no_input_left (past self.now) }
     {
         self.states.all().input_ended
     }
 
-    /// How many events wait for this call.
-    pub fn waiting(&self, call: u32) -> u64
+    /// How many events wait for this call: at most 64 other than `Ended`, and one `Ended`.
+    pub fn waiting(&self, call: u32) -> u32
         requires { IsCall self.now.setting self.now.entries call }
         ensures { result ≡ length (waiting_of (past self.now) call) }
     {
         match self.states.all().state(call) {
-            Some(state) => state.waiting.len() as u64,
+            Some(state) => count_waiting(state),
             None => 0,
         }
     }
@@ -83,19 +82,41 @@ impl<H: Handler> Calls<H> {
         self.states.none_waiting()
     }
 
+    /// Whether no call runs.
+    pub fn none_running(&self) -> bool
+        ensures { result ≡ none_runs (past self.now) }
+    {
+        self.states.none_running()
+    }
+
+    /// Whether no handler has anything left to do: the input has ended, no call runs, and no event waits.
+    pub fn idle(&self) -> bool
+        ensures { result ≡ (no_input_left (past self.now) && none_runs (past self.now) && all_below (call_count (past self.now)) (λ c. is_empty (waiting_of (past self.now) c))) }
+    {
+        self.input_ended() && self.none_running() && self.none_waiting()
+    }
+
     /// Whether nothing is left to do: the input has ended, no call runs, no event of a call that wasn't cancelled waits,
     /// and no item does.
     pub fn settled(&self) -> bool
         ensures { result ≡ settles (past self.now) }
     {
-        let still = all_still(self.states.all());
+        let idle = self.idle();
         let flushed = self.items.is_empty();
-        is_settled(self.states.all().input_ended, still, flushed)
+        is_settled(idle, flushed)
     }
 }
 
-fn is_settled(ended: bool, still: bool, flushed: bool) -> bool
-    ensures { result ≡ (ended && still && flushed) }
+// How many events wait for a call in this state.
+fn count_waiting(state: &CallState) -> u32
+    requires { length state.now.waiting.items ≤ 65 }
+    ensures { result ≡ length state.now.waiting.items }
 {
-    ended && still && flushed
+    state.waiting.len() as u32
+}
+
+fn is_settled(idle: bool, flushed: bool) -> bool
+    ensures { result ≡ (idle && flushed) }
+{
+    idle && flushed
 }

@@ -1,8 +1,10 @@
 //! Handlers are replaced.
-ghost use Rattle.std.specs.Prelude.{◌≡◌, Ok, None, IfOk, OnOk, OnErr};
+ghost use Rattle.std.specs.Prelude.{◌≡◌, Some, Ok, None, IfOk, IfErr, IfSome, OnOk, OnErr, IsTrue};
 ghost use Rattle.rpc_journal.specs.Changes.{ReplaceDid};
 ghost use Rattle.rpc_journal.specs.Lawful.{IsLegal};
 ghost use Rattle.rpc_journal.specs.Refusals.{replace_refusal as refusal_of};
+ghost use Rattle.rpc_journal.specs.States.{state_of};
+ghost use Rattle.rpc_journal.specs.Table.{past};
 
 use super::Calls;
 use crate::handlers::swap_handler;
@@ -22,6 +24,9 @@ impl<H: Handler> Calls<H> {
     ) -> Result<Option<H>, (H, ReplaceRefused)>
         requires { H.can_act handler }
         ensures did { ReplaceDid self.old.setting seat call (H.now handler) result self.old.entries self.new.entries }
+        ensures back { IfErr result (λ e. e.0 ≡ handler) }
+        ensures able { IfOk result (λ old. IfSome old H.can_act) }
+        ensures state { IfOk result (λ old. IfSome old (λ h. IsTrue H.rule.ruled → state_of H.rule self.old.setting (past self.old) call ≡ Some (H.now h))) }
         ensures setting { self.new.setting ≡ self.old.setting }
         ensures legal { IsLegal H.rule self.new.setting self.new.entries }
     {
@@ -61,6 +66,9 @@ impl<H: Handler> Calls<H> {
         requires unrefused { refusal_of self.old.setting self.old.entries call ≡ None }
         requires able { H.can_act handler }
         ensures did { IfOk result (λ old. ReplaceDid self.old.setting seat call (H.now handler) (Ok old) self.old.entries self.new.entries) }
+        ensures back { IfErr result (λ e. e.0 ≡ handler) }
+        ensures able { IfOk result (λ old. IfSome old H.can_act) }
+        ensures state { IfOk result (λ old. IfSome old (λ h. IsTrue H.rule.ruled → state_of H.rule self.old.setting (past self.old) call ≡ Some (H.now h))) }
         ensures legal { OnOk result (IsLegal H.rule self.new.setting self.new.entries) }
         ensures setting { self.new.setting ≡ self.old.setting }
         ensures err { OnErr result (self.new ≡ self.old) }

@@ -2,7 +2,6 @@
 ghost use Rattle.std.specs.Prelude.{◌≡◌, true, None, IfOk, IfSome, IfNone, OnErr};
 ghost use Rattle.rpc_journal.specs.Changes.{StartDid, StartOfDid};
 ghost use Rattle.rpc_journal.specs.Choice.{IsFirstReady, NoneReady};
-ghost use Rattle.rpc_journal.specs.Conditions.{IsCall};
 ghost use Rattle.rpc_journal.specs.Items.{is_ready};
 ghost use Rattle.rpc_journal.specs.Lawful.{IsLegal};
 ghost use Rattle.rpc_journal.specs.Runs.{Begins};
@@ -19,9 +18,8 @@ use rpc_journal::{Entry, EntryKind, MAX_ENTRIES, StartOfRefused, StartRefused};
 use std::alloc::AllocError;
 
 impl<H: Handler> Calls<H> {
-    /// Begins a run of this call with the oldest event that waits for it.
+    /// Begins a run of this call with the oldest event that waits for it. A number of no call is not ready.
     pub fn start_of(&mut self, seat: u32, call: u32) -> Result<Running<H>, StartOfRefused>
-        requires { IsCall self.old.setting self.old.entries call }
         ensures did { StartOfDid H.rule run_in self.old.setting seat call result self.old.entries self.new.entries }
         ensures unasked { IfOk result (λ r. r.answer ≡ None) }
         ensures setting { self.new.setting ≡ self.old.setting }

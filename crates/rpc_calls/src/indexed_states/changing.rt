@@ -1,17 +1,21 @@
 //! Changes of one call.
 ghost use Rattle.std.specs.Prelude.{◌≡◌, ℕ, ◌<◌, ◌≤◌, ◌+◌, ◌∷◌, OnOk, false, true, length, slice_get, is_some, Some, None};
 ghost use Rattle.std.specs.VecDeque.{deque_capacity};
+ghost use Rattle.rpc_handlers.specs.declared.event.Event.TheVariants.{Message};
 ghost use Rattle.rpc_journal.specs.declared.call_state.CallState.{CallState};
 ghost use Rattle.rpc_journal.specs.Marks.{is_empty};
-ghost use Rattle.rpc_journal.specs.Touch.{starting, finishing, cancelling, closing, putting};
+ghost use Rattle.rpc_journal.specs.Touch.{starting, finishing_so, cancelling, closing, putting, ending, answering, completing};
 ghost use Rattle.rpc_calls.specs.Outside.{SameOutside};
 ghost use Rattle.rpc_calls.specs.Places.{ChangesAt};
-ghost use Rattle.rpc_calls.specs.Turns.{Turns};
+ghost use Rattle.rpc_journal.specs.Turns.{Turns};
 ghost use Rattle.rpc_calls.specs.Widened.{IsWidened};
 
 use super::IndexedStates;
 use crate::marks::Marks;
-use crate::state_changes::{cancel_at, close_at, finish_at, put_at, start_at, widen_at};
+use crate::state_changes::{
+    answer_at, cancel_at, close_at, complete_at, end_at, finish_at, put_at, start_at, widen_at,
+};
+use bytes::Bytes;
 use rpc_handlers::Event;
 use rpc_ids::Status;
 use rpc_journal::Waiting;
@@ -33,15 +37,16 @@ impl IndexedStates {
         oldest
     }
 
-    /// The run of the call ends, and with it the call where its answer gives an end.
-    pub fn finish(&mut self, call: u32, end: Option<Status>)
+    /// The run of the call ends, and with it the call where its answer gives an end; or it completes the stream that a
+    /// client sends.
+    pub fn finish(&mut self, call: u32, end: Option<Status>, completes: bool)
         requires there { call < length self.old.calls.items }
         requires once { is_some end ≡ true → (r : CallState) → slice_get self.old.calls.items call ≡ Some r → r.status ≡ None }
-        ensures change { (at : ℕ) → ChangesAt call (Turns at (finishing end)) self.old.calls.items self.new.calls.items }
+        ensures change { (at : ℕ) → ChangesAt call (Turns at (finishing_so end completes)) self.old.calls.items self.new.calls.items }
         ensures outside { SameOutside self.old self.new }
     {
         let was = Marks::at(&self.states, call);
-        finish_at(&mut self.states.calls, call as usize, end);
+        finish_at(&mut self.states.calls, call as usize, end, completes);
         let is = Marks::at(&self.states, call);
         self.index.change(call, was, is);
     }
@@ -81,6 +86,46 @@ impl IndexedStates {
     {
         let was = Marks::at(&self.states, call);
         put_at(&mut self.states.calls, call as usize, at, event);
+        let is = Marks::at(&self.states, call);
+        self.index.change(call, was, is);
+    }
+
+    /// The server ends the call: its end waits behind its other events. There is a place for it.
+    pub fn end(&mut self, call: u32, at: u64, status: Status)
+        requires there { call < length self.old.calls.items }
+        requires live { (r : CallState) → slice_get self.old.calls.items call ≡ Some r → r.status ≡ None }
+        requires place { (r : CallState) → slice_get self.old.calls.items call ≡ Some r → length r.waiting.items < deque_capacity r.waiting }
+        ensures change { ChangesAt call (Turns at (ending status)) self.old.calls.items self.new.calls.items }
+        ensures outside { SameOutside self.old self.new }
+    {
+        let was = Marks::at(&self.states, call);
+        end_at(&mut self.states.calls, call as usize, at, status);
+        let is = Marks::at(&self.states, call);
+        self.index.change(call, was, is);
+    }
+
+    /// The server answers the call: a message waits, and then its end. There are places for both.
+    pub fn answer(&mut self, call: u32, at: u64, payload: Bytes, status: Status)
+        requires there { call < length self.old.calls.items }
+        requires live { (r : CallState) → slice_get self.old.calls.items call ≡ Some r → r.status ≡ None }
+        requires places { (r : CallState) → slice_get self.old.calls.items call ≡ Some r → length r.waiting.items + 1 < deque_capacity r.waiting }
+        ensures change { ChangesAt call (Turns at (answering (Message payload) status)) self.old.calls.items self.new.calls.items }
+        ensures outside { SameOutside self.old self.new }
+    {
+        let was = Marks::at(&self.states, call);
+        answer_at(&mut self.states.calls, call as usize, at, payload, status);
+        let is = Marks::at(&self.states, call);
+        self.index.change(call, was, is);
+    }
+
+    /// The client has completed its stream of the call.
+    pub fn complete(&mut self, call: u32)
+        requires { call < length self.old.calls.items }
+        ensures change { (at : ℕ) → ChangesAt call (Turns at completing) self.old.calls.items self.new.calls.items }
+        ensures outside { SameOutside self.old self.new }
+    {
+        let was = Marks::at(&self.states, call);
+        complete_at(&mut self.states.calls, call as usize);
         let is = Marks::at(&self.states, call);
         self.index.change(call, was, is);
     }

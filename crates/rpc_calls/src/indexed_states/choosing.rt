@@ -5,7 +5,7 @@ ghost use Rattle.rpc_journal.specs.Choice.{IsFirstReady, NoneReady, first_place}
 ghost use Rattle.rpc_journal.specs.Effect.{Deed};
 ghost use Rattle.rpc_journal.specs.Marks.{is_empty};
 ghost use Rattle.rpc_journal.specs.Queues.{waiting_of};
-ghost use Rattle.rpc_journal.specs.Quiet.{all_below};
+ghost use Rattle.rpc_journal.specs.Quiet.{all_below, none_runs};
 ghost use Rattle.rpc_journal.specs.Tells.{Tells};
 ghost use Rattle.rpc_journal.specs.Touch.{is_startable};
 ghost use Rattle.rpc_calls.specs.First.{FoundAmong, first_of as first_one, goes_first as goes_before, ready_since as place_ready};
@@ -23,6 +23,13 @@ impl IndexedStates {
             Some((call, _)) => Some(call),
             None => None,
         }
+    }
+
+    /// Whether no call runs.
+    pub fn none_running(&self) -> bool
+        ensures { (ds : List Deed) → Tells ds self.now → result ≡ none_runs ds }
+    {
+        self.index.owed.running == 0
     }
 
     /// Whether no event waits for any call.

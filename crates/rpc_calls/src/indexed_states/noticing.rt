@@ -1,13 +1,13 @@
 //! Changes of all calls.
-ghost use Rattle.std.specs.Prelude.{◌≡◌, ◌<◌, OnOk, true, length, slice_get, Some};
-ghost use Rattle.std.specs.VecDeque.{deque_len, deque_capacity};
+ghost use Rattle.std.specs.Prelude.{◌≡◌, ◌<◌, ◌++◌, ◌∷◌, [], OnOk, true, length, slice_get, Some, vec_len, vec_capacity};
+ghost use Rattle.std.specs.VecDeque.{deque_capacity};
 ghost use Rattle.rpc_journal.specs.declared.call_state.CallState.{CallState};
-ghost use Rattle.rpc_journal.specs.declared.notice.Notice.TheVariants.{Time, InputEnded};
+ghost use Rattle.rpc_journal.specs.declared.notice.Notice.TheVariants.{Time, InputEnded, ChannelClosed};
 ghost use Rattle.rpc_journal.specs.Tells.{HasRoomFor};
-ghost use Rattle.rpc_journal.specs.Touch.{is_told};
+ghost use Rattle.rpc_journal.specs.Touch.{events_kept, is_told};
 ghost use Rattle.rpc_calls.specs.Outside.{SameOutside};
 ghost use Rattle.rpc_calls.specs.Places.{ChangesAll, ChangesAt};
-ghost use Rattle.rpc_calls.specs.Turns.{IsTold};
+ghost use Rattle.rpc_journal.specs.Turns.{IsTold};
 ghost use Rattle.rpc_calls.specs.Widened.{HaveTwoPlaces, IsWider};
 
 use super::IndexedStates;
@@ -47,9 +47,34 @@ impl IndexedStates {
         ensures unflushed { self.new.unflushed ≡ self.old.unflushed }
         ensures input { self.new.input_ended ≡ true }
         ensures halt { self.new.halted ≡ self.old.halted }
+        ensures closed { self.new.closed.items ≡ self.old.closed.items }
     {
         self.tell_all(at, Notice::InputEnded);
         self.states.input_ended = true;
+    }
+
+    /// Makes a place for one more channel that is closed.
+    pub fn make_channel_place(&mut self) -> Result<(), AllocError>
+        ensures calls { self.new.calls.items ≡ self.old.calls.items }
+        ensures outside { SameOutside self.old self.new }
+        ensures place { OnOk result (vec_len self.new.closed < vec_capacity self.new.closed) }
+    {
+        self.states.closed.reserve(1)
+    }
+
+    /// The channel is closed: each live call on it ends and is told. There are places for it, and for the channel.
+    pub fn close_channel(&mut self, at: u64, channel: u32)
+        requires room { HasRoomFor (ChannelClosed channel) self.old.calls.items }
+        requires place { vec_len self.old.closed < vec_capacity self.old.closed }
+        ensures calls { ChangesAll (IsTold at (ChannelClosed channel)) self.old.calls.items self.new.calls.items }
+        ensures newest { self.new.newest ≡ self.old.newest }
+        ensures unflushed { self.new.unflushed ≡ self.old.unflushed }
+        ensures input { self.new.input_ended ≡ self.old.input_ended }
+        ensures halt { self.new.halted ≡ self.old.halted }
+        ensures closed { self.new.closed.items ≡ self.old.closed.items ++ channel ∷ [] }
+    {
+        self.states.closed.push_reserved(channel);
+        self.tell_all(at, Notice::ChannelClosed(channel));
     }
 
     // The calls that are to be told of this are told. There are places for it.
@@ -67,7 +92,7 @@ impl IndexedStates {
     // The call is told of this, where it is to be. There is a place for it.
     fn tell(&mut self, call: u32, at: u64, notice: Notice)
         requires there { call < length self.old.calls.items }
-        requires place { (r : CallState) → slice_get self.old.calls.items call ≡ Some r → is_told notice r ≡ true → deque_len r.waiting < deque_capacity r.waiting }
+        requires place { (r : CallState) → slice_get self.old.calls.items call ≡ Some r → is_told notice r ≡ true → events_kept notice r < deque_capacity r.waiting }
         ensures change { ChangesAt call (IsTold at notice) self.old.calls.items self.new.calls.items }
         ensures outside { SameOutside self.old self.new }
     {

@@ -1,4 +1,4 @@
-//! A server with three methods on channel 1, and what comes to it.
+//! A server with three methods on channels 1 and 2, and what comes to it.
 ghost use Rattle.std.specs.Prelude.{◌≡◌, IfOk};
 ghost use Rattle.rpc_ids.specs.declared.method.Role.TheVariants.{Server};
 ghost use Rattle.rpc_journal.specs.Lawful.{hears};
@@ -39,6 +39,7 @@ pub fn open_table(alloc: Global, maker: &Letters) -> Result<(Calls<Letter>, Meth
 {
     let mut channels = Channels::new(alloc);
     channels.add(1)?;
+    channels.add(2)?;
     let mut registry = Registry::new(alloc);
     let methods = Methods {
         echo: registry.add(b"demo.Demo", b"Echo", Kind::Unary, false)?,

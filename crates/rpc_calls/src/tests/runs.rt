@@ -13,8 +13,8 @@ use rpc_packet::PacketType;
 use std::process::Abort;
 use std::test::Fail;
 
-// A run of the call that is ready first.
-fn start_next(rt: &impl Abort, calls: &mut Calls<Letter>, seat: u32) -> Running<Letter>
+/// A run of the call that is ready first.
+pub fn start_next(rt: &impl Abort, calls: &mut Calls<Letter>, seat: u32) -> Running<Letter>
     ensures on { IsRunning ⟦<Letter as Handler>⟧.rule calls.new.setting calls.new.entries result.run }
     ensures seat { result.run.seat ≡ seat }
     ensures unasked { result.answer ≡ None }
@@ -26,8 +26,8 @@ fn start_next(rt: &impl Abort, calls: &mut Calls<Letter>, seat: u32) -> Running<
     running
 }
 
-// The handler of a run is asked, and the run ends. Gives the handler where it comes back.
-fn end_run(
+/// The handler of a run is asked, and the run ends. Gives the handler where it comes back.
+pub fn end_run(
     rt: &impl Abort,
     calls: &mut Calls<Letter>,
     mut running: Running<Letter>,
@@ -65,15 +65,9 @@ pub fn try_start(calls: &mut Calls<Letter>, seat: u32) -> Result<Option<u32>, St
 }
 
 /// This call, where a run of it can begin. Its run is left as it is, for good.
-pub fn try_start_of(
-    rt: &impl Abort,
-    calls: &mut Calls<Letter>,
-    seat: u32,
-    call: u32,
-) -> Result<u32, StartOfRefused>
+pub fn try_start_of(calls: &mut Calls<Letter>, seat: u32, call: u32) -> Result<u32, StartOfRefused>
     ensures { calls.new.setting ≡ calls.old.setting }
 {
-    assert!(rt; call < calls.count());
     let running = calls.start_of(seat, call)?;
     let number = running.call_number();
     let _ = running.spill();
@@ -128,6 +122,10 @@ fn a_new_table_has_nothing_to_do(rt: HostRuntime) -> Result<(), Fail> {
     let maker = letters(rt.alloc(), b'a', false);
     let (mut calls, _) = open_table(rt.alloc(), &maker)?;
     assert_eq!(rt; try_start(&mut calls, 2), Ok(None));
+    assert_eq!(rt;
+        try_start_of(&mut calls, 2, 9),
+        Err(StartOfRefused::NotReady)
+    );
     assert_eq!(rt; next_sent(&mut calls), None);
     assert_eq!(rt; calls.tick(1, 5), Ok(()));
     assert_eq!(rt; calls.journal().len(), 1);
@@ -188,7 +186,7 @@ fn a_call_that_runs_is_not_ready(rt: HostRuntime) -> Result<(), Fail> {
     assert_eq!(rt; running.seat(), 2);
     assert_eq!(rt; running.place(), 1);
     assert_eq!(rt;
-        try_start_of(&rt, &mut calls, 2, 0),
+        try_start_of(&mut calls, 2, 0),
         Err(StartOfRefused::NotReady)
     );
     assert_eq!(rt; running.spill().letter, b'a');
@@ -322,7 +320,7 @@ fn a_halted_table_starts_and_flushes_nothing(rt: HostRuntime) -> Result<(), Fail
     assert_eq!(rt; calls.halted(), Some(Why::Sink));
     assert_eq!(rt; calls.journal().len(), 2);
     assert_eq!(rt;
-        try_start_of(&rt, &mut calls, 2, 0),
+        try_start_of(&mut calls, 2, 0),
         Err(StartOfRefused::NotReady)
     );
     assert_eq!(rt; try_start(&mut calls, 2), Ok(None));

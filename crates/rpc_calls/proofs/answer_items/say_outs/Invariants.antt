@@ -1,12 +1,11 @@
 use Rattle.std.proofs.Common.{◌≡◌, ◌+◌, ◌≤◌, ◌++◌, flat_map}
 use Rattle.std.specs.VecDeque.{deque_len, deque_capacity}
-use Rattle.rpc_ids.specs.declared.method.Role.TheVariants.{Server}
 use Rattle.rpc_journal.specs.Entries.{answer_item}
 use Rattle.rpc_calls.proofs.answer_items.say_outs.Given as goal
 
 abbrev pub invariant-loop-out : goal.invariant-loop-out
 invariant-loop-out l = record {
-  items : l.items.items ++ flat_map (answer_item Server l.call l.name l.says) l.outs.items ≡ l.fn.items.items ++ flat_map (answer_item Server l.call l.name l.says) l.fn.outs.items;
+  items : l.items.items ++ flat_map (answer_item l.role l.call l.name l.says) l.outs.items ≡ l.fn.items.items ++ flat_map (answer_item l.role l.call l.name l.says) l.fn.outs.items;
   len : deque_len l.items + deque_len l.outs ≤ deque_len l.fn.items + deque_len l.fn.outs;
   capacity : deque_capacity l.items ≡ deque_capacity l.fn.items;
 }

@@ -2,11 +2,11 @@ use Rattle.std.proofs.Common.{◌≡◌, ◌++◌, ◌∙◌, length, slice_get,
 use Rattle.std.proofs.lemmas.Option.{get_or_from_slice_get}
 use Rattle.rpc_journal.specs.declared.call_state.CallState.{CallState}
 use Rattle.rpc_journal.specs.declared.call_states.CallStates.{CallStates}
-use Rattle.rpc_journal.specs.Touch.{finishing, hears_answer}
-use Rattle.rpc_calls.specs.AnswerItems.{answer_items, end_given}
+use Rattle.rpc_journal.specs.Touch.{finishing_so}
+use Rattle.rpc_calls.specs.AnswerItems.{answer_items, completes_given, end_given}
 use Rattle.rpc_calls.specs.Handlers.{over_state}
 use Rattle.rpc_calls.specs.Places.{ChangesAt}
-use Rattle.rpc_calls.specs.Turns.{Turns}
+use Rattle.rpc_journal.specs.Turns.{Turns}
 use Rattle.rpc_calls.proofs.run_end.end_run.Goals as goal
 
 pub index-requires-2 : goal.index-requires-2
@@ -21,15 +21,17 @@ index-requires-2 c = omega (
 
 pub returns-clause-items : goal.returns-clause-items
 returns-clause-items c = λ r is.
-    subst (λ q. c.say_run-end.new.items.items ≡ c.args.items.now.items ++ answer_items c.args.call q.name q.method.kind q.cancelled (hears_answer q) c.args.copies.outs.items c.args.copies.end)
-    (c.index.ensures ∙ get_or_from_slice_get c.all.result.now.calls.items c.args.call r c.index.result.now (ap (λ (t : CallStates). slice_get t.calls.items c.args.call) c.all.ensures ∙ is)) c.say_run-end.ensures.items
+    subst (λ q. c.say_answer-end.new.items.items ≡ c.args.items.now.items ++ answer_items c.args.role c.args.call q c.args.copies.outs.items c.args.copies.end)
+    (c.index.ensures ∙ get_or_from_slice_get c.all.result.now.calls.items c.args.call r c.index.result.now (ap (λ (t : CallStates). slice_get t.calls.items c.args.call) c.all.ensures ∙ is)) c.say_answer-end.ensures.items
 
 pub returns-clause-change : goal.returns-clause-change
 returns-clause-change c = λ at r is.
-    subst (λ e. ChangesAt c.args.call (Turns at (finishing e)) c.args.states.now.calls.items c.set_unflushed.new.self.calls.items)
-    (c.say_run-end.ensures.end ∙ ap (λ (q : CallState). end_given q.cancelled (hears_answer q) c.args.copies.end)
-    (c.index.ensures ∙ get_or_from_slice_get c.all.result.now.calls.items c.args.call r c.index.result.now (ap (λ (t : CallStates). slice_get t.calls.items c.args.call) c.all.ensures ∙ is)))
-    (subst (λ t. ChangesAt c.args.call (Turns at (finishing c.say_run-end.result)) c.args.states.now.calls.items t.calls.items) (sym c.set_unflushed.ensures) (c.finish.ensures.change at))
+    let same = c.index.ensures ∙ get_or_from_slice_get c.all.result.now.calls.items c.args.call r c.index.result.now (ap (λ (t : CallStates). slice_get t.calls.items c.args.call) c.all.ensures ∙ is) in
+    subst (λ e. ChangesAt c.args.call (Turns at (finishing_so e (completes_given c.args.role r c.args.copies.end))) c.args.states.now.calls.items c.set_unflushed.new.self.calls.items)
+    (c.say_answer-end.ensures.status ∙ ap (λ (q : CallState). end_given c.args.role q c.args.copies.end) same)
+    (subst (λ b. ChangesAt c.args.call (Turns at (finishing_so c.say_answer-end.result.status b)) c.args.states.now.calls.items c.set_unflushed.new.self.calls.items)
+    (c.say_answer-end.ensures.completes ∙ ap (λ (q : CallState). completes_given c.args.role q c.args.copies.end) same)
+    (subst (λ t. ChangesAt c.args.call (Turns at (finishing_so c.say_answer-end.result.status c.say_answer-end.result.completes)) c.args.states.now.calls.items t.calls.items) (sym c.set_unflushed.ensures) (c.finish.ensures.change at)))
 
 pub returns-clause-over : goal.returns-clause-over
 returns-clause-over c = λ x is.

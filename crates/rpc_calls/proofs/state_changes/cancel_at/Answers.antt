@@ -1,12 +1,12 @@
 use Rattle.std.proofs.Common.{◌∙◌, subst}
 use Rattle.std.proofs.lemmas.Option.{get_or_from_slice_get}
 use Rattle.rpc_journal.specs.Touch.{cancelling}
-use Rattle.rpc_calls.specs.Turns.{Turns}
+use Rattle.rpc_journal.specs.Turns.{Turns}
 use Rattle.rpc_calls.proofs.PlaceChanges.{set_changes}
 use Rattle.rpc_calls.proofs.state_changes.cancel_at.Goals as goal
 
 pub returns : goal.returns
 returns c = record {
   change = λ at. set_changes _ _ _ _ c.requires.there (λ r is.
-      subst (λ q. Turns at (cancelling q.status) q c.cancel.new.state) (c.index_mut.ensures.value ∙ get_or_from_slice_get c.args.calls.now.items c.args.call r c.index_mut.result.now is) (c.cancel.ensures.state at));
+      subst (λ q. Turns at (cancelling q.status) q c.cancel.new.self) (c.index_mut.ensures.value ∙ get_or_from_slice_get c.args.calls.now.items c.args.call r c.index_mut.result.now is) (c.cancel.ensures.state at));
 }

@@ -28,7 +28,7 @@ invariant_of-self g c =
     (record { limits = c.into_answered-call.ensures.limits; by_rule = c.into_answered-call.ensures.by_rule })
     (record { call_is = c.into_answered-call.ensures.call; seat_is = c.into_answered-call.ensures.seat; answer_is = c.into_answered-call.ensures.answer; outs_is = c.into_answered-call.ensures.outs; end_is = c.into_answered-call.ensures.end })
     c.into_answered-call.ensures.able (λ ruled. c.into_answered-call.ensures.state ∙ c.into_answered-call.ensures.moved ruled)
-    (record { says = c.end_run-over.ensures.items; change = c.end_run-over.ensures.change; newest = c.end_run-over.ensures.newest; unflushed = c.end_run-over.ensures.unflushed; input = c.end_run-over.ensures.input; halt = c.end_run-over.ensures.halt })
+    (record { says = c.end_run-over.ensures.items; change = c.end_run-over.ensures.change; newest = c.end_run-over.ensures.newest; unflushed = c.end_run-over.ensures.unflushed; input = c.end_run-over.ensures.input; halt = c.end_run-over.ensures.halt; closed = c.end_run-over.ensures.closed })
     c.end_run-over.ensures.over
     (record { many = c.put_back-back.ensures.many; others = c.put_back-back.ensures.others; back = c.put_back-back.ensures.back; it = c.put_back-back.ensures.it; kept = c.put_back-back.ensures.kept })
     c.end_run-over.ensures.capacity c.push.ensures.entries c.push.ensures.spare).table
@@ -46,7 +46,7 @@ returns-clause-did g c = (
       (record { limits = c.into_answered-call.ensures.limits; by_rule = c.into_answered-call.ensures.by_rule })
       (record { call_is = c.into_answered-call.ensures.call; seat_is = c.into_answered-call.ensures.seat; answer_is = c.into_answered-call.ensures.answer; outs_is = c.into_answered-call.ensures.outs; end_is = c.into_answered-call.ensures.end })
       c.into_answered-call.ensures.able (λ ruled. c.into_answered-call.ensures.state ∙ c.into_answered-call.ensures.moved ruled)
-      (record { says = c.end_run-over.ensures.items; change = c.end_run-over.ensures.change; newest = c.end_run-over.ensures.newest; unflushed = c.end_run-over.ensures.unflushed; input = c.end_run-over.ensures.input; halt = c.end_run-over.ensures.halt })
+      (record { says = c.end_run-over.ensures.items; change = c.end_run-over.ensures.change; newest = c.end_run-over.ensures.newest; unflushed = c.end_run-over.ensures.unflushed; input = c.end_run-over.ensures.input; halt = c.end_run-over.ensures.halt; closed = c.end_run-over.ensures.closed })
       c.end_run-over.ensures.over
       (record { many = c.put_back-back.ensures.many; others = c.put_back-back.ensures.others; back = c.put_back-back.ensures.back; it = c.put_back-back.ensures.it; kept = c.put_back-back.ensures.kept })
       c.end_run-over.ensures.capacity c.push.ensures.entries c.push.ensures.spare).did,
@@ -62,7 +62,7 @@ returns-clause-legal g c =
     (record { limits = c.into_answered-call.ensures.limits; by_rule = c.into_answered-call.ensures.by_rule })
     (record { call_is = c.into_answered-call.ensures.call; seat_is = c.into_answered-call.ensures.seat; answer_is = c.into_answered-call.ensures.answer; outs_is = c.into_answered-call.ensures.outs; end_is = c.into_answered-call.ensures.end })
     c.into_answered-call.ensures.able (λ ruled. c.into_answered-call.ensures.state ∙ c.into_answered-call.ensures.moved ruled)
-    (record { says = c.end_run-over.ensures.items; change = c.end_run-over.ensures.change; newest = c.end_run-over.ensures.newest; unflushed = c.end_run-over.ensures.unflushed; input = c.end_run-over.ensures.input; halt = c.end_run-over.ensures.halt })
+    (record { says = c.end_run-over.ensures.items; change = c.end_run-over.ensures.change; newest = c.end_run-over.ensures.newest; unflushed = c.end_run-over.ensures.unflushed; input = c.end_run-over.ensures.input; halt = c.end_run-over.ensures.halt; closed = c.end_run-over.ensures.closed })
     c.end_run-over.ensures.over
     (record { many = c.put_back-back.ensures.many; others = c.put_back-back.ensures.others; back = c.put_back-back.ensures.back; it = c.put_back-back.ensures.it; kept = c.put_back-back.ensures.kept })
     c.end_run-over.ensures.capacity c.push.ensures.entries c.push.ensures.spare).table.legal

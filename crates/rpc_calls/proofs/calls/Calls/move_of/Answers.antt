@@ -7,5 +7,5 @@ use Rattle.rpc_calls.proofs.calls.Calls.move_of.Goals as goal
 
 pub returns-clause-live : goal.returns-clause-live
 returns-clause-live g c =
-    subst (λ t. IsLiveMove (past t) c.server_move.result) c.self.view_is
-    (live_move _ _ _ c.self.invariant.stands.tells.calls c.self.invariant.room.few (subst (λ t. IsOpenMove t.calls.items c.server_move.result) c.all.ensures c.server_move.ensures.call))
+    subst (λ t. IsLiveMove (past t) c.move_at.result) c.self.view_is
+    (live_move _ _ _ c.self.invariant.stands.tells.calls c.self.invariant.room.few (subst (λ t. IsOpenMove t.calls.items c.move_at.result) c.all.ensures c.move_at.ensures.call))

@@ -1,16 +1,19 @@
-use Rattle.std.proofs.Common.{◌≡◌, ◌∙◌, ◌+◌, ◌≤◌, None, Ok, length, is_some, slice_get, ap, sym, subst, arith}
+use Rattle.std.proofs.Common.{◌≡◌, ◌∙◌, ◌+◌, ◌≤◌, None, Some, Ok, IfSome, IsTrue, length, is_some, slice_get, ap, sym, subst, arith}
 use Rattle.std.specs.VecDeque.{deque_capacity}
 use Rattle.std.proofs.lemmas.Option.{get_or_from_slice_get}
 use Rattle.rpc_journal.specs.declared.call_state.CallState.{CallState}
 use Rattle.rpc_journal.specs.declared.call_states.CallStates.{CallStates}
 use Rattle.rpc_journal.specs.declared.entry.EntryKind.TheVariants.{Replace}
 use Rattle.rpc_journal.specs.Changes.{ReplaceDid}
-use Rattle.rpc_journal.specs.History.{adding}
+use Rattle.rpc_journal.specs.History.{adding, history}
 use Rattle.rpc_journal.specs.Refusals.{replace_refusal}
+use Rattle.rpc_journal.specs.States.{state_of}
+use Rattle.rpc_journal.specs.Table.{past}
+use Rattle.rpc_calls.specs.Handlers.{IsHandlerOf}
 use Rattle.rpc_calls.specs.Owed.{items_of}
 use Rattle.rpc_calls.proofs.ArriveSteps.{table_roomier}
 use Rattle.rpc_calls.proofs.ReplaceSteps.{table_replaced}
-use Rattle.rpc_calls.proofs.ReplaceTables.{handler_back, replaceable}
+use Rattle.rpc_calls.proofs.ReplaceTables.{handler_back, handler_was, if_some, replaceable}
 use Rattle.rpc_calls.proofs.calls.Calls.put_handler.Goals as goal
 
 pub invariant_of-self-in-Ok : goal.invariant_of-self-in-Ok
@@ -58,3 +61,21 @@ returns-in-Ok-clause-legal g c =
     (c.push.ensures.entries ∙ ap (λ es. adding es c.args.seat (Replace c.args.call c.in-Ok.memo)) c.in_default.ensures.entries) c.push.ensures.spare
     (subst (λ o. length c.self.inside.items.items + items_of o + 0 ≤ deque_capacity c.take_room.new.items) c.owed.ensures.counts c.in_default.ensures.places)
     (subst (λ o. length c.self.inside.items.items + items_of o + 0 + (o.uncancelled + o.running + 2) + 1 ≤ c.take_room.new.journal.spare) c.owed.ensures.counts c.in_default.ensures.records)).table.legal
+
+pub returns-in-Ok-clause-able : goal.returns-in-Ok-clause-able
+returns-in-Ok-clause-able g c =
+    if_some (IsHandlerOf g.H.Acts.now g.H.Acts.can_act g.H.Handler.rule c.self.inside.setting (history c.self.inside.setting c.self.inside.journal.entries) c.args.call) g.H.Acts.can_act c.swap_handler-old.result (λ h is. is.able)
+    (handler_was g.H.Acts.now g.H.Acts.can_act g.H.Handler.rule c.self.inside.setting c.self.inside.journal c.self.inside.states c.self.inside.handlers.items c.self.inside.items.items _ c.args.call c.is_some-runs.result c.swap_handler-old.result c.self.invariant
+    (subst (λ t. replace_refusal t.setting t.entries c.args.call ≡ None) (sym c.self.view_is) c.requires.unrefused)
+    (λ r is. c.is_some-runs.ensures ∙ ap (λ (q : CallState). is_some q.run) (c.index.ensures ∙ get_or_from_slice_get c.all.result.now.calls.items c.args.call r c.index.result.now (ap (λ (t : CallStates). slice_get t.calls.items c.args.call) c.all.ensures ∙ is)))
+    c.swap_handler-old.ensures.back)
+
+pub returns-in-Ok-clause-state : goal.returns-in-Ok-clause-state
+returns-in-Ok-clause-state g c =
+    subst (λ t. IfSome c.swap_handler-old.result (λ h. IsTrue g.H.Handler.rule.ruled → state_of g.H.Handler.rule t.setting (past t) c.args.call ≡ Some (g.H.Acts.now h))) c.self.view_is
+    (if_some (IsHandlerOf g.H.Acts.now g.H.Acts.can_act g.H.Handler.rule c.self.inside.setting (history c.self.inside.setting c.self.inside.journal.entries) c.args.call)
+    (λ h. IsTrue g.H.Handler.rule.ruled → state_of g.H.Handler.rule c.self.inside.setting (history c.self.inside.setting c.self.inside.journal.entries) c.args.call ≡ Some (g.H.Acts.now h)) c.swap_handler-old.result (λ h is. is.state)
+    (handler_was g.H.Acts.now g.H.Acts.can_act g.H.Handler.rule c.self.inside.setting c.self.inside.journal c.self.inside.states c.self.inside.handlers.items c.self.inside.items.items _ c.args.call c.is_some-runs.result c.swap_handler-old.result c.self.invariant
+    (subst (λ t. replace_refusal t.setting t.entries c.args.call ≡ None) (sym c.self.view_is) c.requires.unrefused)
+    (λ r is. c.is_some-runs.ensures ∙ ap (λ (q : CallState). is_some q.run) (c.index.ensures ∙ get_or_from_slice_get c.all.result.now.calls.items c.args.call r c.index.result.now (ap (λ (t : CallStates). slice_get t.calls.items c.args.call) c.all.ensures ∙ is)))
+    c.swap_handler-old.ensures.back))

@@ -15,3 +15,12 @@ overflow_cast-call-in-Queue g c = Fits-of_lt (subst (λ m. IsLiveMove (past c.ar
 
 pub overflow_cast-call-in-Complete : goal.overflow_cast-call-in-Complete
 overflow_cast-call-in-Complete g c = Fits-of_lt (subst (λ m. IsLiveMove (past c.args.self.now) m) c.in-Complete.is c.requires.live).small
+
+pub overflow_cast-call-in-End : goal.overflow_cast-call-in-End
+overflow_cast-call-in-End g c = Fits-of_lt (subst (λ m. IsLiveMove (past c.args.self.now) m) c.in-End.is c.requires.live).small
+
+pub overflow_cast-call-in-Refuse : goal.overflow_cast-call-in-Refuse
+overflow_cast-call-in-Refuse g c = Fits-of_lt (subst (λ m. IsLiveMove (past c.args.self.now) m) c.in-Refuse.is c.requires.live).small
+
+pub overflow_cast-call-in-Answer : goal.overflow_cast-call-in-Answer
+overflow_cast-call-in-Answer g c = Fits-of_lt (subst (λ m. IsLiveMove (past c.args.self.now) m) c.in-Answer.is c.requires.live).small

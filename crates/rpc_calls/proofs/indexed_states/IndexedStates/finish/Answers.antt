@@ -1,7 +1,7 @@
 use Rattle.std.proofs.Common.{◌<◌, length, sym, subst, arith}
-use Rattle.rpc_journal.specs.Touch.{finishing}
+use Rattle.rpc_journal.specs.Touch.{finishing_so}
 use Rattle.rpc_calls.specs.Places.{ChangesAt}
-use Rattle.rpc_calls.specs.Turns.{Turns}
+use Rattle.rpc_journal.specs.Turns.{Turns}
 use Rattle.rpc_calls.proofs.IndexSteps.{can_reindex, index_changed}
 use Rattle.rpc_calls.proofs.indexed_states.IndexedStates.finish.Goals as goal
 
@@ -17,9 +17,9 @@ change-requires c =
 
 pub invariant_of-self : goal.invariant_of-self
 invariant_of-self c =
-    index_changed (Turns 0 (finishing c.args.end)) c.self.inside.states.calls.items c.finish_at.new.calls.items c.self.inside.index c.change.new.self c.args.call c.at-was.result c.at-is.result c.self.invariant
+    index_changed (Turns 0 (finishing_so c.args.end c.args.completes)) c.self.inside.states.calls.items c.finish_at.new.calls.items c.self.inside.index c.change.new.self c.args.call c.at-was.result c.at-is.result c.self.invariant
     (subst (λ t. c.args.call < length t.calls.items) (sym c.self.view_is) c.requires.there) (c.finish_at.ensures.change 0) c.at-was.ensures c.at-is.ensures c.change.ensures
 
 pub returns-clause-change : goal.returns-clause-change
 returns-clause-change c = λ at.
-    subst (λ t. ChangesAt c.args.call (Turns at (finishing c.args.end)) t.calls.items c.finish_at.new.calls.items) c.self.view_is (c.finish_at.ensures.change at)
+    subst (λ t. ChangesAt c.args.call (Turns at (finishing_so c.args.end c.args.completes)) t.calls.items c.finish_at.new.calls.items) c.self.view_is (c.finish_at.ensures.change at)

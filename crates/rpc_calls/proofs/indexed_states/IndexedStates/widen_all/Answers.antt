@@ -14,6 +14,7 @@ loop-call-preserved c = record {
   same = wider_more _ _ _ _ c.loop-call.invariant.same c.widen.ensures.same.change;
   outside = record {
     newest = c.widen.ensures.same.newest ∙ c.loop-call.invariant.outside.newest;
+    closed = c.widen.ensures.same.closed ∙ c.loop-call.invariant.outside.closed;
     unflushed = c.widen.ensures.same.unflushed ∙ c.loop-call.invariant.outside.unflushed;
     input = c.widen.ensures.same.input ∙ c.loop-call.invariant.outside.input;
     halt = c.widen.ensures.same.halt ∙ c.loop-call.invariant.outside.halt;

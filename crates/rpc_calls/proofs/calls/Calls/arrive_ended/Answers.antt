@@ -1,0 +1,41 @@
+use Rattle.std.proofs.Common.{◌∙◌, ◌+◌, ◌≤◌, length, ap, sym, subst}
+use Rattle.std.specs.VecDeque.{deque_capacity}
+use Rattle.rpc_journal.specs.declared.answers.Arrived.TheVariants.{Closed}
+use Rattle.rpc_journal.specs.declared.entry.EntryKind.TheVariants.{Arrive}
+use Rattle.rpc_journal.specs.History.{adding}
+use Rattle.rpc_journal.specs.Rows.{closed, ends_call}
+use Rattle.rpc_journal.specs.Table.{past}
+use Rattle.rpc_calls.specs.Arrivals.{CanTake, IsLiveCall, Took}
+use Rattle.rpc_calls.specs.Owed.{items_of}
+use Rattle.rpc_journal.specs.Conditions.{IsInputOpen}
+use Rattle.rpc_calls.proofs.ArriveSteps.{live_status}
+use Rattle.rpc_calls.proofs.ClientArrivals.{arrives_ended, live_room}
+use Rattle.rpc_calls.proofs.calls.Calls.arrive_ended.Goals as goal
+
+pub end-requires-clause-live : goal.end-requires-clause-live
+end-requires-clause-live g c = λ r is. live_status _ _ _ _ _ _ _ _ _ r c.self.invariant.stands (subst (λ t. IsLiveCall (past t) c.args.call) (sym c.self.view_is) c.requires.live) is
+
+pub end-requires-clause-place : goal.end-requires-clause-place
+end-requires-clause-place g c = λ r is.
+    live_room _ _ _ _ _ _ _ _ _ _ _ r c.self.invariant (subst (λ t. IsInputOpen t.setting t.entries c.args.seat) (sym c.self.view_is) c.requires.take.input) (subst (λ t. IsLiveCall (past t) c.args.call) (sym c.self.view_is) c.requires.live) is
+
+pub invariant_of-self-2 : goal.invariant_of-self-2
+invariant_of-self-2 g c =
+    (arrives_ended g.H.Acts.now g.H.Acts.can_act g.H.Handler.rule c.self.inside.setting c.self.inside.journal c.push.new.self c.args.seat c.args.call c.len-at.result c.args.p.now c.args.status c.self.inside.states c.end.new.self c.self.inside.handlers.items c.self.inside.items.items c.take_room.new.items.items _ (deque_capacity c.take_room.new.items) c.take_room.new.journal.spare c.self.invariant
+    (subst (λ t. CanTake t.setting t.entries c.args.seat c.args.p.now (closed c.args.call (ends_call c.args.call c.args.status))) (sym c.self.view_is) c.requires.take)
+    (subst (λ t. IsLiveCall (past t) c.args.call) (sym c.self.view_is) c.requires.live) c.len-at.ensures.len c.end.ensures.change c.end.ensures.outside.unflushed c.end.ensures.outside.input c.end.ensures.outside.halt c.end.ensures.outside.newest c.end.ensures.outside.closed c.in_ok-take_room.ensures.items
+    (c.push.ensures.entries ∙ ap (λ es. adding es c.args.seat (Arrive c.in_ok-packet.packet)) c.in_ok-take_room.ensures.entries ∙ ap (λ q. adding c.self.inside.journal.entries c.args.seat (Arrive q)) c.in_ok-packet.ensures)
+    c.push.ensures.spare
+    (subst (λ o. length c.self.inside.items.items + items_of o + 0 ≤ deque_capacity c.take_room.new.items) c.owed.ensures.counts c.in_ok-take_room.ensures.places)
+    (subst (λ o. length c.self.inside.items.items + items_of o + 0 + (o.uncancelled + o.running + 2) + 1 ≤ c.take_room.new.journal.spare) c.owed.ensures.counts c.in_ok-take_room.ensures.records)).table
+
+pub returns-clause-took : goal.returns-clause-took
+returns-clause-took g c =
+    subst (λ t. Took g.H.Handler.rule t.setting c.args.seat c.args.p.now (Closed c.args.call) t.entries c.push.new.self.entries) c.self.view_is
+    (arrives_ended g.H.Acts.now g.H.Acts.can_act g.H.Handler.rule c.self.inside.setting c.self.inside.journal c.push.new.self c.args.seat c.args.call c.len-at.result c.args.p.now c.args.status c.self.inside.states c.end.new.self c.self.inside.handlers.items c.self.inside.items.items c.take_room.new.items.items _ (deque_capacity c.take_room.new.items) c.take_room.new.journal.spare c.self.invariant
+    (subst (λ t. CanTake t.setting t.entries c.args.seat c.args.p.now (closed c.args.call (ends_call c.args.call c.args.status))) (sym c.self.view_is) c.requires.take)
+    (subst (λ t. IsLiveCall (past t) c.args.call) (sym c.self.view_is) c.requires.live) c.len-at.ensures.len c.end.ensures.change c.end.ensures.outside.unflushed c.end.ensures.outside.input c.end.ensures.outside.halt c.end.ensures.outside.newest c.end.ensures.outside.closed c.in_ok-take_room.ensures.items
+    (c.push.ensures.entries ∙ ap (λ es. adding es c.args.seat (Arrive c.in_ok-packet.packet)) c.in_ok-take_room.ensures.entries ∙ ap (λ q. adding c.self.inside.journal.entries c.args.seat (Arrive q)) c.in_ok-packet.ensures)
+    c.push.ensures.spare
+    (subst (λ o. length c.self.inside.items.items + items_of o + 0 ≤ deque_capacity c.take_room.new.items) c.owed.ensures.counts c.in_ok-take_room.ensures.places)
+    (subst (λ o. length c.self.inside.items.items + items_of o + 0 + (o.uncancelled + o.running + 2) + 1 ≤ c.take_room.new.journal.spare) c.owed.ensures.counts c.in_ok-take_room.ensures.records)).took
