@@ -44,7 +44,7 @@ room-push h e room fits at x there takes = by_place (get_push h e x at there)
     by_place (inl before) = room at x before takes
     by_place (inr last) = omega (arith, last.0, fits (subst (λ y. takes_room y.kind ≡ true) (sym last.1) takes))
 
-same_or_below : (n k : ℕ) → k < suc n → (k ≡ n) ⊎ (k < n)
+pub same_or_below : (n k : ℕ) → k < suc n → (k ≡ n) ⊎ (k < n)
 same_or_below n k below = at (below_or_not k n)
   where
     at : (k < n) ⊎ (n ≤ k) → (k ≡ n) ⊎ (k < n)

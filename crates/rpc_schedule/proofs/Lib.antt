@@ -1,8 +1,12 @@
+pub mod ChoiceLemmas
 pub mod EntryLemmas
 pub mod Examples
 pub mod InputLemmas
 pub mod LoopLemmas
 pub mod OneThreadLemmas
+pub mod PendingLemmas
+pub mod RunOnce
 pub mod ScheduleLemmas
 pub mod ServingLemmas
 pub mod StreamLemmas
+pub mod ThereLemmas

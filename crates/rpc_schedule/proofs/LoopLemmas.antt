@@ -11,10 +11,11 @@ use Rattle.rpc_journal.specs.declared.setting.Setting.{Setting}
 use Rattle.rpc_journal.specs.Choice.{NoneReady, SomeReady}
 use Rattle.rpc_journal.specs.History.{history}
 use Rattle.rpc_journal.specs.Items.{items_flushed}
+use Rattle.rpc_schedule.specs.Kept.{is_store_action}
 use Rattle.rpc_schedule.specs.Schedule.{NoneWaits, Reaches, Stage, Turn}
 use Rattle.rpc_schedule.specs.Schedule.Stage.{running, flushing}
 use Rattle.rpc_schedule.specs.Serving.{Feeds, Gives, Serving, Works, deeds, is_idle, none_waiting}
-use Rattle.rpc_schedule.specs.Settling.{FlushesAll, Grows, IsOrderly, LeadsTo, RunsAll, RunsAndFlushes, SettlesAll, Stays, StopsFull}
+use Rattle.rpc_schedule.specs.Settling.{FlushesAll, Grows, IsOrderly, LeadsTo, RunsAll, RunsAndFlushes, SettlesAll, Stays, StopsAtStore, StopsFull}
 use Rattle.rpc_schedule.proofs.EntryLemmas.{none_ready}
 use Rattle.rpc_schedule.proofs.ScheduleLemmas.{reaches_itself, reaches_then, reaches_turn}
 use Rattle.rpc_schedule.proofs.ServingLemmas.{StepsRun, flush_steps, run_steps}
@@ -141,6 +142,45 @@ flushes_all rule old now next on gives = subst (FlushesAll rule old) (sym gives.
   none_waits = gives.0;
 }
 
+-- a store action that was flushed isn't made
+pub flush_stops : (rule : HandlerRule) (old now next : Serving) (before items : List Item) (item : Item) → FlushesOn rule old now → Gives now (Some item) next
+    → is_store_action item.call item.act ≡ true → items ≡ before → before ≡ items_flushed (deeds now)
+    → StopsAtStore rule old (flushing old.table.entries) next items
+flush_stops rule old now next before items item on gives action same are =
+    let step = flush_steps now next item on.orderly gives in
+    record {
+      stays = stays_then old now next on.stays step.stays;
+      orderly = step.orderly;
+      before = now;
+      failed = item;
+      same = on.stays.setting;
+      leads = on.leads;
+      gives = gives;
+      action = action;
+      items_are = same ∙ are;
+    }
+
+-- behind what was done before
+stops_behind : (rule : HandlerRule) (old mid new : Serving) (items : List Item) (a b : Stage) → Stays old mid → LeadsTo rule old a b → StopsAtStore rule mid b new items
+    → StopsAtStore rule old a new items
+stops_behind rule old mid new items a b stays leads stops = record {
+  stays = stays_then old mid new stays stops.stays;
+  orderly = stops.orderly;
+  before = stops.before;
+  failed = stops.failed;
+  same = stops.same ∙ stays.setting;
+  leads = leads_then rule old mid a b (flushing stops.before.table.entries) stays.setting leads stops.leads;
+  gives = stops.gives;
+  action = stops.action;
+  items_are = stops.items_are;
+}
+
+-- all ready calls ran, and then a store action wasn't made
+pub run_stops : (rule : HandlerRule) (old mid new : Serving) (items : List Item) → RunsAll rule old mid
+    → StopsAtStore rule mid (flushing mid.table.entries) new items → StopsAtStore rule old (running old.table.entries) new items
+run_stops rule old mid new items runs stops =
+    stops_behind rule old mid new items (running old.table.entries) (flushing mid.table.entries) runs.stays runs.leads stops
+
 -- one item more, on both sides
 pub one_item_more : (pushed items flushed now : List Item) (item : Item) → pushed ≡ items ++ item ∷ [] → items ≡ flushed → now ≡ flushed ++ item ∷ [] → pushed ≡ now
 one_item_more pushed items flushed now item push same flush = push ∙ (ap (λ xs. xs ++ item ∷ []) same ∙ sym flush)
@@ -203,6 +243,12 @@ round_full rule old now next on some stops = record {
   full = stops.full;
   some_ready = stops.some_ready;
 }
+
+-- a store action isn't made in a later round
+pub round_stops : (rule : HandlerRule) (old now next : Serving) (items : List Item) → RunsAndFlushes rule old now → SomeReady (deeds now)
+    → StopsAtStore rule now (running now.table.entries) next items → StopsAtStore rule old (running old.table.entries) next items
+round_stops rule old now next items on some stops =
+    stops_behind rule old now next items (running old.table.entries) (running now.table.entries) on.stays (run_again rule old now on some) stops
 
 idle_none : (set : Setting) (h : List Entry) (kept : Option ℕ) → is_none kept && none_waiting (history set h) ≡ true → none_waiting (history set h) ≡ true
 idle_none set h kept idle = (and_parts (is_none kept) (none_waiting (history set h)) idle).1

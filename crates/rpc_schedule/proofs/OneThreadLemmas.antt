@@ -8,14 +8,15 @@ use Rattle.rpc_handlers.specs.HandlerRule.{HandlerRule}
 use Rattle.rpc_journal.specs.declared.entry.Entry.{Entry}
 use Rattle.rpc_journal.specs.declared.entry.EntryKind.{EntryKind}
 use Rattle.rpc_journal.specs.declared.entry.EntryKind.TheVariants.{Arrive, Start, Finish, Flush, EndIn}
+use Rattle.rpc_journal.specs.declared.item.Item.{Item}
 use Rattle.rpc_journal.specs.declared.setting.Setting.{Setting}
 use Rattle.rpc_journal.specs.History.{adding, entry_by}
 use Rattle.rpc_journal.specs.Items.{arrivals}
-use Rattle.rpc_schedule.specs.OneThread.{AwaitsArrive, AwaitsStart, Handled, IsFullBeginning, IsOneThreadHistory, OpensLast, is_of_one_thread}
+use Rattle.rpc_schedule.specs.OneThread.{AwaitsArrive, AwaitsStart, Handled, IsFullBeginning, IsOneThreadHistory, IsStoreStop, IsUnderway, OpensLast, is_of_one_thread}
 use Rattle.rpc_schedule.specs.Schedule.{Settles, Stage, Turn, Turns, flush_seat, input_seat, run_seat}
 use Rattle.rpc_schedule.specs.Schedule.Stage.{running, flushing}
 use Rattle.rpc_schedule.proofs.EntryLemmas.{arrivals-push}
-use Rattle.rpc_schedule.proofs.ScheduleLemmas.{entries_of}
+use Rattle.rpc_schedule.proofs.ScheduleLemmas.{entries_of, stop_underway}
 use Rattle.rpc_schedule.proofs.ServingLemmas.{run_arrivals}
 
 abbrev AllOfOne : List Entry → Type 0
@@ -52,11 +53,13 @@ module _ (rule : HandlerRule) (set : Setting) where
   opens_all packets h EndIn opens = all_adding h input_seat EndIn (handled_all (reverse packets) h opens) refl
   opens_all packets h _ opens = absurd opens
 
+  underway_all : (packets : List Packet) (t : Stage) → IsUnderway rule set packets t → AllOfOne (entries_of t)
+  underway_all packets t way =
+      turns_all way.reaches.0 (running (adding way.before input_seat way.opening)) t way.reaches.1 (opens_all packets way.before way.opening way.opens)
+
   awaits_all : (packets : List Packet) (h : List Entry) → AwaitsArrive rule set packets h ⊎ AwaitsStart rule set packets h → AllOfOne h
   awaits_all packets h (inl awaits) = handled_all (reverse awaits.earlier) h awaits.handled
-  awaits_all packets h (inr awaits) =
-      let way = awaits.underway in
-      turns_all way.reaches.0 (running (adding way.before input_seat way.opening)) (running h) way.reaches.1 (opens_all packets way.before way.opening way.opens)
+  awaits_all packets h (inr awaits) = underway_all packets (running h) awaits.underway
 
   -- no turn is an arrival
   turn_arrivals : (a b : Stage) → Turn rule set a b → arrivals (entries_of b) ≡ arrivals (entries_of a)
@@ -93,14 +96,16 @@ module _ (rule : HandlerRule) (set : Setting) where
   opens_arrivals packets h EndIn opens = end_arrivals packets h opens
   opens_arrivals packets h _ opens = absurd opens
 
+  underway_arrivals : (packets : List Packet) (t : Stage) → IsUnderway rule set packets t → IsPrefix (arrivals (entries_of t)) packets
+  underway_arrivals packets t way =
+      let same : arrivals (entries_of t) ≡ packets =
+      turns_arrivals way.reaches.0 (running (adding way.before input_seat way.opening)) t way.reaches.1 ∙ opens_arrivals packets way.before way.opening way.opens in
+      ([], append-nil (arrivals (entries_of t)) ∙ same)
+
   awaits_arrivals : (packets : List Packet) (h : List Entry) → AwaitsArrive rule set packets h ⊎ AwaitsStart rule set packets h → IsPrefix (arrivals h) packets
   awaits_arrivals packets h (inl awaits) =
       (awaits.last ∷ [], ap (λ ps. ps ++ awaits.last ∷ []) (handled_in_order awaits.earlier h awaits.handled) ∙ sym awaits.packets_are)
-  awaits_arrivals packets h (inr awaits) =
-      let way = awaits.underway in
-      let same : arrivals h ≡ packets =
-      turns_arrivals way.reaches.0 (running (adding way.before input_seat way.opening)) (running h) way.reaches.1 ∙ opens_arrivals packets way.before way.opening way.opens in
-      ([], append-nil (arrivals h) ∙ same)
+  awaits_arrivals packets h (inr awaits) = underway_arrivals packets (running h) awaits.underway
 
   pub whole_all : (packets : List Packet) (h : List Entry) → IsOneThreadHistory rule set packets h → AllOfOne h
   whole_all packets h history =
@@ -116,3 +121,9 @@ module _ (rule : HandlerRule) (set : Setting) where
 
   pub full_arrivals : (packets : List Packet) (h : List Entry) → IsFullBeginning rule set packets h → IsPrefix (arrivals h) packets
   full_arrivals packets h full = awaits_arrivals packets h full.next
+
+  pub store_all : (packets : List Packet) (h : List Entry) (items : List Item) → IsStoreStop rule set packets h items → AllOfOne h
+  store_all packets h items stop = underway_all packets (flushing h) (stop_underway rule set packets h items stop)
+
+  pub store_arrivals : (packets : List Packet) (h : List Entry) (items : List Item) → IsStoreStop rule set packets h items → IsPrefix (arrivals h) packets
+  store_arrivals packets h items stop = underway_arrivals packets (flushing h) (stop_underway rule set packets h items stop)

@@ -9,12 +9,13 @@ use Rattle.rpc_handlers.specs.HandlerRule.{HandlerRule}
 use Rattle.rpc_journal.specs.declared.entry.Entry.{Entry}
 use Rattle.rpc_journal.specs.declared.entry.EntryKind.{EntryKind}
 use Rattle.rpc_journal.specs.declared.entry.EntryKind.TheVariants.{Arrive, Start, Finish, Flush, EndIn}
+use Rattle.rpc_journal.specs.declared.item.Item.{Item}
 use Rattle.rpc_journal.specs.declared.setting.Setting.{Setting}
 use Rattle.rpc_journal.specs.Choice.{GoesBefore, IsFirstReady, NoneReady, SomeReady}
 use Rattle.rpc_journal.specs.Effect.{Deed}
 use Rattle.rpc_journal.specs.History.{history, adding, entry_by}
 use Rattle.rpc_journal.proofs.TableLemmas.{some_same}
-use Rattle.rpc_schedule.specs.OneThread.{AwaitsArrive, AwaitsStart, Handled, IsFullBeginning, IsOneThreadHistory, OpensLast}
+use Rattle.rpc_schedule.specs.OneThread.{AwaitsArrive, AwaitsStart, Handled, IsFullBeginning, IsOneThreadHistory, IsStoreStop, IsUnderway, OpensLast}
 use Rattle.rpc_schedule.specs.Schedule.{IsByRule, IsOver, Ran, Reaches, Settles, Stage, Turn, Turns, flush_seat, input_seat, next_item, run_seat}
 use Rattle.rpc_schedule.specs.Schedule.Stage.{running, flushing}
 
@@ -22,7 +23,7 @@ abbrev pub entries_of : Stage → List Entry
 entries_of (running x) = x
 entries_of (flushing x) = x
 
-waits_and_not : {A : Type 0} (o : Option A) (x : A) → o ≡ Some x → o ≡ None → ⊥
+pub waits_and_not : {A : Type 0} (o : Option A) (x : A) → o ≡ Some x → o ≡ None → ⊥
 waits_and_not o x waits not = some_none (sym waits ∙ not)
   where
     some_none : {A : Type 0} {x : A} → Some x ≡ None → ⊥
@@ -164,20 +165,20 @@ one_history rule set packets a b ruled x y =
     x.settled y.settled
 
 module _ (rule : HandlerRule) (set : Setting) (ruled : IsTrue rule.ruled) where
-  -- where a settling runs calls, what it has come to begins what it settles to
-  on_the_way : (n m : ℕ) (s : Stage) (h now : List Entry) → Turns rule set n s (running h) → Turns rule set m s (flushing now) → IsOver set now
-      → IsPrefix h now
-  on_the_way zero m s h now x y over =
-      turns_grow rule set m (running h) (flushing now) (subst (λ t. Turns rule set m t (flushing now)) x y)
-  on_the_way (suc n) zero s h now x y over = absurd (stuck rule set now x.0 over (subst (λ t. Turn rule set t x.0) y x.1))
-  on_the_way (suc n) (suc m) s h now x y over =
-      on_the_way n m x.0 h now x.2 (subst (λ t. Turns rule set m t (flushing now)) (sym (turn_same rule set ruled s x.0 y.0 x.1 y.1)) y.2) over
+  -- what a settling has come to begins what it settles to
+  on_the_way : (n m : ℕ) (s t : Stage) (now : List Entry) → Turns rule set n s t → Turns rule set m s (flushing now) → IsOver set now
+      → IsPrefix (entries_of t) now
+  on_the_way zero m s t now x y over =
+      turns_grow rule set m t (flushing now) (subst (λ a. Turns rule set m a (flushing now)) x y)
+  on_the_way (suc n) zero s t now x y over = absurd (stuck rule set now x.0 over (subst (λ a. Turn rule set a x.0) y x.1))
+  on_the_way (suc n) (suc m) s t now x y over =
+      on_the_way n m x.0 t now x.2 (subst (λ a. Turns rule set m a (flushing now)) (sym (turn_same rule set ruled s x.0 y.0 x.1 y.1)) y.2) over
 
-  way_begins : (before other h now : List Entry) (kind : EntryKind) → before ≡ other → Reaches rule set (running (adding before input_seat kind)) (running h)
-      → Settles rule set (adding other input_seat kind) now → IsPrefix h now
-  way_begins before other h now kind same reaches settles =
+  way_begins : (before other now : List Entry) (kind : EntryKind) (t : Stage) → before ≡ other → Reaches rule set (running (adding before input_seat kind)) t
+      → Settles rule set (adding other input_seat kind) now → IsPrefix (entries_of t) now
+  way_begins before other now kind t same reaches settles =
       let there = subst (λ x. Settles rule set (adding x input_seat kind) now) (sym same) settles in
-      on_the_way reaches.0 there.reaches.0 (running (adding before input_seat kind)) h now reaches.1 there.reaches.1 there.over
+      on_the_way reaches.0 there.reaches.0 (running (adding before input_seat kind)) t now reaches.1 there.reaches.1 there.over
 
   -- the history of packets that end with this one, before its arrival and behind it
   last_handled : (packets earlier : List Packet) (p : Packet) (h : List Entry) → packets ≡ earlier ++ p ∷ [] → Handled rule set (reverse packets) h
@@ -185,16 +186,20 @@ module _ (rule : HandlerRule) (set : Setting) (ruled : IsTrue rule.ruled) where
   last_handled packets earlier p h are handled =
       subst (λ ps. Handled rule set ps h) (ap reverse are ∙ reverse-append earlier (p ∷ [])) handled
 
-  underway_begins : (packets : List Packet) (before h whole : List Entry) (kind : EntryKind) → OpensLast rule set packets before kind
-      → Reaches rule set (running (adding before input_seat kind)) (running h) → IsOneThreadHistory rule set packets whole → IsPrefix h whole
-  underway_begins packets before h whole (Arrive p) opens reaches history =
+  opened_begins : (packets : List Packet) (before whole : List Entry) (kind : EntryKind) (t : Stage) → OpensLast rule set packets before kind
+      → Reaches rule set (running (adding before input_seat kind)) t → IsOneThreadHistory rule set packets whole → IsPrefix (entries_of t) whole
+  opened_begins packets before whole (Arrive p) t opens reaches history =
       let last = last_handled packets opens.0 p history.before opens.1 history.handled in
-      prefix_then h history.before whole
-      (way_begins before last.0 h history.before (Arrive p) (handled_same rule set ruled (reverse opens.0) before last.0 opens.2 last.1) reaches last.2)
+      prefix_then (entries_of t) history.before whole
+      (way_begins before last.0 history.before (Arrive p) t (handled_same rule set ruled (reverse opens.0) before last.0 opens.2 last.1) reaches last.2)
       (opening_grows rule set history.before whole EndIn history.settled)
-  underway_begins packets before h whole EndIn opens reaches history =
-      way_begins before history.before h whole EndIn (handled_same rule set ruled (reverse packets) before history.before opens history.handled) reaches history.settled
-  underway_begins packets before h whole _ opens reaches history = absurd opens
+  opened_begins packets before whole EndIn t opens reaches history =
+      way_begins before history.before whole EndIn t (handled_same rule set ruled (reverse packets) before history.before opens history.handled) reaches history.settled
+  opened_begins packets before whole _ t opens reaches history = absurd opens
+
+  pub underway_begins : (packets : List Packet) (t : Stage) (whole : List Entry) → IsUnderway rule set packets t → IsOneThreadHistory rule set packets whole
+      → IsPrefix (entries_of t) whole
+  underway_begins packets t whole way history = opened_begins packets way.before whole way.opening t way.opens way.reaches history
 
   awaits_begins : (packets : List Packet) (h whole : List Entry) → AwaitsArrive rule set packets h ⊎ AwaitsStart rule set packets h
       → IsOneThreadHistory rule set packets whole → IsPrefix h whole
@@ -204,9 +209,24 @@ module _ (rule : HandlerRule) (set : Setting) (ruled : IsTrue rule.ruled) where
       (subst (λ x. IsPrefix x history.before) (sym (handled_same rule set ruled (reverse awaits.earlier) h last.0 awaits.handled last.1))
       (opening_grows rule set last.0 history.before (Arrive awaits.last) last.2))
       (opening_grows rule set history.before whole EndIn history.settled)
-  awaits_begins packets h whole (inr awaits) history =
-      underway_begins packets awaits.underway.before h whole awaits.underway.opening awaits.underway.opens awaits.underway.reaches history
+  awaits_begins packets h whole (inr awaits) history = underway_begins packets (running h) whole awaits.underway history
 
 pub full_begins : (rule : HandlerRule) (set : Setting) (packets : List Packet) (h whole : List Entry) → IsTrue rule.ruled
     → IsFullBeginning rule set packets h → IsOneThreadHistory rule set packets whole → IsPrefix h whole
 full_begins rule set packets h whole ruled full history = awaits_begins rule set ruled packets h whole full.next history
+
+-- where a store action wasn't made, the last turn was its flush
+pub stop_underway : (rule : HandlerRule) (set : Setting) (packets : List Packet) (h : List Entry) (items : List Item) → IsStoreStop rule set packets h items
+    → IsUnderway rule set packets (flushing h)
+stop_underway rule set packets h items stop = record {
+  before = stop.underway.before;
+  opening = stop.underway.opening;
+  opens = stop.underway.opens;
+  reaches = reaches_turn rule set (running (adding stop.underway.before input_seat stop.underway.opening)) (flushing stop.before) (flushing h) stop.underway.reaches
+      (record { item = stop.failed; waits = stop.waits; adds = stop.adds });
+}
+
+pub store_begins : (rule : HandlerRule) (set : Setting) (packets : List Packet) (h whole : List Entry) (items : List Item) → IsTrue rule.ruled
+    → IsStoreStop rule set packets h items → IsOneThreadHistory rule set packets whole → IsPrefix h whole
+store_begins rule set packets h whole items ruled stop history =
+    underway_begins rule set ruled packets (flushing h) whole (stop_underway rule set packets h items stop) history

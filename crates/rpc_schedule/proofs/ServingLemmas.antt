@@ -51,7 +51,7 @@ after_run s c a = record (with_entry (record (with_entry s run_seat (Start c)) {
 abbrev run_entries : List Entry → ℕ → Answer → List Entry
 run_entries h c a = adding (adding h run_seat (Start c)) run_seat (Finish c a)
 
-run_history : (set : Setting) (h : List Entry) (c : ℕ) (a : Answer)
+pub run_history : (set : Setting) (h : List Entry) (c : ℕ) (a : Answer)
     → history set (run_entries h c a) ≡ tell set (tell set (history set h) (entry_by run_seat (Start c))) (entry_by run_seat (Finish c a))
 run_history set h c a =
     history-push set (adding h run_seat (Start c)) (entry_by run_seat (Finish c a))

@@ -1,4 +1,5 @@
 pub mod Fresh
+pub mod Kept
 pub mod OneThread
 pub mod Replays
 pub mod Schedule

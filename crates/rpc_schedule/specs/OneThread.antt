@@ -11,10 +11,12 @@ use Rattle.rpc_journal.specs.declared.entry.EntryKind.TheVariants.{Arrive, Start
 use Rattle.rpc_journal.specs.declared.setting.Setting.{Setting}
 use Rattle.rpc_journal.specs.Choice.{SomeReady}
 use Rattle.rpc_journal.specs.History.{history, adding}
-use Rattle.rpc_journal.specs.Items.{arrivals}
+use Rattle.rpc_journal.specs.declared.item.Item.{Item}
+use Rattle.rpc_journal.specs.Items.{arrivals, items_flushed}
 use Rattle.rpc_journal.specs.Refusals.{is_full}
-use Rattle.rpc_schedule.specs.Schedule.{Reaches, Settles, Stage, flush_seat, input_seat, run_seat}
-use Rattle.rpc_schedule.specs.Schedule.Stage.{running}
+use Rattle.rpc_schedule.specs.Kept.{is_store_action}
+use Rattle.rpc_schedule.specs.Schedule.{Reaches, Settles, Stage, flush_seat, input_seat, next_item, run_seat}
+use Rattle.rpc_schedule.specs.Schedule.Stage.{running, flushing}
 
 -- each of the packets, the newest first, arrived and was settled
 abbrev pub Handled : HandlerRule → Setting → List Packet → List Entry → Type 0
@@ -33,6 +35,10 @@ abbrev pub OneHistory : Type 0
 OneHistory =
     (rule : HandlerRule) (set : Setting) (packets : List Packet) (a b : List Entry) → IsTrue rule.ruled
     → IsOneThreadHistory rule set packets a → IsOneThreadHistory rule set packets b → a ≡ b
+
+-- each list of packets has one
+abbrev pub HistoryIsThere : Type 0
+HistoryIsThere = (rule : HandlerRule) (set : Setting) (packets : List Packet) → (h : List Entry) × IsOneThreadHistory rule set packets h
 
 -- this entry opens the last settling of these packets: the newest one arrives after the earlier ones were handled, or the
 -- input ends after all were
@@ -77,11 +83,24 @@ pub record IsFullBeginning (rule : HandlerRule) (set : Setting) (packets : List 
   pub room : HasRoom h
   pub next : AwaitsArrive rule set packets h ⊎ AwaitsStart rule set packets h
 
--- it is a beginning of that history, where the handlers' type is ruled
-abbrev pub FullBegins : Type 0
-FullBegins =
-    (rule : HandlerRule) (set : Setting) (packets : List Packet) (h whole : List Entry) → IsTrue rule.ruled
-    → IsFullBeginning rule set packets h → IsOneThreadHistory rule set packets whole → IsPrefix h whole
+-- Of the history of these packets, the beginning that ends with the Flush of a store action, which was not made. These
+-- items were flushed before it.
+pub record IsStoreStop (rule : HandlerRule) (set : Setting) (packets : List Packet) (h : List Entry) (items : List Item) : Type 0 where
+  pub room : HasRoom h
+  pub before : List Entry
+  pub failed : Item
+  pub underway : IsUnderway rule set packets (flushing before)
+  pub waits : next_item (history set before) ≡ Some failed
+  pub action : is_store_action failed.call failed.act ≡ true
+  pub adds : h ≡ adding before flush_seat Flush
+  pub items_are : items ≡ items_flushed (history set before)
+
+-- each is a beginning of that history, where the handlers' type is ruled
+pub record StopsBegin : Type 0 where
+  pub full : (rule : HandlerRule) (set : Setting) (packets : List Packet) (h whole : List Entry) → IsTrue rule.ruled
+      → IsFullBeginning rule set packets h → IsOneThreadHistory rule set packets whole → IsPrefix h whole
+  pub store : (rule : HandlerRule) (set : Setting) (packets : List Packet) (h whole : List Entry) (items : List Item) → IsTrue rule.ruled
+      → IsStoreStop rule set packets h items → IsOneThreadHistory rule set packets whole → IsPrefix h whole
 
 -- what a server on one thread adds: seat 0 an Arrive or the EndIn, seat 1 a Flush, seat 2 a Start or a Finish
 abbrev pub is_of_one_thread : ℕ → EntryKind → Bool
@@ -92,14 +111,19 @@ is_of_one_thread seat (Start c) = seat == run_seat
 is_of_one_thread seat (Finish c answer) = seat == run_seat
 is_of_one_thread seat _ = false
 
--- a history of one thread, and a full beginning of one, have such entries alone
+-- a history of one thread, and a beginning of one where a server stopped, have such entries alone
 pub record OnlyOneThreads : Type 0 where
   pub whole : (rule : HandlerRule) (set : Setting) (packets : List Packet) (h : List Entry) → IsOneThreadHistory rule set packets h
       → AllByRecursion (λ e. is_of_one_thread e.seat e.kind ≡ true) h
-  pub beginning : (rule : HandlerRule) (set : Setting) (packets : List Packet) (h : List Entry) → IsFullBeginning rule set packets h
+  pub full : (rule : HandlerRule) (set : Setting) (packets : List Packet) (h : List Entry) → IsFullBeginning rule set packets h
+      → AllByRecursion (λ e. is_of_one_thread e.seat e.kind ≡ true) h
+  pub store : (rule : HandlerRule) (set : Setting) (packets : List Packet) (h : List Entry) (items : List Item) → IsStoreStop rule set packets h items
       → AllByRecursion (λ e. is_of_one_thread e.seat e.kind ≡ true) h
 
--- the packets of a history of one thread arrived in it, and those that arrived in a full beginning begin them
+-- the packets of a history of one thread arrived in it, and those that arrived in a beginning where a server stopped
+-- begin them
 pub record ArrivalsOfOneThread : Type 0 where
   pub whole : (rule : HandlerRule) (set : Setting) (packets : List Packet) (h : List Entry) → IsOneThreadHistory rule set packets h → arrivals h ≡ packets
-  pub beginning : (rule : HandlerRule) (set : Setting) (packets : List Packet) (h : List Entry) → IsFullBeginning rule set packets h → IsPrefix (arrivals h) packets
+  pub full : (rule : HandlerRule) (set : Setting) (packets : List Packet) (h : List Entry) → IsFullBeginning rule set packets h → IsPrefix (arrivals h) packets
+  pub store : (rule : HandlerRule) (set : Setting) (packets : List Packet) (h : List Entry) (items : List Item) → IsStoreStop rule set packets h items
+      → IsPrefix (arrivals h) packets

@@ -1,5 +1,5 @@
 -- What contracts see of a server on one thread, and what each of its calls does.
-use Rattle.std.specs.Prelude.{◌≡◌, ℕ, Bool, true, false, ◌&&◌, List, [], ◌∷◌, ◌++◌, ◌⊎◌, Option, Some, None, is_some, is_none, Result, Ok, Err}
+use Rattle.std.specs.Prelude.{◌≡◌, ℕ, ◌<◌, ◌≤◌, length, take, Bool, true, false, ◌&&◌, List, [], ◌∷◌, ◌++◌, ◌⊎◌, Option, Some, None, is_some, is_none, Result, Ok, Err}
 use Rattle.rpc_packet.specs.declared.owned.Packet.{Packet}
 use Rattle.rpc_handlers.specs.declared.answer.Answer.{Answer}
 use Rattle.rpc_handlers.specs.HandlerRule.{HandlerRule}
@@ -109,3 +109,13 @@ EndsInput old new = new ≡ with_entry old input_seat EndIn
 pub record HasHeard (packets : List Packet) (s : Serving) : Type 0 where
   pub all : s.refused ≡ None → packets ≡ arrivals s.table.entries
   pub but_one : is_some s.refused ≡ true → (last : Packet) × (packets ≡ arrivals s.table.entries ++ last ∷ [])
+
+-- So many bytes of a piece were fed, and no packet is heard in them before the last one.
+pub record FedBy (heard : List ℕ → List Packet) (stood stands : List ℕ → Type 0) (piece : List ℕ) (count : ℕ) : Type 0 where
+  pub within : count ≤ length piece
+  pub fed : (bytes : List ℕ) → stood bytes → stands (bytes ++ take count piece)
+  pub none_before : (bytes : List ℕ) → stood bytes → (n : ℕ) → n < count → heard (bytes ++ take n piece) ≡ heard bytes
+
+-- these bytes end with a packet: in no shorter beginning of them are as many heard
+abbrev pub EndsWithPacket : (List ℕ → List Packet) → List ℕ → Type 0
+EndsWithPacket heard bytes = (n : ℕ) → n < length bytes → length (heard (take n bytes)) < length (heard bytes)

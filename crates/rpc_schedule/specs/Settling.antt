@@ -1,5 +1,5 @@
 -- What the loops do to a server.
-use Rattle.std.specs.Prelude.{◌≡◌, ℕ, ◌<◌, ◌≤◌, true, false, List, ◌++◌, length, reverse, take, None}
+use Rattle.std.specs.Prelude.{◌≡◌, ℕ, ◌<◌, ◌≤◌, true, false, List, ◌++◌, length, reverse, take, Some, None}
 use Rattle.rpc_packet.specs.declared.owned.Packet.{Packet}
 use Rattle.rpc_handlers.specs.HandlerRule.{HandlerRule}
 use Rattle.rpc_journal.specs.declared.entry.TheConstants.{MAX_ENTRIES}
@@ -9,10 +9,11 @@ use Rattle.rpc_journal.specs.Items.{arrivals, flush_count, input_ended, items_fl
 use Rattle.rpc_journal.specs.declared.item.Item.{Item}
 use Rattle.rpc_journal.specs.Quiet.{is_settled}
 use Rattle.rpc_journal.specs.Refusals.{is_full}
-use Rattle.rpc_schedule.specs.OneThread.{Handled, HasRoom, IsFullBeginning, IsOneThreadHistory}
+use Rattle.rpc_schedule.specs.Kept.{is_store_action}
+use Rattle.rpc_schedule.specs.OneThread.{Handled, HasRoom, IsFullBeginning, IsOneThreadHistory, IsStoreStop}
 use Rattle.rpc_schedule.specs.Schedule.{IsOver, NoneWaits, Reaches, Settles, Stage}
 use Rattle.rpc_schedule.specs.Schedule.Stage.{running, flushing}
-use Rattle.rpc_schedule.specs.Serving.{HasHeard, Serving, deeds, is_idle}
+use Rattle.rpc_schedule.specs.Serving.{EndsWithPacket, Gives, HasHeard, Serving, deeds, is_idle}
 
 -- no run is kept and no call runs, no more items were flushed than there are, and each Arrive and each Start had room
 pub record IsOrderly (s : Serving) : Type 0 where
@@ -53,6 +54,18 @@ pub record StopsFull (rule : HandlerRule) (old new : Serving) : Type 0 where
   pub full : is_full new.table.entries ≡ true
   pub some_ready : SomeReady (deeds new)
 
+-- From this stage on items were flushed, and these went out, up to a store action that was flushed and not made.
+pub record StopsAtStore (rule : HandlerRule) (old : Serving) (start : Stage) (new : Serving) (items : List Item) : Type 0 where
+  pub stays : Stays old new
+  pub orderly : IsOrderly new
+  pub before : Serving
+  pub failed : Item
+  pub same : before.table.setting ≡ old.table.setting
+  pub leads : LeadsTo rule old start (flushing before.table.entries)
+  pub gives : Gives before (Some failed) new
+  pub action : is_store_action failed.call failed.act ≡ true
+  pub items_are : items ≡ items_flushed (deeds before)
+
 -- each item that waited was flushed
 pub record FlushesAll (rule : HandlerRule) (old new : Serving) : Type 0 where
   pub stays : Stays old new
@@ -87,16 +100,32 @@ pub record IsCalm (rule : HandlerRule) (s : Serving) : Type 0 where
 pub record IsDone (rule : HandlerRule) (s : Serving) : Type 0 where
   pub accepts : s.refused ≡ None
   pub history : IsOneThreadHistory rule s.table.setting (arrivals s.table.entries) s.table.entries
+  pub room : HasRoom s.table.entries
   pub settled : is_settled (deeds s) ≡ true
 
 -- the journal is full, and the history of the packets that were heard goes on with an Arrive or a Start
 abbrev pub IsFullFor : HandlerRule → Serving → Type 0
 IsFullFor rule s = (packets : List Packet) → HasHeard packets s → IsFullBeginning rule s.table.setting packets s.table.entries
 
--- what feeding a piece does before the journal is full: the first n bytes were fed, and the items are those flushed
-pub record FillsWithin (rule : HandlerRule) (stood stands : List ℕ → Type 0) (piece : List ℕ) (s : Serving) (items : List Item) : Type 0 where
-  pub full : IsFullFor rule s
-  pub items_are : items ≡ items_flushed (deeds s)
+-- a store action was not made, and the history of the packets that were heard has come to its Flush
+abbrev pub IsStoreStopFor : HandlerRule → Serving → List Item → Type 0
+IsStoreStopFor rule s items = (packets : List Packet) → HasHeard packets s → IsStoreStop rule s.table.setting packets s.table.entries items
+
+-- how far a piece was fed before a server stopped: the last packet was heard with the last of the bytes fed
+pub record StopsIn (heard : List ℕ → List Packet) (stood stands : List ℕ → Type 0) (piece : List ℕ) (s : Serving) : Type 0 where
+  pub unended : input_ended (deeds s) ≡ false
   pub count : ℕ
   pub within : count ≤ length piece
   pub fed : (bytes : List ℕ) → stood bytes → stands (bytes ++ take count piece)
+  pub last : (bytes : List ℕ) → stood bytes → EndsWithPacket heard (bytes ++ take count piece)
+
+-- what feeding a piece does before the journal is full; the items are those flushed
+pub record FillsWithin (rule : HandlerRule) (heard : List ℕ → List Packet) (stood stands : List ℕ → Type 0) (piece : List ℕ) (s : Serving) (items : List Item) : Type 0 where
+  pub part : StopsIn heard stood stands piece s
+  pub full : IsFullFor rule s
+  pub items_are : items ≡ items_flushed (deeds s)
+
+-- and before a store action isn't made
+pub record FailsWithin (rule : HandlerRule) (heard : List ℕ → List Packet) (stood stands : List ℕ → Type 0) (piece : List ℕ) (s : Serving) (items : List Item) : Type 0 where
+  pub part : StopsIn heard stood stands piece s
+  pub stop : IsStoreStopFor rule s items

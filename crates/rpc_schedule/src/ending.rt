@@ -5,6 +5,8 @@ pub enum Ending {
     AtEnd,
     /// A read failed.
     SourceFault,
+    /// The store failed at an action. No item behind it went out.
+    StoreFault,
     /// So many bytes were read as one stream may have; the end wasn't looked for.
     InputLimit,
     /// The journal had no room for what was to be done next.

@@ -1,11 +1,11 @@
 //! What the loops ask of a server.
-ghost use Rattle.std.specs.Prelude.{◌≡◌, ℕ, ◌<◌, ◌≤◌, true, false, List, ◌++◌, length, take, None, IfOk, OnErr};
+ghost use Rattle.std.specs.Prelude.{◌≡◌, ℕ, ◌<◌, ◌≤◌, true, false, List, ◌++◌, length, None, IfOk, OnErr};
 ghost use Rattle.rpc_packet.specs.declared.owned.Packet.{Packet};
 ghost use Rattle.rpc_handlers.specs.HandlerRule.{HandlerRule};
 ghost use Rattle.rpc_journal.specs.Choice.{SomeReady};
 ghost use Rattle.rpc_journal.specs.Items.{input_ended};
 ghost use Rattle.rpc_schedule.specs.Schedule.{NoneWaits};
-ghost use Rattle.rpc_schedule.specs.Serving.{EndsInput, Feeds, Gives, HasHeard, Serving, Works, deeds, is_idle};
+ghost use Rattle.rpc_schedule.specs.Serving.{EndsInput, FedBy, Feeds, Gives, HasHeard, Serving, Works, deeds, is_idle};
 
 use rpc_journal::{Item, StartRefused};
 
@@ -32,12 +32,10 @@ pub trait Serves {
     fn feed(&mut self, piece: &[u8]) -> Result<usize, StartRefused>
         requires open { input_ended (deeds (seen self.old)) ≡ false }
         requires idle { is_idle (seen self.old) ≡ true }
-        requires some { 0 < length piece.now }
-        ensures taken { IfOk result (λ n. (0 < n) × (n ≤ length piece.now)) }
+        ensures progress { IfOk result (λ n. 0 < length piece.now → 0 < n) }
         ensures step { Feeds (seen self.old) result (seen self.new) }
-        ensures fed { IfOk result (λ n. (s : List ℕ) → stands self.old s → stands self.new (s ++ take n piece.now)) }
-        ensures refused_fed { OnErr result ((n : ℕ) × (n ≤ length piece.now) ×
-            ((s : List ℕ) → stands self.old s → stands self.new (s ++ take n piece.now))) };
+        ensures fed { IfOk result (FedBy heard (stands self.old) (stands self.new) piece.now) }
+        ensures refused_fed { OnErr result ((n : ℕ) × FedBy heard (stands self.old) (stands self.new) piece.now n) };
 
     /// Runs the first ready call, or goes on with the run that it keeps. False where there is neither.
     ///
@@ -67,4 +65,7 @@ pub trait Serves {
 
     /// What arrived are the packets heard in the bytes that it was fed.
     ghost arrived: { (x : Self) (s : List ℕ) → Self.stands x s → HasHeard (Self.heard s) (Self.seen x) };
+
+    /// In more bytes no fewer packets are heard.
+    ghost more_heard: { (s t : List ℕ) → length (Self.heard s) ≤ length (Self.heard (s ++ t)) };
 }

@@ -1,13 +1,15 @@
 ghost use Rattle.std.specs.Prelude.{◌≡◌};
 
+use link_io::StoreRefused;
 use rpc_journal::StartRefused;
-use std::alloc::AllocError;
 
 /// Why a server on one thread stopped.
 #[derive(Clone, Copy, Debug, PartialEq, Eq)]
 pub(crate) enum Stop {
     /// The journal had no room for an Arrive or a Start.
     Journal,
+    /// The store failed at an action.
+    Store,
     /// There was no memory.
     Memory,
 }
@@ -25,12 +27,15 @@ impl From<StartRefused> for Stop {
     }
 }
 
-impl From<AllocError> for Stop {
-    ghost use Rattle.rpc_schedule.specs.declared.stop.Stop.TheVariants.{Memory};
+impl From<StoreRefused> for Stop {
+    ghost use Rattle.rpc_schedule.specs.Stops.{stop_by_store};
 
-    ghost from_gives = { λ _ stop. stop ≡ Memory };
+    ghost from_gives = { λ refused stop. stop ≡ stop_by_store refused };
 
-    fn from(_error: AllocError) -> Stop {
-        Stop::Memory
+    fn from(refused: StoreRefused) -> Stop {
+        match refused {
+            StoreRefused::Failed => Stop::Store,
+            StoreRefused::Memory => Stop::Memory,
+        }
     }
 }

@@ -5,7 +5,7 @@ ghost use Rattle.rpc_journal.specs.History.{entry_by};
 ghost use Rattle.rpc_journal.specs.Items.{arrivals};
 
 use super::*;
-use link_io::{Failed, MemSource, Source};
+use link_io::{Failed, Fulls, MemSource, MemStore, Source};
 use rpc_channel::Channels;
 use rpc_handlers::{Memo, Parts, Words};
 use rpc_ids::{Registry, Role};
@@ -47,7 +47,7 @@ impl Deaf {
 
 impl Serves for Deaf {
     ghost use Rattle.std.specs.Prelude.{◌≡◌, [], None, true};
-    ghost use Rattle.std.proofs.Common.{sym};
+    ghost use Rattle.std.proofs.Common.{arith, sym};
     ghost use Rattle.std.proofs.lemmas.Bool.{true≢false};
     ghost use Rattle.rpc_handlers.specs.HandlerRule.{empty_memo};
     ghost use Rattle.rpc_journal.specs.Items.{arrivals};
@@ -61,6 +61,8 @@ impl Serves for Deaf {
     ghost stands = { λ d bytes. arrivals d.journal.entries ≡ [] };
 
     ghost arrived = { λ d bytes stands. record { all = λ accepts. sym stands; but_one = λ refused. absurd (true≢false (sym refused)) } };
+
+    ghost more_heard = { λ s t. omega arith };
 
     fn feed(&mut self, piece: &[u8]) -> Result<usize, StartRefused> {
         Ok(piece.len())
@@ -110,7 +112,8 @@ impl Source for Silence {
 fn ending_of<I: Source>(alloc: Global, input: &mut I) -> Result<Ending, AllocError> {
     let mut server = Deaf::new(alloc)?;
     let mut items = Vec::new(alloc);
-    replay(&mut server, input, &mut items)
+    let mut store = MemStore::new(alloc, Fulls::new(alloc), Fulls::new(alloc), Vec::new(alloc))?;
+    replay(&mut server, input, &mut store, &mut items)
 }
 
 #[test]
@@ -134,16 +137,15 @@ fn a_stream_ends_as_its_source_does(rt: HostRuntime) -> Result<(), AllocError> {
 #[test]
 fn no_more_is_read_than_the_limit(rt: HostRuntime) -> Result<(), AllocError> {
     let alloc = rt.alloc();
-    let mut below = Silence {
-        left: INPUT_LIMIT - 1,
-    };
-    assert_eq!(rt; ending_of(alloc, &mut below)?, Ending::AtEnd);
-    let mut at = Silence { left: INPUT_LIMIT };
-    assert_eq!(rt; ending_of(alloc, &mut at)?, Ending::InputLimit);
-    let mut beyond = Silence {
-        left: INPUT_LIMIT + 5,
-    };
-    assert_eq!(rt; ending_of(alloc, &mut beyond)?, Ending::InputLimit);
-    assert_eq!(rt; beyond.left, 5);
+    let rows = [
+        (67_108_863, Ending::AtEnd, 0),
+        (67_108_864, Ending::InputLimit, 0),
+        (67_108_869, Ending::InputLimit, 5),
+    ];
+    for (bytes, ending, left) in rows {
+        let mut source = Silence { left: bytes };
+        assert_eq!(rt; ending_of(alloc, &mut source)?, ending, "{bytes} bytes");
+        assert_eq!(rt; source.left, left, "{bytes} bytes");
+    }
     Ok(())
 }

@@ -1,5 +1,5 @@
 -- What a server was fed, over bytes more.
-use Rattle.std.proofs.Common.{◌≡◌, ℕ, Bool, true, false, ◌&&◌, List, [], ◌∷◌, ◌++◌, Option, Some, None, is_some, is_none, option_map, Result, Ok, Err, OnErr, refl, ap, sym, ◌∙◌, subst, inl, inr, ◌⊎◌}
+use Rattle.std.proofs.Common.{◌≡◌, ℕ, ◌<◌, ◌≤◌, length, take, arith, Bool, true, false, ◌&&◌, List, [], ◌∷◌, ◌++◌, Option, Some, None, is_some, is_none, option_map, Result, Ok, Err, OnErr, refl, ap, sym, ◌∙◌, subst, inl, inr, ◌⊎◌}
 use Rattle.std.proofs.lemmas.Bool.{false≢true}
 use Rattle.std.proofs.lemmas.List.{append-nil}
 use Rattle.std.specs.Option.{option_to_list}
@@ -23,14 +23,14 @@ use Rattle.rpc_journal.specs.Refusals.{arrive_refusal, is_full, refused_where}
 use Rattle.rpc_journal.specs.Table.{Table, past}
 use Rattle.rpc_calls.specs.Ran.{Ran}
 use Rattle.rpc_frames.specs.Heard.{heard_packets}
-use Rattle.rpc_frames.proofs.Growing.{nothing_heard_in}
-use Rattle.rpc_frames.specs.Listening.{HearsMore, Listening}
+use Rattle.rpc_frames.proofs.Growing.{nothing_heard_in, packets_same}
+use Rattle.rpc_frames.specs.Listening.{HearsMore, Listening, LosesPacket, StopsAtSegment}
 use Rattle.rpc_frames.specs.Listening as listens
 use Rattle.rpc_schedule.specs.Schedule.{flush_seat, input_seat, run_seat}
-use Rattle.rpc_schedule.specs.Serving.{Begins, Ends, EndsInput, Gives, HasHeard, Serving, Works, none_waiting, refusing, with_entry}
+use Rattle.rpc_schedule.specs.Serving.{Begins, Ends, EndsInput, FedBy, Gives, HasHeard, Serving, Works, none_waiting, refusing, with_entry}
 use Rattle.rpc_schedule.proofs.EntryLemmas.{arrivals-push}
 use Rattle.rpc_server.specs.Feeding.{Arrives, TakesIn}
-use Rattle.rpc_server.specs.Served.{WasFed, heard}
+use Rattle.rpc_server.specs.Served.{Served, WasFed, heard}
 use Rattle.rpc_server.specs.ServerHolds.{IsServer, kept_call}
 use Rattle.rpc_server.proofs.IdleLemmas.{no_full_queue}
 
@@ -169,3 +169,28 @@ fed_nothing s l none empty accepts = record {
   where
     nothing : heard [] ≡ []
     nothing = nothing_heard_in Server
+
+-- nothing of a piece was fed
+pub fed_no_byte : (s : Served) (piece : List ℕ) → FedBy heard (WasFed s) (WasFed s) piece 0
+fed_no_byte s piece = record {
+  within = omega arith;
+  fed = λ bytes fed. subst (WasFed s) (sym (append-nil bytes)) fed;
+  none_before = λ bytes fed n below. absurd (omega (arith, below));
+}
+
+-- bytes up to the end of a segment were fed, so that no packet is heard before the last of them
+pub fed_by : (old new : Served) (piece : List ℕ) (taken : ℕ) → taken ≤ length piece → StopsAtSegment old.listener piece taken
+    → ((bytes : List ℕ) → WasFed old bytes → WasFed new (bytes ++ take taken piece)) → FedBy heard (WasFed old) (WasFed new) piece taken
+fed_by old new piece taken within stops fed = record {
+  within = within;
+  fed = fed;
+  none_before = λ bytes before n below. packets_same Server bytes (bytes ++ take n piece) (stops.none_before bytes before.listener n below);
+}
+
+-- there was no memory for the packet that was heard
+pub fed_lost : (old : Serving) (l m : Listening) (piece : List ℕ) (lost : LosesPacket l m piece) (s : List ℕ) → l.role ≡ Server → old.refused ≡ None
+    → WasFed (record { serving = old; listener = l }) s → WasFed (record { serving = refusing old Memory; listener = m }) (s ++ take lost.taken piece)
+fed_lost old l m piece lost s role unrefused fed = record {
+  listener = lost.more.stands s fed.listener;
+  packets = refused_packet old l m (take lost.taken piece) lost.packet Memory s role lost.more unrefused fed;
+}

@@ -6,6 +6,7 @@
 mod server;
 mod serves;
 
+pub use rpc_frames::Counts;
 pub use server::Server;
 
 #[cfg(test)]

@@ -1,5 +1,7 @@
 //! The server, as the loops of a replay ask of it.
 ghost use Rattle.rpc_server.specs.Served.{WasFed, heard as heard_in};
+ghost use Rattle.rpc_frames.proofs.Growing.{no_fewer};
+ghost use Rattle.rpc_ids.specs.declared.method.Role.TheVariants.{Server as server_role};
 
 use crate::Server;
 use rpc_handlers::Maker;
@@ -36,4 +38,6 @@ impl<M: Maker> Serves for Server<M> {
     }
 
     ghost arrived = { λ s bytes fed. fed.packets };
+
+    ghost more_heard = { no_fewer server_role };
 }

@@ -1,5 +1,154 @@
-//! Streams through a server of the demo service, and a server that wants memory.
+//! A server whose handlers want memory for a while.
+ghost use mathlib.Core.Bool.{false≢true};
+ghost use Rattle.std.specs.Prelude.{◌≡◌, [], Some, false};
+ghost use Rattle.rpc_handlers.specs.HandlerRule.{empty_memo};
+ghost use Rattle.rpc_ids.specs.declared.status.Status.TheVariants.{Okay};
 
-mod refusing;
-mod streams;
-mod trickle;
+use crate::Server;
+use bytes::Bytes;
+use rpc_channel::Channels;
+use rpc_handlers::{Acts, Answer, End, Event, Handler, Maker, Memo, Outs, Parts, Words};
+use rpc_ids::{Kind, MethodRef, Registry, Status};
+use rpc_journal::StartRefused;
+use std::alloc::{AllocError, Global};
+use std::cell::Cell;
+use std::rc::Rc;
+use std::test::Fail;
+
+// A REQUEST of Echo with payload `abc` on channel 1, call 1.
+const ECHO_ABC: &[u8] =
+    b"\x7E\xA5\x03\x10\x01\x1D\xFB\x5C\xF4\x70\x25\xE9\x0E\x47\x8B\x2A\x03\x61\x62\x63\x38\x01\x03\xED\xCE\x63\x7E";
+
+// Channel 1 alone.
+fn channel_one(alloc: Global) -> Result<Channels, Fail> {
+    let mut channels = Channels::new(alloc);
+    channels.add(1)?;
+    Ok(channels)
+}
+
+// Ends its call at the first event, where memory is said to be there.
+#[derive(Drop)]
+struct Sparing {
+    alloc: Global,
+    has_memory: Rc<Cell<bool>>,
+}
+
+fn no_memo(alloc: Global) -> Memo
+    ensures { result ≡ empty_memo }
+{
+    Memo {
+        words: Words::new(alloc),
+        parts: Parts::new(alloc),
+    }
+}
+
+impl Acts for Sparing {
+    ghost can_act = { λ _. Unit {0} };
+
+    ghost now = { λ _. empty_memo };
+
+    ghost gives = { λ _ _. record { items = []; end = Some (record { status = Okay; payload = [] }) } };
+
+    ghost moves = { λ _ _. empty_memo };
+
+    fn on(&mut self, ev: &Event) -> Result<Answer, AllocError> {
+        let _ = ev;
+        if !self.has_memory.get() {
+            return Err(AllocError);
+        }
+        Ok(Answer {
+            items: Outs::new(self.alloc),
+            end: Some(End {
+                status: Status::Okay,
+                payload: Bytes::new(),
+            }),
+        })
+    }
+
+    fn memo(&self) -> Result<Memo, AllocError> {
+        Ok(no_memo(self.alloc))
+    }
+}
+
+impl Handler for Sparing {
+    ghost rule = { record { ruled = false; answer = λ _ _. record { items = []; end = Some (record { status = Okay; payload = [] }) }; next = λ _ _. empty_memo; first = λ _ _. empty_memo } };
+
+    ghost answers_by_rule = { λ ruled. absurd (false≢true ruled) };
+
+    ghost moves_by_rule = { λ ruled. absurd (false≢true ruled) };
+}
+
+#[derive(Drop)]
+struct SparingMaker {
+    alloc: Global,
+    has_memory: Rc<Cell<bool>>,
+}
+
+impl Maker for SparingMaker {
+    type H = Sparing;
+
+    ghost seed_memo = { λ _. empty_memo };
+
+    fn seed(&self) -> Result<Memo, AllocError> {
+        Ok(no_memo(self.alloc))
+    }
+
+    fn make(&self, m: MethodRef) -> Result<Sparing, AllocError> {
+        let _ = m;
+        Ok(Sparing {
+            alloc: self.alloc,
+            has_memory: Rc::clone(&self.has_memory)?,
+        })
+    }
+}
+
+#[test]
+fn a_run_that_wants_memory_is_kept(rt: HostRuntime) -> Result<(), Fail> {
+    let alloc = rt.alloc();
+    let has_memory = Rc::new(alloc, Cell::new(false))?;
+    let maker = SparingMaker {
+        alloc,
+        has_memory: Rc::clone(&has_memory)?,
+    };
+    let mut registry = Registry::new(alloc);
+    registry.add(b"demo.Demo", b"Echo", Kind::Unary, false)?;
+    let mut server = Server::new(alloc, channel_one(alloc)?, registry, maker)?;
+    assert_eq!(rt; server.feed(b"")?, 0);
+    assert_eq!(rt; server.feed(ECHO_ABC)?, ECHO_ABC.len());
+    assert!(rt; !server.idle());
+    // The Start stands from the first try on.
+    for _ in 0..2 {
+        assert_eq!(rt; server.work(), Err(StartRefused::Memory));
+        assert_eq!(rt; server.calls().journal().len(), 2);
+        assert!(rt; !server.idle());
+        assert!(rt; server.next_out().is_none());
+    }
+    has_memory.set(true);
+    assert_eq!(rt; server.work(), Ok(true));
+    assert!(rt; server.idle());
+    assert_eq!(rt; server.work(), Ok(false));
+    assert!(rt; server.next_out().is_some());
+    server.tick(500)?;
+    let journal = server.into_calls().into_journal();
+    assert_eq!(rt; journal.len(), 5);
+    Ok(())
+}
+
+#[test]
+fn a_kept_run_is_let_go(rt: HostRuntime) -> Result<(), Fail> {
+    let alloc = rt.alloc();
+    let maker = SparingMaker {
+        alloc,
+        has_memory: Rc::new(alloc, Cell::new(false))?,
+    };
+    let mut registry = Registry::new(alloc);
+    registry.add(b"demo.Demo", b"Echo", Kind::Unary, false)?;
+    let mut server = Server::new(alloc, channel_one(alloc)?, registry, maker)?;
+    assert_eq!(rt; server.feed(ECHO_ABC)?, ECHO_ABC.len());
+    assert_eq!(rt; server.work(), Err(StartRefused::Memory));
+    let calls = server.into_calls();
+    assert!(rt; calls.count() > 0);
+    assert_eq!(rt; calls.status(0), None);
+    assert_eq!(rt; calls.journal().len(), 2);
+    Ok(())
+}

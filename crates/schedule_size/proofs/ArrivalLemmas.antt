@@ -27,7 +27,7 @@ use Rattle.rpc_schedule.specs.Schedule.{input_seat}
 use Rattle.schedule_size.specs.Size.{arrival_entries, entries_behind}
 use Rattle.schedule_size.proofs.Books.{Books, nothing_owed}
 use Rattle.schedule_size.proofs.CostLemmas.{closing, closing-append, cost, cost-append, cost-ended, cost-without}
-use Rattle.schedule_size.proofs.PendingLemmas.{pending_after, pending_step, without}
+use Rattle.rpc_schedule.proofs.PendingLemmas.{pending_after, pending_step, without}
 
 -- what an effect puts, says and opens comes to no more than n
 record Brings (most : Event → ℕ) (n : ℕ) (effect : Effect) : Type 0 where

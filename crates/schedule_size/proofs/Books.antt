@@ -5,7 +5,7 @@ use Rattle.rpc_journal.specs.Calls.{calls, is_cancelled}
 use Rattle.rpc_journal.specs.Effect.{Deed, Opening}
 use Rattle.rpc_journal.specs.Items.{flush_count, items_sent}
 use Rattle.schedule_size.proofs.CostLemmas.{cost}
-use Rattle.schedule_size.proofs.PendingLemmas.{Pending, no_deed}
+use Rattle.rpc_schedule.proofs.PendingLemmas.{Pending, no_deed}
 
 -- The entries so far, those of the runs whose events wait, a Flush for each item that waits, and what is owed to the
 -- calls there are, come to no more than `budget`. No call is cancelled.

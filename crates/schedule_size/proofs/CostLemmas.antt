@@ -9,7 +9,7 @@ use Rattle.rpc_journal.specs.Effect.{Opening}
 use Rattle.rpc_journal.specs.Entries.{each_from}
 use Rattle.rpc_journal.proofs.TableLemmas.{some_same}
 use Rattle.schedule_size.specs.Size.{run_entries}
-use Rattle.schedule_size.proofs.PendingLemmas.{taking, without}
+use Rattle.rpc_schedule.proofs.PendingLemmas.{taking, without}
 
 -- the entries of the runs that take these events
 abbrev pub cost : (Event → ℕ) → List (ℕ × Event) → ℕ

@@ -1,7 +1,7 @@
 pub mod ArrivalLemmas
 pub mod Books
 pub mod CostLemmas
+pub mod GoodStates
 pub mod HistoryLemmas
-pub mod PendingLemmas
 pub mod RunLemmas
 pub mod TurnLemmas

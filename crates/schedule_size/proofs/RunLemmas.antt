@@ -1,6 +1,6 @@
 -- What a run of a call and a Flush do to the account.
 use Rattle.std.proofs.Common.{◌≡◌, ℕ, ◌+◌, ◌≤◌, Bool, true, false, List, [], ◌∷◌, ◌++◌, length, map, flat_map, slice_get, Option, Some, None, is_some, if◌then◌else◌, refl, ap, sym, ◌∙◌, subst, arith, length-append}
-use Rattle.std.proofs.lemmas.Bool.{false≢true, eqb-true, eq-eqb, not-true, and_parts}
+use Rattle.std.proofs.lemmas.Bool.{false≢true, eqb-true, eq-eqb}
 use Rattle.std.proofs.lemmas.List.{append-nil}
 use Rattle.std.proofs.lemmas.Option.{slice_get_within}
 use Rattle.rpc_ids.specs.declared.method.Role.{Role}
@@ -26,7 +26,7 @@ use Rattle.rpc_schedule.specs.Schedule.{flush_seat, next_item, run_seat}
 use Rattle.schedule_size.specs.Size.{answer_items}
 use Rattle.schedule_size.proofs.Books.{Books}
 use Rattle.schedule_size.proofs.CostLemmas.{cost, cost-append, cost-taking, cost-without}
-use Rattle.schedule_size.proofs.PendingLemmas.{pending_after, pending_step, taking, without}
+use Rattle.rpc_schedule.proofs.PendingLemmas.{pending_after, pending_step, some_waits, taking, without}
 
 -- the effect opens no call, puts no event, and adds at most so many items
 record AddsItems (n : ℕ) (effect : Effect) : Type 0 where
@@ -95,8 +95,10 @@ finish_adds set ds c a (Some o) role uncancelled =
     (subst (λ (r : Role). AddsItems (answer_items a) (answered r c o (is_heard ds c) (is_done ds c) a)) (sym role)
     (answered_adds c o (is_heard ds c) (is_done ds c) a.items a.end))
 
-some_waits : (ds : List Deed) (c : ℕ) → is_ready ds c ≡ true → is_empty (waiting_of ds c) ≡ false
-some_waits ds c ready = not-true _ (and_parts _ _ (and_parts _ _ (and_parts _ _ (and_parts _ _ ready).0).0).0).0
+-- a Finish opens no call
+pub finish_opens_none : (set : Setting) (ds : List Deed) (c : ℕ) (a : Answer) → set.role ≡ Server → is_cancelled ds c ≡ false
+    → (finish_effect set ds c a (call_at ds c)).opens ≡ None
+finish_opens_none set ds c a role uncancelled = (finish_adds set ds c a (call_at ds c) role uncancelled).no_call
 
 -- the event that a Start of c takes is the first that waits for c
 start_takes : (set : Setting) (ds : List Deed) (c : ℕ) (waiting : List (ℕ × Event)) → of_call c waiting ≡ map (λ w. w.event) (waiting_of ds c)

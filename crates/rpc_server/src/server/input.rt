@@ -1,12 +1,12 @@
 //! What comes in.
-ghost use Rattle.std.specs.Prelude.{◌≡◌, ℕ, ◌<◌, ◌≤◌, true, false, List, ◌++◌, length, take, Some, Err, IfOk, IfSome, OnErr};
+ghost use Rattle.std.specs.Prelude.{◌≡◌, ℕ, ◌<◌, ◌≤◌, true, false, length, Some, Err, IfOk, IfSome, OnErr};
 ghost use Rattle.rpc_journal.specs.declared.answers.StartRefused.{StartRefused};
 ghost use Rattle.rpc_journal.specs.Conditions.{IsHeard};
 ghost use Rattle.rpc_journal.specs.Items.{input_ended};
-ghost use Rattle.rpc_schedule.specs.Serving.{EndsInput, Feeds, deeds, is_idle};
+ghost use Rattle.rpc_schedule.specs.Serving.{EndsInput, FedBy, Feeds, deeds, is_idle};
 ghost use Rattle.rpc_frames.specs.Listening.{StopsAtSegment};
 ghost use Rattle.rpc_server.specs.Feeding.{TakesIn};
-ghost use Rattle.rpc_server.specs.Served.{WasFed};
+ghost use Rattle.rpc_server.specs.Served.{WasFed, heard};
 
 use super::{ARRIVALS, Server};
 use rpc_handlers::Maker;
@@ -15,7 +15,7 @@ use rpc_packet::Packet;
 
 impl<M: Maker> Server<M> {
     /// Takes bytes from the front of the piece, up to the end of the first frame or bad segment in it, and answers how
-    /// many. A packet in that frame arrives.
+    /// many. A packet in that frame arrives. Of an empty piece none is taken.
     ///
     /// # Errors
     ///
@@ -23,19 +23,20 @@ impl<M: Maker> Server<M> {
     pub fn feed(&mut self, piece: &[u8]) -> Result<usize, StartRefused>
         requires open { input_ended (deeds self.old.serving) ≡ false }
         requires idle { is_idle self.old.serving ≡ true }
-        requires some { 0 < length piece.now }
-        ensures taken { IfOk result (λ n. (0 < n) × (n ≤ length piece.now)) }
+        ensures taken { IfOk result (λ n. n ≤ length piece.now) }
+        ensures progress { IfOk result (λ n. 0 < length piece.now → 0 < n) }
         ensures step { Feeds self.old.serving result self.new.serving }
         ensures again { (why : StartRefused) → self.old.serving.refused ≡ Some why →
             (result ≡ Err why) × (self.new ≡ self.old) }
         ensures stops { IfOk result (λ n. StopsAtSegment self.old.listener piece.now n) }
-        ensures fed { IfOk result (λ n. (s : List ℕ) → WasFed self.old s →
-            WasFed self.new (s ++ take n piece.now)) }
-        ensures refused_fed { OnErr result ((n : ℕ) × (n ≤ length piece.now) ×
-            ((s : List ℕ) → WasFed self.old s → WasFed self.new (s ++ take n piece.now))) }
+        ensures fed { IfOk result (FedBy heard (WasFed self.old) (WasFed self.new) piece.now) }
+        ensures refused_fed { OnErr result ((n : ℕ) × FedBy heard (WasFed self.old) (WasFed self.new) piece.now n) }
     {
         if let Some(refused) = self.refused {
             return Err(refused);
+        }
+        if piece.is_empty() {
+            return Ok(0);
         }
         match self.listener.listen(piece) {
             Ok(listened) => {

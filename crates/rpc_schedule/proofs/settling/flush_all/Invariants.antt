@@ -1,4 +1,6 @@
-use Rattle.std.proofs.Common.{◌≡◌, ℕ, List}
+use Rattle.std.proofs.Common.{◌≡◌, ℕ, ◌≤◌, List, Option}
+use Rattle.link_io.specs.Stored.{Stored}
+use Rattle.rpc_schedule.specs.Kept.{Holds}
 use Rattle.rpc_journal.specs.Items.{items_flushed, items_waiting}
 use Rattle.rpc_schedule.specs.Serving.{deeds}
 use Rattle.rpc_schedule.proofs.LoopLemmas.{FlushesOn}
@@ -8,6 +10,8 @@ abbrev pub invariant-items : goal.invariant-items
 invariant-items g l = record {
   on : FlushesOn g.T.Serves.rule (g.T.Serves.seen l.fn.server) (g.T.Serves.seen l.server);
   items : l.items.items ≡ items_flushed (deeds (g.T.Serves.seen l.server));
+  later : g.S.Store.faults l.fn.store ≤ g.S.Store.faults l.store;
+  holds : (st : Option Stored) → Holds l.fn.items.items st (g.S.Store.holds l.fn.store) → Holds l.items.items st (g.S.Store.holds l.store);
   fed : (s : List ℕ) → g.T.Serves.stands l.fn.server s → g.T.Serves.stands l.server s;
 }
 

@@ -3,6 +3,6 @@ use Rattle.schedule_size.proofs.laws.entries.Goals as goal
 
 pub returns : goal.returns
 returns c = record {
-  whole = λ rule set packets h most role ruled answers history. whole_entries rule set most role ruled answers packets h history;
-  beginning = λ rule set packets h most role ruled answers full. full_entries rule set most role ruled answers packets h full;
+  whole = λ rule set packets h good most role ruled answers begins history. whole_entries rule set good most role ruled answers packets h begins history;
+  beginning = λ rule set packets h good most role ruled answers begins full. full_entries rule set good most role ruled answers packets h begins full;
 }

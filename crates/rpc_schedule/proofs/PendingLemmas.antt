@@ -1,6 +1,6 @@
 -- The events that wait for the calls of a history, in one list with the numbers of their calls.
 use Rattle.std.proofs.Common.{◌≡◌, ℕ, zero, suc, ◌+◌, ◌<◌, ◌≤◌, Bool, true, false, ◌==◌, List, [], ◌∷◌, ◌++◌, length, map, drop, if◌then◌else◌, refl, ap, sym, ◌∙◌, subst, arith, length-append}
-use Rattle.std.proofs.lemmas.Bool.{true≢false, false≢true, eqb-true}
+use Rattle.std.proofs.lemmas.Bool.{true≢false, false≢true, eqb-true, not-true, and_parts}
 use Rattle.std.proofs.lemmas.List.{drop-drop, drop-append-le, map-append}
 use Rattle.std.specs.List.{list_any}
 use Rattle.rpc_handlers.specs.declared.event.Event.{Event}
@@ -9,6 +9,7 @@ use Rattle.rpc_journal.specs.declared.entry.EntryKind.TheVariants.{Start}
 use Rattle.rpc_journal.specs.declared.waiting.Waiting.{Waiting}
 use Rattle.rpc_journal.specs.Calls.{of_call, is_start_of}
 use Rattle.rpc_journal.specs.Effect.{Deed}
+use Rattle.rpc_journal.specs.Items.{is_ready}
 use Rattle.rpc_journal.specs.Marks.{is_empty}
 use Rattle.rpc_journal.specs.Queues.{drops_of, puts_since, starts_since, waiting_of}
 
@@ -167,3 +168,7 @@ module _ (ds : List Deed) (d : Deed) (xs : List (ℕ × Event)) (pending : Pendi
         (map (put_at (length ds)) (of_call c d.does.puts)) (of_call c xs) (of_call c d.does.puts) (pending.even c) (some_event c)
         (events_put (length ds) (of_call c d.does.puts)) (pending.same c));
   }
+
+-- an event waits for a call that is ready
+pub some_waits : (ds : List Deed) (c : ℕ) → is_ready ds c ≡ true → is_empty (waiting_of ds c) ≡ false
+some_waits ds c ready = not-true _ (and_parts _ _ (and_parts _ _ (and_parts _ _ (and_parts _ _ ready).0).0).0).0
