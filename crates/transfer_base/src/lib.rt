@@ -4,11 +4,15 @@
 #![tactic(auto)]
 
 mod ask;
+mod deadline;
+mod laws;
 mod limits;
 mod piece;
 mod tuning;
 
 pub use ask::Ask;
+pub use deadline::deadline_after;
+pub use laws::numbers_of_a_transfer;
 pub use limits::{MAX_CHUNK, MAX_RESOURCE, MAX_WINDOW, TIMEOUT};
 pub use piece::Piece;
 pub use tuning::Tuning;

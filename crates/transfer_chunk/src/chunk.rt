@@ -1,8 +1,8 @@
 //! A chunk and its fields.
-ghost use Rattle.std.specs.Prelude.{◌≡◌, ◌++◌, option_map, IfOk, IfErr, OnOk, OnErr};
+ghost use Rattle.std.specs.Prelude.{◌≡◌, ◌++◌, option_map, Ok, IfOk, IfErr, OnOk, OnErr};
 ghost use Rattle.proto_wire.specs.Entries.{entries_of, entry_of};
 ghost use Rattle.proto_wire.specs.Views.{wire_field};
-ghost use Rattle.transfer_chunk.specs.ChunkText.{chunk_entries, chunk_text, kept_entry, number_entry};
+ghost use Rattle.transfer_chunk.specs.ChunkText.{HasWidths, chunk_entries, chunk_text, kept_entry, number_entry};
 ghost use Rattle.transfer_chunk.specs.ChunkTypes.{type_of};
 ghost use Rattle.transfer_chunk.specs.Chunk.{Chunk, lent_chunk, no_chunk, taken};
 ghost use Rattle.transfer_chunk.specs.Reading.{IsChunk, IsFaultAt, chunk_of, seen};
@@ -82,11 +82,12 @@ impl<'a> ChunkRef<'a> {
         }
     }
 
-    /// Appends the chunk's one spelling: its fields by rising number, each in its shortest spelling. After an `Err`
-    /// `out` is as before.
+    /// Appends the chunk's one spelling: its fields by rising number, each in its shortest spelling. `read` gives the
+    /// chunk again from it. After an `Err` `out` is as before.
     #[tactic(auto, unfolding(crate::specs::ChunkText::chunk_text))]
     pub fn write(&self, out: &mut Vec<u8>) -> Result<(), AllocError>
         ensures ok { OnOk result (out.new.items ≡ out.old.items ++ chunk_text (lent_chunk self.now)) }
+        ensures again { chunk_of (chunk_text (lent_chunk self.now)) ≡ Ok (lent_chunk self.now) }
         ensures err { OnErr result (out.new.items ≡ out.old.items) }
     {
         write_fields(out, &self.fields())
@@ -104,7 +105,8 @@ impl<'a> ChunkRef<'a> {
 
     // The fields by rising number, each with its value where it is written.
     fn fields(&self) -> [OptionalField<'a>; 15]
-        ensures { entries_of result ≡ chunk_entries (lent_chunk self.now) }
+        ensures entries { entries_of result ≡ chunk_entries (lent_chunk self.now) }
+        ensures widths { HasWidths (lent_chunk self.now) }
     {
         [
             number_field(1, u64::from(self.transfer_id)),
@@ -128,8 +130,8 @@ impl<'a> ChunkRef<'a> {
         ]
     }
 
-    // The chunk of no fields.
-    fn empty() -> ChunkRef<'a>
+    /// The chunk of no fields.
+    pub fn empty() -> ChunkRef<'a>
         ensures { lent_chunk result ≡ no_chunk }
     {
         ChunkRef {

@@ -12,3 +12,4 @@ mod tests;
 pub use chunk::ChunkRef;
 pub use chunk_type::ChunkType;
 pub use laws::written_chunk_is_read;
+pub use transfer_base::{Ask, Piece, Tuning};

@@ -1,27 +1,6 @@
 use crate::{ChunkRef, ChunkType};
 use proto_wire::Malformed;
 
-// A chunk with no fields.
-fn blank() -> ChunkRef<'static> {
-    ChunkRef {
-        transfer_id: 0,
-        pending: None,
-        max_chunk: None,
-        min_delay: 0,
-        offset: 0,
-        bytes: b"",
-        remaining: None,
-        status: None,
-        window_end: 0,
-        ctype: None,
-        resource: None,
-        session: None,
-        version: None,
-        desired: None,
-        initial: 0,
-    }
-}
-
 #[test]
 fn chunks_are_written_and_read(rt: HostRuntime) {
     let start = ChunkRef {
@@ -29,14 +8,14 @@ fn chunks_are_written_and_read(rt: HostRuntime) {
         resource: Some(7),
         version: Some(2),
         desired: Some(1),
-        ..blank()
+        ..ChunkRef::empty()
     };
     let last = ChunkRef {
         bytes: b"hi",
         remaining: Some(0),
         ctype: Some(0),
         session: Some(1),
-        ..blank()
+        ..ChunkRef::empty()
     };
     let retransmit = ChunkRef {
         max_chunk: Some(256),
@@ -44,7 +23,7 @@ fn chunks_are_written_and_read(rt: HostRuntime) {
         window_end: 1_792,
         ctype: Some(2),
         session: Some(1),
-        ..blank()
+        ..ChunkRef::empty()
     };
     let rows: [(ChunkRef<'static>, &[u8]); 4] = [
         (start, &[0x50, 0x01, 0x58, 0x07, 0x68, 0x02, 0x70, 0x01]),
@@ -58,7 +37,7 @@ fn chunks_are_written_and_read(rt: HostRuntime) {
                 0x18, 0x80, 0x02, 0x28, 0x80, 0x06, 0x48, 0x80, 0x0e, 0x50, 0x02, 0x60, 0x01,
             ],
         ),
-        (blank(), b""),
+        (ChunkRef::empty(), b""),
     ];
     for (chunk, bytes) in rows {
         let mut out = Vec::new(rt.alloc());
@@ -96,7 +75,7 @@ fn a_uint32_is_below_its_bound(rt: HostRuntime) {
 fn the_last_of_a_field_counts_and_others_are_skipped(rt: HostRuntime) {
     let twice = ChunkRef {
         session: Some(2),
-        ..blank()
+        ..ChunkRef::empty()
     };
     assert_eq!(rt;
         ChunkRef::read(&[0x60, 0x01, 0x82, 0x01, 0x00, 0x60, 0x02]),
@@ -118,11 +97,11 @@ fn types_have_their_numbers(rt: HostRuntime) {
     assert_eq!(rt; ChunkType::of(4), Some(ChunkType::Completion));
     assert_eq!(rt; ChunkType::of(8), None);
     assert_eq!(rt; ChunkType::StartAckConfirmation.number(), 7);
-    assert_eq!(rt; blank().chunk_type(), Some(ChunkType::Data));
+    assert_eq!(rt; ChunkRef::empty().chunk_type(), Some(ChunkType::Data));
     assert_eq!(rt;
         ChunkRef {
             ctype: Some(9),
-            ..blank()
+            ..ChunkRef::empty()
         }
         .chunk_type(),
         None

@@ -13,7 +13,7 @@ use Rattle.transfer_receiver.specs.Receiver.{Receiver, new_receiver}
 use Rattle.transfer_receiver.specs.PieceRules.{PieceOutcome, active_at}
 use Rattle.transfer_receiver.specs.TickRules.{tick_outcome, acknowledged}
 use Rattle.transfer_receiver.specs.Answers.{is_kept, ends_well}
-use Rattle.transfer_receiver.specs.Run.{Event, piece_comes, time_passes, end_acknowledged, outcome_of, came, with_kept, kept_pieces, has_ended_well, KeptPiecesJoin, EndedWellJoins, KeepsTheResource}
+use Rattle.transfer_receiver.specs.Run.{Event, piece_comes, time_passes, end_acknowledged, outcome_of, came, with_kept, kept_pieces, has_ended_well, KeptPiecesJoin, EndedWellJoins, KeepsTheResource, JoinedPartsAreTheResource}
 use Rattle.transfer_receiver.proofs.PieceSteps.{Step, passes_over, goes_on, ends_here, step_of, tick_next, tick_closed, ack_closed, closed_ignores}
 
 -- the kept pieces are picked from those that came
@@ -180,3 +180,18 @@ keeps_the_resource resource offset span chunk now events parts =
           (ends_with resource (kept_pieces r events) offset (consecutive events r) (kept_parts resource events r parts)
           (ended_last (kept_pieces r events) (has_ended_well r events) (last events r) ended)),
     )
+
+picked_parts : (resource : List ℕ) (qs ps : List Piece) → IsPickedFrom qs ps → All (IsPartOf resource) ps → All (IsPartOf resource) qs
+picked_parts resource [] ps h parts = All-nil (IsPartOf resource)
+picked_parts resource (q ∷ qs) [] h parts = absurd h
+picked_parts resource (q ∷ qs) (p ∷ ps) (inl same) parts =
+    All-cons (IsPartOf resource) q qs (subst (IsPartOf resource) (sym same.0) (All-head (IsPartOf resource) p ps parts))
+    (picked_parts resource qs ps same.1 (All-tail (IsPartOf resource) p ps parts))
+picked_parts resource (q ∷ qs) (p ∷ ps) (inr later) parts = picked_parts resource (q ∷ qs) ps later (All-tail (IsPartOf resource) p ps parts)
+
+pub joined_parts_are_the_resource : JoinedPartsAreTheResource
+joined_parts_are_the_resource resource came offset bytes joins parts =
+    let picked = picked_parts resource joins.picked came joins.in_order parts in
+    joins.data_is
+    ∙ whole resource offset (bytes_of joins.picked) (beginning resource joins.picked offset joins.consecutive picked)
+    (ends_with resource joins.picked offset joins.consecutive picked joins.last)

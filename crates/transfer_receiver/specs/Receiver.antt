@@ -1,5 +1,5 @@
 -- What a receiver is, and what it asks of the sender.
-use Rattle.std.specs.Prelude.{ℕ, ◌+◌, ◌*◌, ◌≤◌, Bool, true}
+use Rattle.std.specs.Prelude.{ℕ, ◌+◌, ◌*◌, ◌/◌, ◌≤◌, min, max, if◌then◌else◌, Bool, true, false}
 use Rattle.transfer_base.specs.declared.Ask.{Ask}
 use Rattle.transfer_base.specs.declared.limits.TheConstants.{MAX_CHUNK, MAX_RESOURCE, MAX_WINDOW}
 use Rattle.transfer_receiver.specs.declared.receiver.TheConstants.{MAX_RESENDS}
@@ -16,6 +16,8 @@ pub record Receiver : Type 0 where
   pub span : ℕ
   -- the bytes of a chunk
   pub chunk : ℕ
+  -- whether its last ask, but the first parameters, was a retransmission
+  pub shrunk : Bool
   pub phase : Phase
   -- the moment of the last activity
   pub active : ℕ
@@ -24,7 +26,7 @@ pub record Receiver : Type 0 where
 
 abbrev pub new_receiver : ℕ → ℕ → ℕ → ℕ → Receiver
 new_receiver offset span chunk now =
-    record { next = offset; window_end = offset + span * chunk; span = span; chunk = chunk; phase = Receiving; active = now; resends = 0 }
+    record { next = offset; window_end = offset + span * chunk; span = span; chunk = chunk; shrunk = false; phase = Receiving; active = now; resends = 0 }
 
 -- what stands of every receiver
 pub record IsReceiver (r : Receiver) : Type 0 where
@@ -37,13 +39,15 @@ pub record IsReceiver (r : Receiver) : Type 0 where
   pub window_high : r.window_end ≤ MAX_RESOURCE + MAX_WINDOW * MAX_CHUNK
   pub resends_high : r.resends ≤ MAX_RESENDS
 
--- the chunks of the window that it asks for next: by a retransmission, or to go on
+-- The chunks of the window that it asks for next. A retransmission halves the span, at least to 1. To go on doubles it, at
+-- most to 64, where no retransmission was asked since it went on before, or since the beginning; else it leaves it.
 abbrev pub span_of_ask : Bool → Receiver → ℕ
-span_of_ask again r = r.span
+span_of_ask true r = max 1 (r.span / 2)
+span_of_ask false r = if r.shrunk then r.span else min 64 (2 * r.span)
 
 -- the receiver once it has asked: a window of so many chunks from its next byte on
 abbrev pub asking : Bool → Receiver → Receiver
-asking again r = record r { span = span_of_ask again r; window_end = r.next + span_of_ask again r * r.chunk }
+asking again r = record r { span = span_of_ask again r; shrunk = again; window_end = r.next + span_of_ask again r * r.chunk }
 
 -- the ask that stands
 abbrev pub ask_of : Bool → Receiver → Ask

@@ -66,12 +66,19 @@ EndedWellJoins =
     let r = new_receiver offset span chunk now in
     has_ended_well r events ≡ true → Joins (came events) offset (bytes_of (kept_pieces r events))
 
--- Of pieces of one resource, whichever were lost, repeated or late, a receiver has kept a beginning of the resource from
--- its first offset on, and all of it once it has ended OK.
+-- the receiver has kept a beginning of what the resource has from an offset on, and all of that once it has ended OK
+abbrev pub KeepsFrom : List ℕ → ℕ → Receiver → List Event → Type 0
+KeepsFrom resource offset r events =
+    let kept = bytes_of (kept_pieces r events) in
+    (kept ≡ take (length kept) (drop offset resource)) × (has_ended_well r events ≡ true → kept ≡ drop offset resource)
+
+-- so it does of pieces of one resource, whichever were lost, repeated or late, from its first offset on
 abbrev pub KeepsTheResource : Type 0
 KeepsTheResource =
     (resource : List ℕ) (offset span chunk now : ℕ) (events : List Event) →
-    All (IsPartOf resource) (came events) →
-    let r = new_receiver offset span chunk now in
-    let kept = bytes_of (kept_pieces r events) in
-    (kept ≡ take (length kept) (drop offset resource)) × (has_ended_well r events ≡ true → kept ≡ drop offset resource)
+    All (IsPartOf resource) (came events) → KeepsFrom resource offset (new_receiver offset span chunk now) events
+
+-- what joins of parts of one resource, from an offset on, is all of it from there
+abbrev pub JoinedPartsAreTheResource : Type 0
+JoinedPartsAreTheResource =
+    (resource : List ℕ) (came : List Piece) (offset : ℕ) (bytes : List ℕ) → Joins came offset bytes → All (IsPartOf resource) came → bytes ≡ drop offset resource

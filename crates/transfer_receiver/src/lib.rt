@@ -11,6 +11,8 @@ mod receiver;
 mod tests;
 
 pub use answers::{Received, Ticked};
-pub use laws::{keeps_the_resource, kept_pieces_join};
+pub use laws::{
+    joined_parts_are_the_resource, keeps_the_resource, kept_pieces_join, numbers_of_a_receiver,
+};
 pub use phase::Phase;
 pub use receiver::{MAX_RESENDS, ReceiverCore};

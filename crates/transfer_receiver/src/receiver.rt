@@ -1,4 +1,5 @@
-ghost use Rattle.std.specs.Prelude.{◌≡◌, ◌+◌, ◌*◌, ◌<◌, ◌≤◌, ◌↔◌, IsTrue, true, false, length};
+ghost use Rattle.std.specs.Prelude.{◌≡◌, ◌+◌, ◌*◌, ◌^◌, ◌<◌, ◌≤◌, ◌↔◌, IsTrue, true, false, length};
+ghost use Rattle.transfer_base.specs.Deadline.{deadline_after};
 ghost use Rattle.transfer_receiver.specs.Answers.{is_kept, ends_well, is_resend, is_over, AnyAsk, AnyResend, AsksFromNext};
 ghost use Rattle.transfer_receiver.specs.Phase.{is_ended, phase_after_ack};
 ghost use Rattle.transfer_receiver.specs.PieceRules.{piece_outcome, active_at, asking_again, taking, going_on};
@@ -9,7 +10,7 @@ use crate::answers::{Received, Ticked};
 use crate::phase::Phase;
 use rpc_ids::Status;
 use std::marker::Model;
-use transfer_base::{Ask, MAX_RESOURCE, MAX_WINDOW, TIMEOUT, Tuning};
+use transfer_base::{Ask, MAX_RESOURCE, MAX_WINDOW, TIMEOUT, Tuning, deadline_after};
 
 /// How often in a row a receiver sends its parameters or its end again, before it gives up.
 pub const MAX_RESENDS: u8 = 3;
@@ -25,6 +26,7 @@ pub struct ReceiverCore {
     window_end: u64,
     span: u32,
     chunk: u32,
+    shrunk: bool,
     phase: Phase,
     active: u64,
     resends: u8,
@@ -35,11 +37,11 @@ impl Model for ReceiverCore {
 
     ghost Value = { Receiver };
 
-    ghost view = { λ r. record { next = r.next; window_end = r.window_end; span = r.span; chunk = r.chunk; phase = r.phase; active = r.active; resends = r.resends } };
+    ghost view = { λ r. record { next = r.next; window_end = r.window_end; span = r.span; chunk = r.chunk; shrunk = r.shrunk; phase = r.phase; active = r.active; resends = r.resends } };
 
-    ghost invariant = { λ r. IsReceiver (record { next = r.next; window_end = r.window_end; span = r.span; chunk = r.chunk; phase = r.phase; active = r.active; resends = r.resends }) };
+    ghost invariant = { λ r. IsReceiver (record { next = r.next; window_end = r.window_end; span = r.span; chunk = r.chunk; shrunk = r.shrunk; phase = r.phase; active = r.active; resends = r.resends }) };
 
-    ghost inverse = { λ r. record { next = r.next; window_end = r.window_end; span = r.span; chunk = r.chunk; phase = r.phase; active = r.active; resends = r.resends } };
+    ghost inverse = { λ r. record { next = r.next; window_end = r.window_end; span = r.span; chunk = r.chunk; shrunk = r.shrunk; phase = r.phase; active = r.active; resends = r.resends } };
 }
 
 impl ReceiverCore {
@@ -53,6 +55,7 @@ impl ReceiverCore {
             window_end: offset + u64::from(tuning.window) * u64::from(tuning.chunk),
             span: tuning.window,
             chunk: tuning.chunk,
+            shrunk: false,
             phase: Phase::Receiving,
             active: now,
             resends: 0,
@@ -62,6 +65,7 @@ impl ReceiverCore {
     /// The first parameters, which open the data phase.
     pub fn first(&self) -> Ask
         ensures ask { AsksFromNext self.now true result }
+        ensures small { result.window_end < 2 ^ 32 }
         ensures value { result ≡ first_ask self.now }
     {
         Ask {
@@ -83,6 +87,8 @@ impl ReceiverCore {
         ensures dropped { is_kept result ≡ false → self.new.next ≡ self.old.next }
         ensures last { IsTrue (ends_well result) ↔ IsTrue (is_kept result) × IsTrue last }
         ensures ask { AnyAsk (AsksFromNext self.new) result }
+        ensures small { AnyAsk (λ _ ask. ask.window_end < 2 ^ 32) result }
+        ensures lives { is_ended self.new.phase ≡ false }
         ensures resends { IsTrue (is_kept result) → self.new.resends ≡ 0 }
 
         // All of it, by the rules of a piece.
@@ -111,6 +117,7 @@ impl ReceiverCore {
         ensures next { self.new.next ≡ self.old.next }
         ensures resent { IsTrue (is_resend result) → self.new.resends ≡ self.old.resends + 1 }
         ensures ask { AnyResend (AsksFromNext self.new) result }
+        ensures small { AnyResend (λ _ ask. ask.window_end < 2 ^ 32) result }
         ensures over { IsTrue (is_over result) ↔ (self.old.active + TIMEOUT ≤ now) × (self.old.resends ≡ MAX_RESENDS) }
         ensures ended { IsTrue (is_over result) ↔ IsTrue (is_ended self.new.phase) }
 
@@ -145,13 +152,81 @@ impl ReceiverCore {
         self.phase.is_ended()
     }
 
+    /// When its next timeout comes, in milliseconds.
+    pub fn deadline(&self) -> u64
+        ensures { result ≡ deadline_after self.now.active }
+    {
+        deadline_after(self.active)
+    }
+
+    /// The first byte that it lacks.
+    pub fn next(&self) -> u64
+        ensures { result ≡ self.now.next }
+    {
+        self.next
+    }
+
+    /// The end of the bytes that it has asked for.
+    pub fn window_end(&self) -> u64
+        ensures { result ≡ self.now.window_end }
+    {
+        self.window_end
+    }
+
+    /// The chunks of its window.
+    pub fn span(&self) -> u32
+        ensures { result ≡ self.now.span }
+    {
+        self.span
+    }
+
+    /// The bytes of a chunk.
+    pub fn chunk(&self) -> u32
+        ensures { result ≡ self.now.chunk }
+    {
+        self.chunk
+    }
+
+    /// Whether its last ask, but the first parameters, was a retransmission.
+    pub fn shrunk(&self) -> bool
+        ensures { result ≡ self.now.shrunk }
+    {
+        self.shrunk
+    }
+
+    pub fn phase(&self) -> Phase
+        ensures { result ≡ self.now.phase }
+    {
+        self.phase
+    }
+
+    /// The moment of the last activity, in milliseconds.
+    pub fn active(&self) -> u64
+        ensures { result ≡ self.now.active }
+    {
+        self.active
+    }
+
+    /// How often it has sent its parameters or its end again, in a row.
+    pub fn resends(&self) -> u8
+        ensures { result ≡ self.now.resends }
+    {
+        self.resends
+    }
+
     // The chunks of the window of the next ask.
-    fn span_of_ask(&self, _again: bool) -> u32
-        ensures value { result ≡ span_of_ask _again self.now }
+    fn span_of_ask(&self, again: bool) -> u32
+        ensures value { result ≡ span_of_ask again self.now }
         ensures low { 1 ≤ result }
         ensures high { result ≤ MAX_WINDOW }
     {
-        self.span
+        if again {
+            return (self.span / 2).max(1);
+        }
+        if self.shrunk {
+            return self.span;
+        }
+        (2 * self.span).min(MAX_WINDOW)
     }
 
     fn ask(&mut self, again: bool) -> Ask
@@ -159,6 +234,7 @@ impl ReceiverCore {
         ensures value { result ≡ ask_of again (asking again self.old) }
     {
         self.span = self.span_of_ask(again);
+        self.shrunk = again;
         self.window_end = self.next + u64::from(self.span) * u64::from(self.chunk);
         Ask {
             again,

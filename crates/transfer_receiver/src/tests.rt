@@ -103,13 +103,13 @@ fn pieces_in_and_out_of_order(rt: HostRuntime) {
     let mut receiver = four_by_256();
     for (step, (come, want)) in [
         (Come::Piece(0, 256, false), kept()),
-        (Come::Piece(256, 256, false), kept_asking(512, 1536, 256)),
+        (Come::Piece(256, 256, false), kept_asking(512, 2560, 256)),
         (Come::Piece(768, 256, false), again(512, 1536, 256)),
         (Come::Piece(1024, 256, false), IGNORED),
         (Come::Piece(511, 256, false), IGNORED),
         (Come::Piece(512, 0, false), IGNORED),
         (Come::Piece(512, 1, false), kept()),
-        (Come::Piece(514, 1, false), again(513, 1537, 256)),
+        (Come::Piece(514, 1, false), again(513, 1025, 256)),
         (Come::Piece(513, 0, true), ends(Status::Okay)),
         (Come::Piece(513, 1, false), IGNORED),
     ]
@@ -125,7 +125,7 @@ fn an_empty_last_piece_ends_it(rt: HostRuntime) {
     let mut receiver = four_by_256();
     for (step, (come, want)) in [
         (Come::Piece(0, 256, false), kept()),
-        (Come::Piece(256, 256, false), kept_asking(512, 1536, 256)),
+        (Come::Piece(256, 256, false), kept_asking(512, 2560, 256)),
         (Come::Piece(768, 256, false), again(512, 1536, 256)),
         (Come::Piece(1024, 256, false), IGNORED),
         (Come::Piece(512, 0, true), ends(Status::Okay)),
@@ -157,7 +157,7 @@ fn bounds_of_a_piece(rt: HostRuntime) {
             0,
             one_by_256,
             Come::Piece(0, 256, false),
-            kept_asking(256, 512, 256),
+            kept_asking(256, 768, 256),
         ),
         (
             "past the window's end",
@@ -213,7 +213,7 @@ fn bounds_of_a_piece(rt: HostRuntime) {
             0,
             four_by_1,
             Come::Piece(0, 2, false),
-            kept_asking(2, 6, 1),
+            kept_asking(2, 10, 1),
         ),
     ] {
         let mut receiver = ReceiverCore::new(offset, tuning, 0);
@@ -221,20 +221,74 @@ fn bounds_of_a_piece(rt: HostRuntime) {
     }
 }
 
+// Nothing comes at all.
+#[test]
+fn gives_up_without_a_piece(rt: HostRuntime) {
+    let mut receiver = four_by_256();
+    for (moment, want) in [
+        (2_000, resend(0, 512, 256)),
+        (4_000, resend(0, 256, 256)),
+        (6_000, resend(0, 256, 256)),
+        (8_000, Answer::Tick(Ticked::Over(Status::DeadlineExceeded))),
+    ] {
+        assert_eq!(rt;
+            answer_to(&mut receiver, Come::Tick(moment)),
+            want,
+            "at {moment}"
+        );
+    }
+}
+
+// Of 2,560 bytes the piece at 512 is lost at first. The spans asked are 4, 8, 4, 4 and 8.
+#[test]
+fn a_window_grows_and_shrinks(rt: HostRuntime) {
+    let mut receiver = four_by_256();
+    assert_eq!(rt; receiver.first(), ask(true, 0, 1024, 256));
+    for (step, (come, want)) in [
+        (Come::Piece(0, 256, false), kept()),
+        (Come::Piece(256, 256, false), kept_asking(512, 2560, 256)),
+        (Come::Piece(768, 256, false), again(512, 1536, 256)),
+        (Come::Piece(1024, 256, false), IGNORED),
+        (Come::Piece(512, 256, false), kept()),
+        (Come::Piece(768, 256, false), kept_asking(1024, 2048, 256)),
+        (Come::Piece(1024, 256, false), kept()),
+        (Come::Piece(1280, 256, false), kept_asking(1536, 3584, 256)),
+    ]
+    .into_iter()
+    .enumerate()
+    {
+        assert_eq!(rt; answer_to(&mut receiver, come), want, "step {step}");
+    }
+}
+
+#[test]
+fn a_window_has_at_most_64_chunks(rt: HostRuntime) {
+    let tuning = Tuning {
+        window: 40,
+        chunk: 1,
+    };
+    let mut receiver = ReceiverCore::new(0, tuning, 0);
+    let first = answer_to(&mut receiver, Come::Piece(0, 20, false));
+    assert_eq!(rt; first, kept_asking(20, 84, 1));
+    let second = answer_to(&mut receiver, Come::Piece(20, 32, false));
+    assert_eq!(rt; second, kept_asking(52, 116, 1));
+    assert_eq!(rt; receiver.deadline(), 2_000);
+}
+
 #[test]
 fn resends_of_parameters(rt: HostRuntime) {
     let mut receiver = four_by_256();
     for (step, (come, want)) in [
         (Come::Tick(1_999), Answer::Tick(Ticked::Quiet)),
-        (Come::Tick(2_000), resend(0, 1024, 256)),
+        (Come::Tick(2_000), resend(0, 512, 256)),
         (Come::Tick(3_999), Answer::Tick(Ticked::Quiet)),
-        (Come::Tick(4_000), resend(0, 1024, 256)),
-        (Come::Tick(6_000), resend(0, 1024, 256)),
-        // A kept piece gives all resends back. It came at the moment 0.
-        (Come::Piece(0, 256, false), kept()),
-        (Come::Tick(2_000), resend(256, 1280, 256)),
-        (Come::Tick(4_000), resend(256, 1280, 256)),
-        (Come::Tick(6_000), resend(256, 1280, 256)),
+        (Come::Tick(4_000), resend(0, 256, 256)),
+        (Come::Tick(6_000), resend(0, 256, 256)),
+        // A kept piece gives all resends back, and a shrunk window stays. It came at the moment 0.
+        (Come::Piece(0, 256, false), kept_asking(256, 512, 256)),
+        (Come::Tick(2_000), resend(256, 512, 256)),
+        (Come::Tick(4_000), resend(256, 512, 256)),
+        (Come::Tick(6_000), resend(256, 512, 256)),
         (
             Come::Tick(8_000),
             Answer::Tick(Ticked::Over(Status::DeadlineExceeded)),
@@ -253,7 +307,7 @@ fn resends_of_an_end(rt: HostRuntime) {
     let mut receiver = four_by_256();
     for (step, (come, want)) in [
         (Come::Ack, Answer::Ack(false)),
-        (Come::Tick(2_000), resend(0, 1024, 256)),
+        (Come::Tick(2_000), resend(0, 512, 256)),
         (Come::Piece(0, 3, true), ends(Status::Okay)),
         (
             Come::Tick(2_000),

@@ -11,6 +11,6 @@ mod sender;
 mod tests;
 
 pub use cut::MAX_PIECES;
-pub use laws::{cut_is_exact, sends_parts};
+pub use laws::{cut_is_exact, numbers_of_a_sender, sends_parts};
 pub use pieces::Pieces;
 pub use sender::{MAX_TIMEOUTS, SenderCore};

@@ -1,4 +1,5 @@
 ghost use Rattle.std.specs.Prelude.{◌≡◌, ◌+◌, ◌<◌, ◌≤◌, ◌⊎◌, ◌↔◌, IsTrue, IsSome, false, length, None, Some, [], ◌∷◌, IfOk, IfSome, OnOk, OnErr};
+ghost use Rattle.transfer_base.specs.Deadline.{deadline_after};
 ghost use Rattle.transfer_base.specs.PieceLists.{BeginsAt, end_of};
 ghost use Rattle.transfer_sender.specs.Answer.{answer_to, pieces_for, pieces_again, start_of, is_past_end, chunk_size, empty_last_piece};
 ghost use Rattle.transfer_sender.specs.Cut.{IsCut};
@@ -10,7 +11,7 @@ use bytes::Bytes;
 use rpc_ids::Status;
 use std::alloc::{AllocError, Global};
 use std::marker::Model;
-use transfer_base::{Ask, MAX_CHUNK, MAX_RESOURCE, TIMEOUT};
+use transfer_base::{Ask, MAX_CHUNK, MAX_RESOURCE, TIMEOUT, deadline_after};
 
 /// The timeouts in a row that end a transfer.
 pub const MAX_TIMEOUTS: u8 = 5;
@@ -146,6 +147,41 @@ impl SenderCore {
         ensures { result ≡ self.now.ended }
     {
         self.ended
+    }
+
+    /// When its next timeout comes, in milliseconds.
+    pub fn deadline(&self) -> u64
+        ensures { result ≡ deadline_after self.now.active }
+    {
+        deadline_after(self.active)
+    }
+
+    /// The whole resource.
+    pub fn bytes(&self) -> &Bytes
+        ensures { result.now ≡ self.now.bytes }
+    {
+        &self.bytes
+    }
+
+    /// The next byte that it sends.
+    pub fn position(&self) -> u64
+        ensures { result ≡ self.now.position }
+    {
+        self.position
+    }
+
+    /// The moment of the last activity, in milliseconds.
+    pub fn active(&self) -> u64
+        ensures { result ≡ self.now.active }
+    {
+        self.active
+    }
+
+    /// The timeouts since the last chunk came.
+    pub fn timeouts(&self) -> u8
+        ensures { result ≡ self.now.timeouts }
+    {
+        self.timeouts
     }
 
     fn is_past_end(&self, ask: Ask) -> bool

@@ -210,3 +210,11 @@ fn ends_of_a_sender(rt: HostRuntime) -> Result<(), Fail> {
     assert_eq!(rt; touched.end(), Some(Status::Aborted));
     Ok(())
 }
+
+#[test]
+fn a_deadline_is_two_seconds_behind_the_last_activity(rt: HostRuntime) {
+    let mut sender = SenderCore::new(Bytes::new(), 0, 10);
+    assert_eq!(rt; sender.deadline(), 2_010);
+    sender.touch(u64::MAX - 1_999);
+    assert_eq!(rt; sender.deadline(), u64::MAX);
+}
