@@ -1,0 +1,11 @@
+pub mod Session
+pub mod Sender
+pub mod Receiver
+pub mod Opening
+pub mod Hears
+pub mod Ticks
+pub mod Book
+pub mod Limits
+pub mod Plain
+pub mod Alone
+pub mod Uploads

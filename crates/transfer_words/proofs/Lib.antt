@@ -1,0 +1,2 @@
+pub mod ChunkSizes
+pub mod SpokenLaws

@@ -1,0 +1,4 @@
+pub mod Word
+pub mod Spoken
+pub mod Saying
+pub mod CoreAnswers
