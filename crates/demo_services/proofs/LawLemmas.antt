@@ -13,7 +13,7 @@ use Rattle.rpc_handlers.specs.declared.event.Event.TheVariants.{Request, Message
 use Rattle.rpc_handlers.specs.declared.event.Memo.{Memo}
 use Rattle.rpc_handlers.specs.Limits.{is_long}
 use Rattle.demo_services.specs.Count.{count_to}
-use Rattle.demo_services.specs.DemoCall.{call_of, numbers}
+use Rattle.demo_services.specs.DemoCall.{numbers}
 use Rattle.demo_services.specs.DemoRule.{first}
 use Rattle.demo_services.specs.Methods.{demo_method}
 use Rattle.demo_services.specs.Laws.{said, state_after, KeepsLimits, CountsFromOne, SumsAllBytes, SaysBack}
@@ -72,4 +72,4 @@ counts_from_one seed n small =
 -- the limits
 
 pub keeps_limits : KeepsLimits
-keeps_limits m ev = answer_limits (call_of m) ev
+keeps_limits call ev few = answer_limits call ev few

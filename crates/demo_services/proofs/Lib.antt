@@ -1,3 +1,6 @@
 pub mod FirstStates
 pub mod LawLemmas
 pub mod Limits
+pub mod UploadLemmas
+pub mod ServeLemmas
+pub mod TransferSteps

@@ -9,9 +9,11 @@ use Rattle.rpc_handlers.specs.declared.event.Event.{Event}
 use Rattle.rpc_handlers.specs.declared.event.Event.TheVariants.{Request, Message, Completion}
 use Rattle.rpc_handlers.specs.declared.event.Memo.{Memo}
 use Rattle.rpc_handlers.specs.Limits.{is_long, is_past_limits}
+use Rattle.transfer_resume.specs.Book.{HasFew}
 use Rattle.demo_services.specs.declared.call.DemoCall.{DemoCall}
+use Rattle.demo_services.specs.declared.call.DemoCall.TheVariants.{Echo, Count, Sum, Chat, Transfer}
 use Rattle.demo_services.specs.Answers.{ends}
-use Rattle.demo_services.specs.DemoCall.{call_of, memo_of}
+use Rattle.demo_services.specs.DemoCall.{answer_of, call_of, memo_of}
 use Rattle.demo_services.specs.DemoRule.{answer, next, first}
 use Rattle.demo_services.specs.Methods.{demo_method}
 
@@ -28,9 +30,17 @@ said m (ev ∷ evs) = (answer m ev).items ++ said (next m ev) evs
 abbrev pub StatesReadBack : Type 0
 StatesReadBack = (call : DemoCall) → call_of (memo_of call) ≡ call
 
--- each answer in each state is within the limits on answers
+-- the call has no more sessions than a call may have
+abbrev pub HasFewSessions : DemoCall → Type 0
+HasFewSessions (Echo _) = Unit {0}
+HasFewSessions (Count _) = Unit {0}
+HasFewSessions (Sum _) = Unit {0}
+HasFewSessions (Chat _) = Unit {0}
+HasFewSessions (Transfer b) = HasFew b
+
+-- each answer of such a call is within the limits on answers
 abbrev pub KeepsLimits : Type 0
-KeepsLimits = (m : Memo) (ev : Event) → is_past_limits (answer m ev) ≡ false
+KeepsLimits = (call : DemoCall) (ev : Event) → HasFewSessions call → is_past_limits (answer_of call ev) ≡ false
 
 -- Count asked with one byte n of at most 64 says n messages, of which each is one byte: 1, 2, .. and at last n
 abbrev pub CountsFromOne : Type 0

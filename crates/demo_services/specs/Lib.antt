@@ -7,4 +7,7 @@ pub mod Echo
 pub mod Laws
 pub mod Methods
 pub mod ReadBack
+pub mod Serves
 pub mod Sum
+pub mod Transfer
+pub mod Uploads

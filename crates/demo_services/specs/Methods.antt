@@ -1,5 +1,5 @@
--- The methods of the service demo.Demo.
-use Rattle.std.specs.Prelude.{ℕ, Bool, List, [], ◌∷◌, false, codes}
+-- The methods of the services demo.Demo and pw.transfer.Transfer.
+use Rattle.std.specs.Prelude.{ℕ, Bool, List, [], ◌∷◌, true, false, codes}
 use Rattle.rpc_ids.specs.declared.method.Kind.{Kind}
 use Rattle.rpc_ids.specs.declared.method.Kind.TheVariants.{Unary, ServerStream, ClientStream, Bidi}
 use Rattle.rpc_ids.specs.declared.method.MethodRef.{MethodRef}
@@ -14,11 +14,23 @@ demo_id = name_id (codes "demo.Demo")
 abbrev pub demo_method : List ℕ → Kind → MethodRef
 demo_method name kind = record { service = demo_id; method = name_id name; kind = kind; ticks = false }
 
--- all methods of the service, one of each kind
+-- the id of the transfer service
+abbrev pub transfer_id : ℕ
+transfer_id = name_id (codes "pw.transfer.Transfer")
+
+-- the method of the transfer service with this name: it has streams both ways, and is told of the time
+abbrev pub transfer_method : List ℕ → MethodRef
+transfer_method name = record { service = transfer_id; method = name_id name; kind = Bidi; ticks = true }
+
+-- all methods of both services
 abbrev pub demo_methods : List MethodRef
 demo_methods =
-    demo_method (codes "Echo") Unary ∷ demo_method (codes "Count") ServerStream ∷ demo_method (codes "Sum") ClientStream ∷ demo_method (codes "Chat") Bidi ∷ []
+    demo_method (codes "Echo") Unary ∷ demo_method (codes "Count") ServerStream ∷ demo_method (codes "Sum") ClientStream ∷ demo_method (codes "Chat") Bidi
+    ∷ transfer_method (codes "Read") ∷ transfer_method (codes "Write") ∷ []
 
 -- the method has the ids of the service and of this name
 abbrev pub is_named : List ℕ → MethodRef → Bool
 is_named name m = has_ids demo_id (name_id name) m
+
+abbrev pub is_transfer : List ℕ → MethodRef → Bool
+is_transfer name m = has_ids transfer_id (name_id name) m

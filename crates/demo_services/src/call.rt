@@ -1,4 +1,4 @@
-//! A call of the demo service.
+//! A call of the demo service or of the transfer service.
 ghost use Rattle.std.specs.Prelude.{◌≡◌, IfOk};
 ghost use Rattle.demo_services.specs.DemoCall.{answer_of, call_after, memo_of, numbers};
 ghost use Rattle.demo_services.specs.DemoRule.{demo_rule};
@@ -8,6 +8,7 @@ use crate::chat::Chat;
 use crate::count::Count;
 use crate::echo::Echo;
 use crate::sum::Sum;
+use crate::transfer::Transfer;
 use rpc_handlers::{Acts, Answer, Event, Handler, Memo, Parts, Words};
 use std::alloc::{AllocError, Global};
 
@@ -19,16 +20,18 @@ const SUM_STATE: u64 = 2;
 
 const CHAT_STATE: u64 = 3;
 
-/// A call of the service `demo.Demo`, by its method.
+/// A call of the service `demo.Demo` by its method, or one of the transfer service.
 ///
-/// As a `Memo` it has the number of its method as first word: 0 for Echo, 1 for Count, 2 for Sum, 3 for Chat. A Sum has
-/// its total as second word. There are no other words and no parts.
+/// As a `Memo` it has the number of its method as first word: 0 for Echo, 1 for Count, 2 for Sum, 3 for Chat, 4 for Read
+/// and for Write. A Sum has its total as second word. A Read and a Write have all their sessions behind it, and in the
+/// parts what they send. There are no other words and no parts.
 #[derive(Debug, Drop)]
 pub enum DemoCall {
     Echo(Echo),
     Count(Count),
     Sum(Sum),
     Chat(Chat),
+    Transfer(Transfer),
 }
 
 impl Acts for DemoCall {
@@ -46,6 +49,7 @@ impl Acts for DemoCall {
             DemoCall::Count(count) => count.on(ev),
             DemoCall::Sum(sum) => sum.on(ev),
             DemoCall::Chat(chat) => chat.on(ev),
+            DemoCall::Transfer(transfer) => transfer.on(ev),
         }
     }
 
@@ -55,6 +59,7 @@ impl Acts for DemoCall {
             DemoCall::Count(count) => memo_from(count.alloc, &[COUNT_STATE]),
             DemoCall::Sum(sum) => memo_from(sum.alloc, &[SUM_STATE, sum.total()]),
             DemoCall::Chat(chat) => memo_from(chat.alloc, &[CHAT_STATE]),
+            DemoCall::Transfer(transfer) => transfer.memo(),
         }
     }
 }

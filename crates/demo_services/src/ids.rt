@@ -1,4 +1,4 @@
-//! The ids of the service and of its methods, as packets carry them: the hashes of their names.
+//! The ids of the services and of their methods, as packets carry them: the hashes of their names.
 ghost use Rattle.std.specs.Prelude.{◌≡◌, codes};
 ghost use Rattle.rpc_ids.specs.Names.{name_id};
 
@@ -17,6 +17,15 @@ pub const SUM: u32 = 0x0957_0bb8;
 /// The method Chat.
 pub const CHAT: u32 = 0x9ba9_81bc;
 
+/// The service `pw.transfer.Transfer`.
+pub const TRANSFER: u32 = 0x5bd6_c87b;
+
+/// The method Read.
+pub const READ: u32 = 0x5b78_66da;
+
+/// The method Write.
+pub const WRITE: u32 = 0xd463_0586;
+
 #[tactic(auto, unfolding(rpc_ids::specs::Names::name_id))]
 /// Each id is that of its name. The function does nothing: what counts is its contract.
 pub fn ids_are_of_names()
@@ -25,4 +34,7 @@ pub fn ids_are_of_names()
     ensures count { COUNT ≡ name_id (codes "Count") }
     ensures sum { SUM ≡ name_id (codes "Sum") }
     ensures chat { CHAT ≡ name_id (codes "Chat") }
+    ensures transfer { TRANSFER ≡ name_id (codes "pw.transfer.Transfer") }
+    ensures read { READ ≡ name_id (codes "Read") }
+    ensures write { WRITE ≡ name_id (codes "Write") }
 {}

@@ -1,12 +1,14 @@
 //! What follows from the rule of the service. Each function does nothing: what counts is its contract, which is proved.
 ghost use Rattle.demo_services.specs.Laws.{StatesReadBack, KeepsLimits, CountsFromOne, SumsAllBytes, SaysBack};
+ghost use Rattle.demo_services.specs.Serves.{ServesSessions};
+ghost use Rattle.demo_services.specs.Uploads.{UploadsJoin};
 
 /// A call's state tells the whole call.
 pub fn states_read_back()
     ensures { StatesReadBack }
 {}
 
-/// Each answer in each state is within the limits on answers.
+/// Each answer of a call with at most 256 sessions is within the limits on answers.
 pub fn answers_keep_limits()
     ensures { KeepsLimits }
 {}
@@ -24,4 +26,15 @@ pub fn sum_is_of_all_bytes()
 /// Chat says the messages back in their order, where none has more than 8,000 bytes.
 pub fn chat_says_back()
     ensures { SaysBack }
+{}
+
+/// Over any events a call of Write makes a resource whole only where its session has begun, and where all that was added
+/// since joins, from the offset of that beginning, of the data chunks in the messages.
+pub fn uploads_join()
+    ensures { UploadsJoin }
+{}
+
+/// A message that says a word in a session is answered with what that session says, and moves the call by it alone.
+pub fn serves_sessions()
+    ensures { ServesSessions }
 {}

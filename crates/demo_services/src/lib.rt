@@ -1,6 +1,7 @@
-//! The service `demo.Demo`, with a method of each kind: Echo, Count, Sum and Chat.
+//! The service `demo.Demo`, with a method of each kind: Echo, Count, Sum and Chat; and the transfer service
+//! `pw.transfer.Transfer` with its methods Read and Write.
 //!
-//! Give `DemoMaker` and the registry of `demo_registry` to a server. A call of the service is a `DemoCall`; what its
+//! Give `DemoMaker` and the registry of `demo_registry` to a server. A call of either is a `DemoCall`; what its
 //! methods answer is stated in `specs/`, a definition for each.
 #![tactic(auto)]
 
@@ -14,6 +15,7 @@ pub mod laws;
 mod maker;
 mod registry;
 mod sum;
+mod transfer;
 
 pub use call::DemoCall;
 pub use chat::Chat;
@@ -22,6 +24,7 @@ pub use echo::Echo;
 pub use maker::DemoMaker;
 pub use registry::demo_registry;
 pub use sum::Sum;
+pub use transfer::Transfer;
 
 #[cfg(test)]
 mod tests;

@@ -1,7 +1,8 @@
-//! Who makes the calls of the demo service.
+//! Who makes the calls of the demo service and of the transfer service.
 ghost use Rattle.std.specs.Prelude.{◌≡◌, IfOk};
-ghost use Rattle.rpc_handlers.specs.HandlerRule.{empty_memo};
-ghost use Rattle.demo_services.specs.DemoRule.{first_call};
+ghost use Rattle.transfer_resume.specs.Book.{new_book};
+ghost use Rattle.demo_services.specs.DemoRule.{plain_call, transfer_side};
+ghost use Rattle.demo_services.specs.Transfer.{demo_seed};
 
 use crate::call::DemoCall;
 use crate::chat::Chat;
@@ -9,48 +10,80 @@ use crate::count::Count;
 use crate::echo::Echo;
 use crate::ids;
 use crate::sum::Sum;
-use rpc_handlers::{Maker, Memo, Parts, Words};
+use crate::transfer::Transfer;
+use link_io::Shelf;
+use rpc_handlers::{Maker, Memo};
 use rpc_ids::MethodRef;
 use std::alloc::{AllocError, Global};
+use transfer_chunk::Tuning;
+use transfer_resume::Side;
 
-/// Makes the calls of the service `demo.Demo`, for a server with the methods of `demo_registry`.
+/// Makes the calls of the services `demo.Demo` and `pw.transfer.Transfer`, for a server with the methods of
+/// `demo_registry`.
 ///
-/// Which call it makes is told by the two ids of the method alone. A method that isn't of the service is served as
+/// Which call it makes is told by the two ids of the method alone. A method that is of neither service is served as
 /// Echo; `demo_registry` has no such method.
 #[derive(Debug, Drop)]
 pub struct DemoMaker {
     alloc: Global,
+    shelf: Shelf,
+    tuning: Tuning,
 }
 
 impl DemoMaker {
-    /// A maker whose seed is empty. The only error is want of memory.
-    pub fn new(alloc: Global) -> Result<DemoMaker, AllocError>
-        ensures { IfOk result (λ maker. ⟦<DemoMaker as Maker>⟧.seed_memo maker ≡ empty_memo) }
+    /// A maker whose transfers are of what the shelf has, and ask as `tuning` says. The only error is want of memory.
+    pub fn new(alloc: Global, shelf: Shelf, tuning: Tuning) -> Result<DemoMaker, AllocError>
+        ensures { IfOk result (λ maker. ⟦<DemoMaker as Maker>⟧.seed_memo maker ≡ demo_seed shelf tuning.window tuning.chunk) }
     {
-        Ok(DemoMaker { alloc })
+        Ok(DemoMaker {
+            alloc,
+            shelf,
+            tuning,
+        })
+    }
+
+    fn transfer(&self, side: Side) -> Result<Transfer, AllocError>
+        ensures { IfOk result (λ t. t ≡ new_book side self.now.shelf self.now.tuning.window self.now.tuning.chunk) }
+    {
+        Transfer::new(self.alloc, side, self.shelf.clone()?, self.tuning)
     }
 }
 
 impl Maker for DemoMaker {
     type H = DemoCall;
 
-    ghost seed_memo = { λ _. empty_memo };
+    ghost seed_memo = { λ maker. demo_seed maker.shelf maker.tuning.window maker.tuning.chunk };
 
     fn seed(&self) -> Result<Memo, AllocError> {
-        Ok(Memo {
-            words: Words::new(self.alloc),
-            parts: Parts::new(self.alloc),
-        })
+        self.transfer(Side::Read)?.memo()
     }
 
     fn make(&self, m: MethodRef) -> Result<DemoCall, AllocError> {
-        Ok(call_for(self.alloc, m))
+        match transfer_side(m) {
+            Some(side) => Ok(DemoCall::Transfer(self.transfer(side)?)),
+            None => Ok(call_for(self.alloc, m)),
+        }
+    }
+}
+
+// Which way a method of the transfer service moves resources.
+#[tactic(auto, unfolding(rpc_ids::specs::Names::name_id))]
+fn transfer_side(m: MethodRef) -> Option<Side>
+    ensures { result ≡ transfer_side m }
+{
+    if m.service != ids::TRANSFER {
+        return None;
+    }
+    match m.method {
+        ids::READ => Some(Side::Read),
+        ids::WRITE => Some(Side::Write),
+        _ => None,
     }
 }
 
 #[tactic(auto, unfolding(rpc_ids::specs::Names::name_id))]
 fn call_for(alloc: Global, m: MethodRef) -> DemoCall
-    ensures { result ≡ first_call m }
+    ensures { result ≡ plain_call m }
 {
     if m.service != ids::DEMO {
         return DemoCall::Echo(Echo::new(alloc));

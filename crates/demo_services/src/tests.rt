@@ -1,10 +1,12 @@
 //! Answers of each method, asked through the bounds that a server has on them.
 use crate::{Chat, DemoCall, DemoMaker, Sum, demo_registry};
 use bytes::Bytes;
+use link_io::{Fulls, Lefts, Shelf};
 use rpc_handlers::{Acts, Answer, Event, Maker, Out};
 use rpc_ids::{Kind, MethodRef, Status};
 use std::alloc::{AllocError, Global};
 use std::test::Fail;
+use transfer_chunk::Tuning;
 
 const DEMO: u32 = 0x70F4_5CFB;
 
@@ -16,6 +18,12 @@ const SUM: u32 = 0x0957_0BB8;
 
 const CHAT: u32 = 0x9BA9_81BC;
 
+const TRANSFER: u32 = 0x5BD6_C87B;
+
+const READ: u32 = 0x5B78_66DA;
+
+const WRITE: u32 = 0xD463_0586;
+
 static LONG: [u8; 8001] = [255; 8001];
 
 /// An answer on one line: its messages, and its end if it has one. Payloads are as byte strings.
@@ -24,7 +32,10 @@ fn line_of(alloc: Global, answer: &Answer) -> Result<String, AllocError> {
     for item in answer.items.as_slice() {
         match item {
             Out::Say(payload) => line.push_str(&format!(in alloc; "say {payload:?} ")?)?,
-            _ => line.push_str("store ")?,
+            Out::Begin { .. } => line.push_str("begin ")?,
+            Out::Append { .. } => line.push_str("append ")?,
+            Out::Commit { .. } => line.push_str("commit ")?,
+            Out::Leave { .. } => line.push_str("leave ")?,
         }
     }
     if let Some(end) = &answer.end {
@@ -33,6 +44,18 @@ fn line_of(alloc: Global, answer: &Answer) -> Result<String, AllocError> {
         line.push_str(&format!(in alloc; "end {status} {payload:?}")?)?;
     }
     Ok(line)
+}
+
+/// A maker over resource 7, which is `hi`.
+fn maker(alloc: Global) -> Result<DemoMaker, AllocError> {
+    let mut full = Fulls::new(alloc);
+    full.push((7, Bytes::from_static(b"hi")))?;
+    let left = Lefts::new(alloc);
+    let tuning = Tuning {
+        window: 4,
+        chunk: 256,
+    };
+    DemoMaker::new(alloc, Shelf { full, left }, tuning)
 }
 
 fn request(bytes: &'static [u8]) -> Event {
@@ -61,7 +84,7 @@ fn first_answer<M: Maker>(
 
 #[test]
 fn each_method_answers_by_its_rule(rt: HostRuntime) -> Result<(), Fail> {
-    let maker = DemoMaker::new(rt.alloc())?;
+    let maker = maker(rt.alloc())?;
     let rows = [
         ("echo", ECHO, request(b"abc"), r#"end OK b"abc""#),
         ("echo of nothing", ECHO, request(b""), r#"end OK b"""#),
@@ -145,7 +168,7 @@ fn a_sum_carries_past_four_bytes(rt: HostRuntime) -> Result<(), Fail> {
 }
 
 #[test]
-fn the_registry_has_four_methods(rt: HostRuntime) -> Result<(), Fail> {
+fn the_registry_has_six_methods(rt: HostRuntime) -> Result<(), Fail> {
     let registry = demo_registry(rt.alloc())?;
     let rows = [
         (ECHO, Kind::Unary),
@@ -162,7 +185,85 @@ fn the_registry_has_four_methods(rt: HostRuntime) -> Result<(), Fail> {
         };
         assert_eq!(rt; registry.find(DEMO, method), Some(row));
     }
-    assert_eq!(rt; registry.find(DEMO, 0x5B78_66DA), None);
+    for method in [READ, WRITE] {
+        let row = MethodRef {
+            service: TRANSFER,
+            method,
+            kind: Kind::Bidi,
+            ticks: true,
+        };
+        assert_eq!(rt; registry.find(TRANSFER, method), Some(row));
+    }
+    assert_eq!(rt; registry.find(DEMO, READ), None);
+    Ok(())
+}
+
+// START of resource 7, confirmation of session 1 up to 1,024, and its COMPLETION OK.
+static START: [u8; 8] = [0x50, 0x01, 0x58, 0x07, 0x68, 0x02, 0x70, 0x01];
+
+static CONFIRMATION: [u8; 9] = [0x48, 0x80, 0x08, 0x50, 0x07, 0x60, 0x01, 0x68, 0x02];
+
+static COMPLETION: [u8; 6] = [0x40, 0x00, 0x50, 0x04, 0x60, 0x01];
+
+// The last data chunk of session 1, `hi` at 0.
+static LAST: [u8; 10] = [0x32, 0x02, 0x68, 0x69, 0x38, 0x00, 0x50, 0x00, 0x60, 0x01];
+
+/// What a call of a method of the transfer service answers to these events, each on a line.
+fn transfer_lines(alloc: Global, method: u32, events: &[Event]) -> Result<String, AllocError> {
+    let mut call = maker(alloc)?.make(MethodRef {
+        service: TRANSFER,
+        method,
+        kind: Kind::Bidi,
+        ticks: true,
+    })?;
+    let mut lines = String::new(alloc);
+    for ev in events {
+        let line = line_of(alloc, &call.on(ev)?)?;
+        lines.push_str(&line)?;
+        lines.push_str("\n")?;
+    }
+    Ok(lines)
+}
+
+#[test]
+fn a_resource_is_read(rt: HostRuntime) -> Result<(), Fail> {
+    let events = [
+        request(b""),
+        message(&START),
+        message(b"\x07"),
+        message(&CONFIRMATION),
+        message(&COMPLETION),
+        Event::Completion,
+    ];
+    let want = concat!(
+        "\n",
+        "say b\"P\\x06`\\x01h\\x02\" \n",
+        "\n",
+        "say b\"2\\x02hi8\\0P\\0`\\x01\" \n",
+        "say b\"P\\x05`\\x01\" \n",
+        "end OK b\"\"\n",
+    );
+    assert_eq!(rt; transfer_lines(rt.alloc(), READ, &events)?.as_str(), want);
+    Ok(())
+}
+
+#[test]
+fn a_resource_is_written(rt: HostRuntime) -> Result<(), Fail> {
+    let events = [
+        message(&START),
+        message(&CONFIRMATION),
+        message(&LAST),
+        Event::Tick(2_000),
+        Event::Ended(Status::Cancelled),
+    ];
+    let want = concat!(
+        "begin say b\"P\\x06`\\x01h\\x02\" \n",
+        "say b\"\\x18\\x80\\x02H\\x80\\x08P\\x02`\\x01\" \n",
+        "append commit say b\"@\\0P\\x04`\\x01\" \n",
+        "say b\"@\\0P\\x04`\\x01\" \n",
+        "\n",
+    );
+    assert_eq!(rt; transfer_lines(rt.alloc(), WRITE, &events)?.as_str(), want);
     Ok(())
 }
 
@@ -173,6 +274,6 @@ fn on_several_threads<T: Sync>(_: &T) {}
 #[test]
 fn calls_may_move_to_other_threads(rt: HostRuntime) -> Result<(), Fail> {
     on_another_thread(&DemoCall::Chat(Chat::new(rt.alloc())));
-    on_several_threads(&DemoMaker::new(rt.alloc())?);
+    on_several_threads(&maker(rt.alloc())?);
     Ok(())
 }

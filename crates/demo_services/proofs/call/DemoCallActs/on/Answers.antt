@@ -8,4 +8,4 @@ use Rattle.demo_services.proofs.call.DemoCallActs.on.Goals as goal
 
 pub returns-in-Count-clause-limits : goal.returns-in-Count-clause-limits
 returns-in-Count-clause-limits c =
-    IfOk-weaker c.on-in-Count.result (λ a. a ≡ count_answer c.args.ev.now) (λ a. is_past_limits a ≡ false) (λ a e. rw e (answer_limits (Count tt) c.args.ev.now)) c.on-in-Count.ensures
+    IfOk-weaker c.on-in-Count.result (λ a. a ≡ count_answer c.args.ev.now) (λ a. is_past_limits a ≡ false) (λ a e. rw e (answer_limits (Count tt) c.args.ev.now tt)) c.on-in-Count.ensures
