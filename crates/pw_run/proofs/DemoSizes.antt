@@ -1,14 +1,17 @@
 -- How many items the demo service answers with.
-use Rattle.std.proofs.Common.{◌≡◌, ℕ, ◌+◌, ◌≤◌, nat_le, Bool, true, false, List, [], ◌∷◌, if◌then◌else◌, refl, arith}
-use Rattle.std.proofs.lemmas.Bool.{leb-true}
+use Rattle.std.proofs.Common.{◌≡◌, ℕ, ◌+◌, ◌≤◌, nat_le, Bool, true, false, List, [], ◌∷◌, if◌then◌else◌, refl, sym, arith}
+use Rattle.std.proofs.lemmas.Bool.{leb-true, true≢false}
 use Rattle.std.proofs.lemmas.List.FromFn.{length-map-range_with_len}
 use Rattle.rpc_ids.specs.declared.status.Status.TheVariants.{Okay, InvalidArgument}
 use Rattle.rpc_handlers.specs.declared.answer.Out.TheVariants.{Say}
+use Rattle.rpc_packet.specs.declared.owned.Packet.{Packet}
 use Rattle.rpc_handlers.specs.declared.event.Event.{Event}
+use Rattle.rpc_handlers.specs.declared.event.Memo.{Memo}
+use Rattle.rpc_journal.specs.declared.setting.Setting.{Setting}
 use Rattle.rpc_handlers.specs.declared.event.Event.TheVariants.{Request, Message, Completion, Ended, Tick}
 use Rattle.rpc_handlers.specs.Limits.{is_long}
 use Rattle.demo_services.specs.declared.call.DemoCall.{DemoCall}
-use Rattle.demo_services.specs.declared.call.DemoCall.TheVariants.{Echo, Count, Sum, Chat}
+use Rattle.demo_services.specs.declared.call.DemoCall.TheVariants.{Echo, Count, Sum, Chat, Transfer}
 use Rattle.demo_services.specs.Answers.{ends, says, too_long}
 use Rattle.demo_services.specs.Chat.{chat_answer}
 use Rattle.demo_services.specs.Count.{count_answer, count_to}
@@ -16,6 +19,7 @@ use Rattle.demo_services.specs.DemoCall.{answer_of, call_of}
 use Rattle.demo_services.specs.DemoRule.{demo_rule}
 use Rattle.demo_services.specs.Echo.{echo_answer}
 use Rattle.schedule_size.specs.Size.{AnswersWithin, answer_items}
+use Rattle.pw_run.proofs.GoodCalls.{demo_stays, is_demo, is_demo_call}
 
 -- The most items that the demo service answers to an event: to a request of one byte of at most 64, as Count is asked,
 -- so many messages and an end; to the end of a call or a moment none; and to another event one.
@@ -60,35 +64,36 @@ request_few n = at (nat_le n 64) refl
     at true small = omega (arith, leb-true n 64 small)
     at false large = omega arith
 
-answer_few : (call : DemoCall) (ev : Event) → answer_items (answer_of call ev) ≤ demo_most ev
-answer_few (Echo _) (Request []) = echo_one []
-answer_few (Echo _) (Request (n ∷ [])) = omega (arith, echo_one (n ∷ []), request_some n)
-answer_few (Echo _) (Request (n ∷ m ∷ rest)) = echo_one (n ∷ m ∷ rest)
-answer_few (Echo _) (Message _) = omega arith
-answer_few (Echo _) Completion = omega arith
-answer_few (Echo _) (Ended _) = omega arith
-answer_few (Echo _) (Tick _) = omega arith
-answer_few (Count _) (Request []) = omega arith
-answer_few (Count _) (Request (n ∷ [])) = count_few n
-answer_few (Count _) (Request (n ∷ m ∷ rest)) = omega arith
-answer_few (Count _) (Message _) = omega arith
-answer_few (Count _) Completion = omega arith
-answer_few (Count _) (Ended _) = omega arith
-answer_few (Count _) (Tick _) = omega arith
-answer_few (Sum _) (Request []) = omega arith
-answer_few (Sum _) (Request (n ∷ [])) = omega arith
-answer_few (Sum _) (Request (n ∷ m ∷ rest)) = omega arith
-answer_few (Sum _) (Message _) = omega arith
-answer_few (Sum total) Completion = omega arith
-answer_few (Sum _) (Ended _) = omega arith
-answer_few (Sum _) (Tick _) = omega arith
-answer_few (Chat _) (Request []) = omega arith
-answer_few (Chat _) (Request (n ∷ [])) = omega arith
-answer_few (Chat _) (Request (n ∷ m ∷ rest)) = omega arith
-answer_few (Chat _) (Message payload) = chat_one payload
-answer_few (Chat _) Completion = omega arith
-answer_few (Chat _) (Ended _) = omega arith
-answer_few (Chat _) (Tick _) = omega arith
+answer_few : (call : DemoCall) (ev : Event) → is_demo_call call ≡ true → answer_items (answer_of call ev) ≤ demo_most ev
+answer_few (Echo _) (Request []) good = echo_one []
+answer_few (Echo _) (Request (n ∷ [])) good = omega (arith, echo_one (n ∷ []), request_some n)
+answer_few (Echo _) (Request (n ∷ m ∷ rest)) good = echo_one (n ∷ m ∷ rest)
+answer_few (Echo _) (Message _) good = omega arith
+answer_few (Echo _) Completion good = omega arith
+answer_few (Echo _) (Ended _) good = omega arith
+answer_few (Echo _) (Tick _) good = omega arith
+answer_few (Count _) (Request []) good = omega arith
+answer_few (Count _) (Request (n ∷ [])) good = count_few n
+answer_few (Count _) (Request (n ∷ m ∷ rest)) good = omega arith
+answer_few (Count _) (Message _) good = omega arith
+answer_few (Count _) Completion good = omega arith
+answer_few (Count _) (Ended _) good = omega arith
+answer_few (Count _) (Tick _) good = omega arith
+answer_few (Sum _) (Request []) good = omega arith
+answer_few (Sum _) (Request (n ∷ [])) good = omega arith
+answer_few (Sum _) (Request (n ∷ m ∷ rest)) good = omega arith
+answer_few (Sum _) (Message _) good = omega arith
+answer_few (Sum total) Completion good = omega arith
+answer_few (Sum _) (Ended _) good = omega arith
+answer_few (Sum _) (Tick _) good = omega arith
+answer_few (Chat _) (Request []) good = omega arith
+answer_few (Chat _) (Request (n ∷ [])) good = omega arith
+answer_few (Chat _) (Request (n ∷ m ∷ rest)) good = omega arith
+answer_few (Chat _) (Message payload) good = chat_one payload
+answer_few (Chat _) Completion good = omega arith
+answer_few (Chat _) (Ended _) good = omega arith
+answer_few (Chat _) (Tick _) good = omega arith
+answer_few (Transfer b) ev good = absurd (true≢false (sym good))
 
-pub demo_within : AnswersWithin demo_rule demo_most
-demo_within = record { within = λ state event. answer_few (call_of state) event }
+pub demo_within : AnswersWithin demo_rule is_demo demo_most
+demo_within = record { within = λ state event good. answer_few (call_of state) event good; stays = demo_stays }

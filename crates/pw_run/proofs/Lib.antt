@@ -1,8 +1,7 @@
 mod ChannelLemmas
 mod DemoSizes
 mod FullLemmas
-mod HeardLemmas
+mod GoodCalls
 mod LoadSizes
 mod ServedLemmas
-mod UnbuiltLemmas
 mod WritesLemmas

@@ -6,8 +6,8 @@ use Rattle.rpc_handlers.specs.HandlerRule.{HandlerRule}
 use Rattle.rpc_journal.specs.declared.item.Item.{Item}
 use Rattle.rpc_journal.specs.Table.{Table}
 use Rattle.rpc_schedule.specs.declared.ending.Ending.{Ending}
-use Rattle.rpc_schedule.specs.declared.ending.Ending.TheVariants.{AtEnd, SourceFault, InputLimit, JournalLimit}
-use Rattle.rpc_schedule.specs.Replays.{FillsJournal, Replayed, Replays}
+use Rattle.rpc_schedule.specs.declared.ending.Ending.TheVariants.{AtEnd, SourceFault, StoreFault, InputLimit, JournalLimit}
+use Rattle.rpc_schedule.specs.Replays.{FillsJournal, Replayed, Replays, StopsBehind}
 
 replays_as : {rule : HandlerRule} {heard : List ℕ → List Packet} (P Q : List ℕ → Type 0)
     {left_old left_new : Option (List ℕ)} {ending : Ending} {table : Table} {items : List Item}
@@ -17,27 +17,27 @@ replays_as P Q so r = record {
   bytes = r.bytes;
   taken = r.taken;
   within = r.within;
+  below = r.below;
   at_end = r.at_end;
   at_limit = r.at_limit;
   fed = so r.bytes r.fed;
   arrived = r.arrived;
   history = r.history;
+  room = r.room;
   settled = r.settled;
   items_are = r.items_are;
 }
 
-fills_as : {rule : HandlerRule} {heard : List ℕ → List Packet} (P Q : List ℕ → Type 0)
-    {left_old left_new : Option (List ℕ)} {table : Table} {items : List Item}
-    → ((bytes : List ℕ) → P bytes → Q bytes)
-    → FillsJournal rule heard P left_old left_new table items → FillsJournal rule heard Q left_old left_new table items
-fills_as P Q so r = record {
+stops_as : {heard : List ℕ → List Packet} (P Q : List ℕ → Type 0) {left_old left_new : Option (List ℕ)} {table : Table} → ((bytes : List ℕ) → P bytes → Q bytes)
+    → StopsBehind heard P left_old left_new table → StopsBehind heard Q left_old left_new table
+stops_as P Q so r = record {
   bytes = r.bytes;
   unfed = r.unfed;
   taken = r.taken;
   within = r.within;
   fed = so r.bytes r.fed;
-  beginning = r.beginning;
-  items_are = r.items_are;
+  last = r.last;
+  all = r.all;
 }
 
 -- what was served stands for each weaker word on the bytes
@@ -45,10 +45,13 @@ pub replayed_as : (rule : HandlerRule) (heard : List ℕ → List Packet) (P Q :
     (left_old left_new : Option (List ℕ)) (ending : Ending) (table : Table) (items : List Item)
     → ((bytes : List ℕ) → P bytes → Q bytes)
     → Replayed rule heard P left_old left_new ending table items → Replayed rule heard Q left_old left_new ending table items
+unfolding stops_as
 replayed_as rule heard P Q left_old left_new AtEnd table items so r = replays_as P Q so r
 replayed_as rule heard P Q left_old left_new SourceFault table items so r = replays_as P Q so r
 replayed_as rule heard P Q left_old left_new InputLimit table items so r = replays_as P Q so r
-replayed_as rule heard P Q left_old left_new JournalLimit table items so r = fills_as P Q so r
+replayed_as rule heard P Q left_old left_new JournalLimit table items so r =
+    record { read = stops_as P Q so r.read; beginning = r.beginning; items_are = r.items_are }
+replayed_as rule heard P Q left_old left_new StoreFault table items so r = record { read = stops_as P Q so r.read; stop = r.stop }
 
 -- all of a stream was taken
 pub all_taken : (stream left bytes : List ℕ) → stream ≡ bytes ++ left → left ≡ [] → bytes ≡ stream

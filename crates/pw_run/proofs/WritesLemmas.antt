@@ -1,5 +1,12 @@
 -- What is written of a text, by outcome.
-use Rattle.std.proofs.Common.{ℕ, List, Option}
+use Rattle.std.proofs.Common.{◌≡◌, ℕ, List, [], Option, IfSome, refl, subst, inl, inr}
+use Rattle.link_io.specs.declared.shelf.Shelf.{Shelf}
+use Rattle.link_io.specs.Stored.{Stored, shelf_of}
+use Rattle.rpc_frames.specs.declared.counts.Counts.{Counts}
+use Rattle.rpc_journal.specs.declared.item.Item.{Item}
+use Rattle.rpc_journal.specs.Table.{Table}
+use Rattle.rpc_schedule.specs.declared.ending.Ending.{Ending}
+use Rattle.rpc_schedule.specs.Kept.{Holds}
 use Rattle.rpc_schedule.specs.declared.ending.Ending.TheVariants as ended
 use Rattle.run_report.specs.Lines.{ending_line}
 use Rattle.pw_run.specs.declared.command.Form.{Form}
@@ -7,7 +14,7 @@ use Rattle.pw_run.specs.declared.outcome.Outcome.{Outcome}
 use Rattle.pw_run.specs.declared.outcome.Outcome.TheVariants.{NoMemory, InputLimit}
 use Rattle.pw_run.specs.Check.{WritesLimit}
 use Rattle.pw_run.specs.Load.{DidLoad, ServesLoad, WritesLoad}
-use Rattle.pw_run.specs.Replay.{DidReplay, RunsReplay}
+use Rattle.pw_run.specs.Replay.{DidReplay, ServesDemo, ServesShelf, ServesStream, WritesRun, no_counts, no_table}
 use Rattle.pw_run.specs.Writes.{Writes}
 
 pub limit_told : (old new : Option (List ℕ)) (outcome : Outcome)
@@ -15,10 +22,32 @@ pub limit_told : (old new : Option (List ℕ)) (outcome : Outcome)
 limit_told old new NoMemory writes = tt
 limit_told old new _ writes = writes
 
-pub replay_did : (form : Form) (left_old left_new old new : Option (List ℕ)) (outcome : Outcome)
-    → RunsReplay form left_old left_new old new outcome → DidReplay form left_old left_new old new outcome
-replay_did form left_old left_new old new NoMemory runs = tt
-replay_did form left_old left_new old new _ runs = runs
+-- what a run did, where what was written of its text is so
+pub shelf_served : (form : Form) (shelf : Shelf) (left_old left_new : Option (List ℕ)) (store_old store_new : Option Stored) (counts : Counts) (table : Table)
+    (items : List Item) (ending : Ending) (old new : Option (List ℕ)) (outcome : Outcome) → ServesDemo shelf left_old left_new ending counts table items
+    → Holds items store_old store_new → WritesRun form counts table items ending old new outcome
+    → ServesShelf form shelf left_old left_new old new store_old store_new outcome
+shelf_served form shelf left_old left_new store_old store_new counts table items ending old new NoMemory serves holds writes = tt
+shelf_served form shelf left_old left_new store_old store_new counts table items ending old new _ serves holds writes =
+    record { ending = ending; counts = counts; table = table; items = items; serves = serves; holds = holds; writes = writes }
+
+-- what was done over a shelf that was listed
+pub replay_did : (form : Form) (shelf : Shelf) (left_old left_new old new : Option (List ℕ)) (store_old listed store_new : Option Stored) (outcome : Outcome)
+    → IfSome store_old (λ st. shelf ≡ shelf_of st) → listed ≡ store_old → ServesShelf form shelf left_old left_new old new listed store_new outcome
+    → DidReplay form left_old left_new old new store_old store_new outcome
+replay_did form shelf left_old left_new old new store_old listed store_new outcome is same serves =
+    at outcome (subst (λ st. ServesShelf form shelf left_old left_new old new st store_new outcome) same serves)
+  where
+    at : (outcome : Outcome) → ServesShelf form shelf left_old left_new old new store_old store_new outcome
+        → DidReplay form left_old left_new old new store_old store_new outcome
+    at NoMemory stream = tt
+    at _ stream = inl (record { shelf = shelf; listed = is; stream = stream })
+
+-- what was done where the store couldn't be listed
+pub nothing_did : (form : Form) (left old new : Option (List ℕ)) (store_old store_new : Option Stored) (outcome : Outcome) → store_new ≡ store_old
+    → WritesRun form no_counts no_table [] ended.StoreFault old new outcome → DidReplay form left left old new store_old store_new outcome
+nothing_did form left old new store_old store_new NoMemory same writes = tt
+nothing_did form left old new store_old store_new _ same writes = inr (record { unread = refl; same = same; writes = writes })
 
 -- what a load did, where what was written of its text is so
 pub load_served : (calls seed : ℕ) (text : List ℕ) (own : Outcome) (old new : Option (List ℕ)) (outcome : Outcome)

@@ -10,7 +10,7 @@ use Rattle.journal_text.specs.Verdicts.{IsVerdict, verdict_text}
 use Rattle.run_report.specs.Lines.{ending_line}
 use Rattle.pw_run.specs.declared.outcome.Outcome.{Outcome}
 use Rattle.pw_run.specs.declared.outcome.Outcome.TheVariants.{Done, NoMemory, SourceFault, BadLine, InputLimit}
-use Rattle.pw_run.specs.Demo.{demo_setting}
+use Rattle.pw_run.specs.Demo.{demo_setting, no_shelf}
 use Rattle.pw_run.specs.Writes.{Writes}
 
 -- the outcome of a run that told this verdict
@@ -21,7 +21,7 @@ outcome_on _ = Done
 -- the verdict on the text as a journal of the demo service's server was told
 pub record TellsVerdict (text : List ℕ) (written_old written_new : Option (List ℕ)) (outcome : Outcome) : Type 0 where
   pub verdict : Verdict
-  pub is : IsVerdict demo_setting text verdict
+  pub is : IsVerdict (demo_setting no_shelf) text verdict
   pub writes : Writes written_old written_new (ended (verdict_text verdict)) (outcome_on verdict) outcome
 
 abbrev pub WritesVerdict : List ℕ → Option (List ℕ) → Option (List ℕ) → Outcome → Type 0

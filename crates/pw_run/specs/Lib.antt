@@ -5,5 +5,4 @@ pub mod Load
 pub mod Outcome
 pub mod Recorded
 pub mod Replay
-pub mod Unbuilt
 pub mod Writes

@@ -9,7 +9,7 @@ use Rattle.load_stream.specs.Load.{load_packets}
 use Rattle.run_report.specs.Load.{load_report}
 use Rattle.pw_run.specs.declared.outcome.Outcome.{Outcome}
 use Rattle.pw_run.specs.declared.outcome.Outcome.TheVariants.{Done, NoMemory}
-use Rattle.pw_run.specs.Demo.{demo_setting}
+use Rattle.pw_run.specs.Demo.{demo_setting, no_shelf}
 use Rattle.pw_run.specs.Writes.{Writes}
 
 -- what was written of this text, where there was memory
@@ -20,9 +20,9 @@ WritesLoad text own written_old written_new outcome = Writes written_old written
 -- the calls were served, in the one history of their packets, and the totals of what was answered were written
 pub record ServesLoad (calls seed : ℕ) (written_old written_new : Option (List ℕ)) (outcome : Outcome) : Type 0 where
   pub entries : List Entry
-  pub served : IsOneThreadHistory demo_rule demo_setting (load_packets calls seed) entries
+  pub served : IsOneThreadHistory demo_rule (demo_setting no_shelf) (load_packets calls seed) entries
   pub writes :
-      Writes written_old written_new (load_report calls seed (items_sent (history demo_setting entries))) Done outcome
+      Writes written_old written_new (load_report calls seed (items_sent (history (demo_setting no_shelf) entries))) Done outcome
 
 -- what was written, where there was memory
 abbrev pub DidLoad : ℕ → ℕ → Option (List ℕ) → Option (List ℕ) → Outcome → Type 0

@@ -3,7 +3,7 @@ use Rattle.std.specs.Prelude.{ℕ}
 use Rattle.rpc_schedule.specs.declared.ending.Ending.{Ending}
 use Rattle.rpc_schedule.specs.declared.ending.Ending.TheVariants as ended
 use Rattle.pw_run.specs.declared.outcome.Outcome.{Outcome}
-use Rattle.pw_run.specs.declared.outcome.Outcome.TheVariants.{Done, NoMemory, BadWords, SourceFault, SinkFault, BadLine, InputLimit, JournalLimit, NotBuilt}
+use Rattle.pw_run.specs.declared.outcome.Outcome.TheVariants.{Done, NoMemory, BadWords, SourceFault, SinkFault, StoreFault, BadLine, InputLimit, JournalLimit}
 
 abbrev pub code_of : Outcome → ℕ
 code_of Done = 0
@@ -11,15 +11,16 @@ code_of NoMemory = 1
 code_of BadWords = 2
 code_of SourceFault = 3
 code_of SinkFault = 4
+code_of StoreFault = 5
 code_of BadLine = 7
 code_of InputLimit = 8
 code_of JournalLimit = 8
-code_of NotBuilt = 10
 
 -- the outcome of a run whose stream ended so, and whose text was written whole
 abbrev pub outcome_of : Ending → Outcome
 outcome_of ended.AtEnd = Done
 outcome_of ended.SourceFault = SourceFault
+outcome_of ended.StoreFault = StoreFault
 outcome_of ended.InputLimit = InputLimit
 outcome_of ended.JournalLimit = JournalLimit
 
@@ -27,5 +28,4 @@ outcome_of ended.JournalLimit = JournalLimit
 abbrev pub IsSilent : Outcome → Type 0
 IsSilent NoMemory = Unit {0}
 IsSilent BadWords = Unit {0}
-IsSilent NotBuilt = Unit {0}
 IsSilent _ = ⊥

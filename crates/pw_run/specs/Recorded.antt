@@ -1,5 +1,6 @@
--- What a run of each recorded command read and wrote.
+-- What a run of each recorded command read, wrote and stored.
 use Rattle.std.specs.Prelude.{◌≡◌, ℕ, ◌≤◌, List, Option}
+use Rattle.link_io.specs.Stored.{Stored}
 use Rattle.pw_run.specs.declared.command.Command.{Command}
 use Rattle.pw_run.specs.declared.command.Command.TheVariants.{Replay, Check, Load}
 use Rattle.pw_run.specs.declared.command.TheConstants.{MAX_LOAD}
@@ -9,18 +10,24 @@ use Rattle.pw_run.specs.Check.{DidCheck}
 use Rattle.pw_run.specs.Load.{DidLoad}
 use Rattle.pw_run.specs.Replay.{DidReplay}
 
--- what is left of the input and what is written, before and after a command with this outcome
-abbrev pub Did : Command → Option (List ℕ) → Option (List ℕ) → Option (List ℕ) → Option (List ℕ) → Outcome → Type 0
-Did (Replay form) left_old left_new written_old written_new outcome =
-    DidReplay form left_old left_new written_old written_new outcome
-Did Check left_old left_new written_old written_new outcome =
+-- what is left of the input, what is written and what the store holds, before and after a command with this outcome
+abbrev pub Did : Command → Option (List ℕ) → Option (List ℕ) → Option (List ℕ) → Option (List ℕ) → Option Stored → Option Stored → Outcome → Type 0
+Did (Replay form) left_old left_new written_old written_new store_old store_new outcome =
+    DidReplay form left_old left_new written_old written_new store_old store_new outcome
+Did Check left_old left_new written_old written_new store_old store_new outcome =
     DidCheck left_old left_new written_old written_new outcome
-Did (Load calls seed) left_old left_new written_old written_new outcome =
+Did (Load calls seed) left_old left_new written_old written_new store_old store_new outcome =
     DidLoad calls seed written_old written_new outcome
 
 -- the exit status is that of an outcome of which this holds
 abbrev pub EndsWith : ℕ → (Outcome → Type 0) → Type 0
 EndsWith status DidSo = (outcome : Outcome) × (status ≡ code_of outcome) × DidSo outcome
+
+-- the command doesn't touch the store that it is handed
+abbrev pub IsStoreless : Command → Type 0
+IsStoreless (Replay form) = ⊥
+IsStoreless Check = Unit {0}
+IsStoreless (Load calls seed) = Unit {0}
 
 -- a load has at most 30,000 calls
 abbrev pub Fits : Command → Type 0

@@ -1,13 +1,13 @@
 //! The command `check`: a journal's text is read and judged.
-ghost use Rattle.std.specs.Prelude.{◌≡◌, ◌≢◌, ◌≤◌, IfOk, string_bytes};
+ghost use Rattle.std.specs.Prelude.{◌≡◌, ◌≢◌, ◌≤◌, false, IfOk, string_bytes};
 ghost use Rattle.link_io.specs.Causes.{Rose};
 ghost use Rattle.link_io.specs.Reading.{ConsumesUpTo};
 ghost use Rattle.text_fields.specs.Lines.{ended};
 ghost use Rattle.journal_text.specs.Verdicts.{IsVerdict, verdict_text};
 ghost use Rattle.rpc_schedule.specs.declared.stream.TheConstants.{INPUT_LIMIT};
-ghost use Rattle.pw_run.specs.declared.outcome.Outcome.TheVariants.{BadWords, SinkFault, SourceFault};
+ghost use Rattle.pw_run.specs.declared.outcome.Outcome.TheVariants.{BadWords, SinkFault, SourceFault, StoreFault};
 ghost use Rattle.pw_run.specs.Check.{DidCheck, WritesLimit, WritesVerdict, outcome_on};
-ghost use Rattle.pw_run.specs.Demo.{demo_setting};
+ghost use Rattle.pw_run.specs.Demo.{demo_setting, no_shelf};
 ghost use Rattle.pw_run.specs.Outcome.{IsSilent};
 
 use crate::writing::write_text;
@@ -21,7 +21,9 @@ use std::alloc::{AllocError, Global};
 
 /// Reads the input as the text of a journal, and writes the verdict on it in one line.
 pub(crate) fn check<I: Source, O: Sink>(alloc: Global, input: &mut I, output: &mut O) -> Outcome
+    requires open { O.finished output.old ≡ false }
     ensures words { result ≢ BadWords }
+    ensures store { result ≢ StoreFault }
     ensures read { ConsumesUpTo INPUT_LIMIT (I.left input.old) (I.left input.new) }
     ensures did { DidCheck (I.left input.old) (I.left input.new) (O.written output.old) (O.written output.new) result }
     ensures silent { IsSilent result → output.new ≡ output.old }
@@ -42,6 +44,7 @@ pub(crate) fn check<I: Source, O: Sink>(alloc: Global, input: &mut I, output: &m
 
 // Writes that the input is too long.
 fn write_limit<O: Sink>(alloc: Global, output: &mut O) -> Outcome
+    requires open { O.finished output.old ≡ false }
     ensures writes { WritesLimit (O.written output.old) (O.written output.new) result }
     ensures silent { IsSilent result → output.new ≡ output.old }
     ensures sink { result ≡ SinkFault → Rose (O.faults output.old) (O.faults output.new) }
@@ -55,6 +58,7 @@ fn write_limit<O: Sink>(alloc: Global, output: &mut O) -> Outcome
 
 // Writes what is found of the text.
 fn write_verdict<O: Sink>(alloc: Global, text: &[u8], output: &mut O) -> Outcome
+    requires open { O.finished output.old ≡ false }
     ensures writes { WritesVerdict text.now (O.written output.old) (O.written output.new) result }
     ensures silent { IsSilent result → output.new ≡ output.old }
     ensures sink { result ≡ SinkFault → Rose (O.faults output.old) (O.faults output.new) }
@@ -71,7 +75,7 @@ fn write_verdict<O: Sink>(alloc: Global, text: &[u8], output: &mut O) -> Outcome
 
 // What is found of a text as the journal of the server of the demo service.
 fn verdict_on(alloc: Global, text: &[u8]) -> Result<Verdict, AllocError>
-    ensures { IfOk result (λ verdict. IsVerdict demo_setting text.now verdict) }
+    ensures { IfOk result (λ verdict. IsVerdict (demo_setting no_shelf) text.now verdict) }
 {
     let channels = demo::channels(alloc)?;
     let registry = demo_registry(alloc)?;

@@ -1,28 +1,47 @@
-//! What the recorded commands serve: the demo service, on channels 1 to 8.
+//! What the recorded commands serve: the demo service, on channels 1 to 8, over what a store lists.
 ghost use Rattle.std.specs.Prelude.{◌≡◌, ◌≢◌, [], None, IfOk, OnOk};
 ghost use Rattle.rpc_channel.specs.Rising.{with_id};
 ghost use Rattle.rpc_server.specs.Served.{WasFed};
-ghost use Rattle.pw_run.specs.Demo.{demo_channels, demo_setting};
+ghost use Rattle.pw_run.specs.Demo.{demo_channels, demo_setting, no_shelf};
 
 use demo_services::{DemoMaker, demo_registry};
+use link_io::{Fulls, Lefts, Shelf};
 use rpc_channel::Channels;
 use rpc_server::Server;
 use std::alloc::{AllocError, Global};
+use transfer_chunk::Tuning;
 
 /// Channels 1 to this one are in.
 pub const LAST_CHANNEL: u32 = 8;
 
-/// The server of the demo service, before any input.
-pub(crate) fn server(alloc: Global) -> Result<Server<DemoMaker>, AllocError>
-    ensures setting { IfOk result (λ s. s.serving.table.setting ≡ demo_setting) }
+/// The server of the demo service over this shelf, before any input.
+pub(crate) fn server(alloc: Global, shelf: Shelf) -> Result<Server<DemoMaker>, AllocError>
+    ensures setting { IfOk result (λ s. s.serving.table.setting ≡ demo_setting shelf) }
     ensures entries { IfOk result (λ s. s.serving.table.entries ≡ []) }
     ensures begins { IfOk result (λ s. (s.serving.kept ≡ None) × (s.serving.refused ≡ None)) }
     ensures fed { IfOk result (λ s. WasFed s []) }
 {
     let channels = channels(alloc)?;
     let registry = demo_registry(alloc)?;
-    let maker = DemoMaker::new(alloc)?;
+    let maker = DemoMaker::new(
+        alloc,
+        shelf,
+        Tuning {
+            window: 4,
+            chunk: 256,
+        },
+    )?;
     Server::new(alloc, channels, registry, maker)
+}
+
+/// A shelf without a resource.
+pub(crate) fn no_shelf(alloc: Global) -> Shelf
+    ensures { result ≡ no_shelf }
+{
+    Shelf {
+        full: Fulls::new(alloc),
+        left: Lefts::new(alloc),
+    }
 }
 
 /// The channels that are in.

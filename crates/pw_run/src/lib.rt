@@ -1,18 +1,19 @@
 //! The program: the words of its command line, what it reads, what it writes, and its exit status.
-//! It waits for nobody and touches no device of its own: [`run_recorded`] works over any source and sink, and says of
-//! each command and each exit status what was read and written. Enter there.
+//! It waits for nobody and touches no device of its own: [`run_recorded`] works over any source, sink and store, and says
+//! of each command and each exit status what was read, written and stored. Enter there.
 #![tactic(auto)]
 
 mod check;
 mod command;
 mod demo;
+pub mod laws;
 mod load;
+mod no_store;
 mod outcome;
 mod recorded;
 mod replay;
 #[cfg(test)]
 mod tests;
-mod unbuilt;
 mod writing;
 
 pub use command::{Command, Form, MAX_LOAD};

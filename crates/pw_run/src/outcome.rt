@@ -15,14 +15,14 @@ pub enum Outcome {
     SourceFault,
     /// A write of the output failed.
     SinkFault,
+    /// The store failed. What belongs to the items that went out before was written.
+    StoreFault,
     /// A line of the text that was read is bad, and its number was written.
     BadLine,
     /// So many bytes were read as an input may have, and what belongs to them was written.
     InputLimit,
     /// The journal was full.
     JournalLimit,
-    /// The input calls a method that isn't served yet. Nothing was written.
-    NotBuilt,
 }
 
 impl Outcome {
@@ -38,9 +38,9 @@ impl Outcome {
             Outcome::BadWords => 2,
             Outcome::SourceFault => 3,
             Outcome::SinkFault => 4,
+            Outcome::StoreFault => 5,
             Outcome::BadLine => 7,
             Outcome::InputLimit | Outcome::JournalLimit => 8,
-            Outcome::NotBuilt => 10,
         }
     }
 
@@ -51,6 +51,7 @@ impl Outcome {
         match ending {
             Ending::AtEnd => Outcome::Done,
             Ending::SourceFault => Outcome::SourceFault,
+            Ending::StoreFault => Outcome::StoreFault,
             Ending::InputLimit => Outcome::InputLimit,
             Ending::JournalLimit => Outcome::JournalLimit,
         }

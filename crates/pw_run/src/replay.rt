@@ -1,54 +1,116 @@
 //! The command `replay`: a recorded stream of a client is served.
-ghost use Rattle.std.specs.Prelude.{◌≡◌, ◌≢◌, ◌≤◌, IfOk};
+ghost use Rattle.std.specs.Prelude.{◌≡◌, ◌≢◌, ◌≤◌, false, [], IfOk};
 ghost use Rattle.link_io.specs.Causes.{Rose};
 ghost use Rattle.link_io.specs.Reading.{ConsumesUpTo};
 ghost use Rattle.rpc_schedule.specs.declared.stream.TheConstants.{INPUT_LIMIT};
-ghost use Rattle.pw_run.specs.declared.outcome.Outcome.TheVariants.{BadWords, NoMemory, NotBuilt, SinkFault, SourceFault};
-ghost use Rattle.pw_run.specs.Outcome.{IsSilent};
 ghost use Rattle.journal_text.specs.Printed.{journal_text};
-ghost use Rattle.pw_run.specs.Replay.{DidReplay, WritesRun, text_of};
-ghost use Rattle.pw_run.specs.Writes.{Writes};
+ghost use Rattle.pw_run.specs.declared.outcome.Outcome.TheVariants.{BadWords, SinkFault, SourceFault, StoreFault};
+ghost use Rattle.pw_run.specs.Outcome.{IsSilent};
+ghost use Rattle.pw_run.specs.Replay.{DidReplay, ServesShelf, WritesRun, no_counts, no_table, text_of};
 
-use crate::unbuilt::has_unbuilt;
 use crate::writing::write_text;
 use crate::{Form, Outcome, demo};
 use demo_services::DemoCall;
-use link_io::{Sink, Source};
+use link_io::{Shelf, Sink, Source, Store, StoreRefused};
 use rpc_calls::Calls;
-use rpc_frames::Counts;
 use rpc_journal::{Item, Journal};
 use rpc_schedule::Ending;
+use rpc_server::Counts;
 use run_report::{frame_bytes, report_text};
 use std::alloc::{AllocError, Global};
 
-/// Serves the input as a recorded stream of a client, and writes what this form tells of the run. The text is made whole
-/// before its first byte is written.
-pub(crate) fn replay<I: Source, O: Sink>(
+/// Lists the store, serves the input over its shelf as a recorded stream of a client, and writes what this form tells of
+/// the run. The text is made whole before its first byte is written.
+pub(crate) fn replay<I: Source, O: Sink, S: Store>(
     alloc: Global,
     form: Form,
     input: &mut I,
     output: &mut O,
+    store: &mut S,
 ) -> Outcome
+    requires open { O.finished output.old ≡ false }
     ensures words { result ≢ BadWords }
     ensures read { ConsumesUpTo INPUT_LIMIT (I.left input.old) (I.left input.new) }
-    ensures did { DidReplay form (I.left input.old) (I.left input.new) (O.written output.old) (O.written output.new) result }
+    ensures did { DidReplay form (I.left input.old) (I.left input.new) (O.written output.old) (O.written output.new)
+        (S.holds store.old) (S.holds store.new) result }
     ensures silent { IsSilent result → output.new ≡ output.old }
     ensures source { result ≡ SourceFault → Rose (I.faults input.old) (I.faults input.new) }
     ensures sink { result ≡ SinkFault → Rose (O.faults output.old) (O.faults output.new) }
+    ensures store { result ≡ StoreFault → Rose (S.faults store.old) (S.faults store.new) }
     ensures source_later { I.faults input.old ≤ I.faults input.new }
     ensures sink_later { O.faults output.old ≤ O.faults output.new }
+    ensures store_later { S.faults store.old ≤ S.faults store.new }
 {
-    let Ok(mut server) = demo::server(alloc) else {
+    match store.list() {
+        Ok(shelf) => serve(alloc, form, shelf, input, output, store),
+        Err(StoreRefused::Failed) => write_nothing(alloc, form, output),
+        Err(StoreRefused::Memory) => Outcome::NoMemory,
+    }
+}
+
+// Serves the input over this shelf, and writes what belongs to the run.
+fn serve<I: Source, O: Sink, S: Store>(
+    alloc: Global,
+    form: Form,
+    shelf: Shelf,
+    input: &mut I,
+    output: &mut O,
+    store: &mut S,
+) -> Outcome
+    requires open { O.finished output.old ≡ false }
+    ensures words { result ≢ BadWords }
+    ensures read { ConsumesUpTo INPUT_LIMIT (I.left input.old) (I.left input.new) }
+    ensures did { ServesShelf form shelf (I.left input.old) (I.left input.new) (O.written output.old) (O.written output.new)
+        (S.holds store.old) (S.holds store.new) result }
+    ensures silent { IsSilent result → output.new ≡ output.old }
+    ensures source { result ≡ SourceFault → Rose (I.faults input.old) (I.faults input.new) }
+    ensures sink { result ≡ SinkFault → Rose (O.faults output.old) (O.faults output.new) }
+    ensures store { result ≡ StoreFault → Rose (S.faults store.old) (S.faults store.new) }
+    ensures source_later { I.faults input.old ≤ I.faults input.new }
+    ensures sink_later { O.faults output.old ≤ O.faults output.new }
+    ensures store_later { S.faults store.old ≤ S.faults store.new }
+{
+    let Ok(mut server) = demo::server(alloc, shelf) else {
         return Outcome::NoMemory;
     };
     let mut items = Vec::new(alloc);
-    match rpc_schedule::replay(&mut server, input, &mut items) {
+    match rpc_schedule::replay(&mut server, input, store, &mut items) {
         Err(_) => Outcome::NoMemory,
         Ok(ending) => {
             let counts = server.counts();
             write_run(alloc, form, counts, server.calls(), &items, ending, output)
         }
     }
+}
+
+// Writes what belongs to a run in which the store couldn't be listed.
+fn write_nothing<O: Sink>(alloc: Global, form: Form, output: &mut O) -> Outcome
+    requires open { O.finished output.old ≡ false }
+    ensures writes { WritesRun form no_counts no_table [] Ending.StoreFault (O.written output.old) (O.written output.new) result }
+    ensures words { result ≢ BadWords }
+    ensures source { result ≢ SourceFault }
+    ensures silent { IsSilent result → output.new ≡ output.old }
+    ensures sink { result ≡ SinkFault → Rose (O.faults output.old) (O.faults output.new) }
+    ensures sink_later { O.faults output.old ≤ O.faults output.new }
+{
+    let Ok(server) = demo::server(alloc, demo::no_shelf(alloc)) else {
+        return Outcome::NoMemory;
+    };
+    let none = Counts {
+        valid: 0,
+        bad: 0,
+        other: 0,
+        dropped: 0,
+    };
+    write_run(
+        alloc,
+        form,
+        none,
+        server.calls(),
+        &[],
+        Ending::StoreFault,
+        output,
+    )
 }
 
 // Writes what belongs to a run that ended so.
@@ -61,15 +123,15 @@ fn write_run<O: Sink>(
     ending: Ending,
     output: &mut O,
 ) -> Outcome
+    requires open { O.finished output.old ≡ false }
     ensures writes { WritesRun form counts calls.now items.now ending (O.written output.old) (O.written output.new) result }
+    ensures words { result ≢ BadWords }
     ensures source { result ≡ SourceFault → ending ≡ Ending.SourceFault }
+    ensures store { result ≡ StoreFault → ending ≡ Ending.StoreFault }
     ensures silent { IsSilent result → output.new ≡ output.old }
     ensures sink { result ≡ SinkFault → Rose (O.faults output.old) (O.faults output.new) }
     ensures sink_later { O.faults output.old ≤ O.faults output.new }
 {
-    if has_unbuilt(calls.journal()) {
-        return Outcome::NotBuilt;
-    }
     match run_text(alloc, form, counts, calls, items, ending) {
         Err(_) => Outcome::NoMemory,
         Ok(text) => write_text(output, &text, Outcome::of(ending)),

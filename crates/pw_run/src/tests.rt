@@ -1,17 +1,20 @@
 //! The recorded commands over sources and sinks in memory. What they should write is what a server in plain Rust, with
 //! nothing proved, writes of the same bytes (`bench/replay`).
 
+mod cuts;
 mod devices;
 mod journals;
 mod limits;
 mod loads;
 mod methods;
 mod other_words;
+mod stores;
 mod streams;
+mod uploads;
 
 use crate::run_recorded;
 use bytes::Bytes;
-use link_io::{MemSink, MemSource};
+use link_io::{Fulls, MemSink, MemSource, MemStore};
 use rpc_frames::write_frame;
 use rpc_packet::{CallName, Packet, PacketType};
 use std::alloc::{AllocError, Global};
@@ -61,6 +64,11 @@ fn words(alloc: Global, line: &str) -> Result<Vec<String>, AllocError> {
     Ok(words)
 }
 
+/// A store without a resource.
+fn no_store(alloc: Global) -> Result<MemStore, AllocError> {
+    MemStore::new(alloc, Fulls::new(alloc), Fulls::new(alloc), Vec::new(alloc))
+}
+
 fn unhex(alloc: Global, digits: &str) -> Result<Vec<u8>, AllocError> {
     hex::decode(alloc, digits).map_err(|_| AllocError)
 }
@@ -69,7 +77,13 @@ fn unhex(alloc: Global, digits: &str) -> Result<Vec<u8>, AllocError> {
 fn run(alloc: Global, line: &str, content: Vec<u8>) -> Result<Ran, AllocError> {
     let mut input = MemSource::new(content, Vec::new(alloc));
     let mut output = MemSink::new(Vec::new(alloc), Vec::new(alloc));
-    let status = run_recorded(alloc, &words(alloc, line)?, &mut input, &mut output);
+    let status = run_recorded(
+        alloc,
+        &words(alloc, line)?,
+        &mut input,
+        &mut output,
+        &mut no_store(alloc)?,
+    );
     Ok(Ran {
         status,
         output: Vec::from_slice(alloc, output.bytes())?,

@@ -2,3 +2,4 @@ pub mod Items
 pub mod Lines
 pub mod Load
 pub mod Report
+pub mod Uploads

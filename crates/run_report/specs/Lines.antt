@@ -13,7 +13,7 @@ use Rattle.rpc_packet.specs.declared.owned.Packet.{Packet}
 use Rattle.rpc_packet.specs.Message.{message_of}
 use Rattle.rpc_frames.specs.declared.counts.Counts.{Counts}
 use Rattle.rpc_schedule.specs.declared.ending.Ending.{Ending}
-use Rattle.rpc_schedule.specs.declared.ending.Ending.TheVariants.{AtEnd, SourceFault, InputLimit, JournalLimit}
+use Rattle.rpc_schedule.specs.declared.ending.Ending.TheVariants.{AtEnd, SourceFault, StoreFault, InputLimit, JournalLimit}
 use Rattle.rpc_frames.specs.Written.{frame_of_packet}
 
 -- these words with a blank between each two, and a newline
@@ -51,10 +51,15 @@ call_line number name kind end =
 unfoldable pub out_line : Packet → List ℕ
 out_line packet = line (codes "out" ∷ encode_lower (frame_of_packet (message_of packet)) ∷ [])
 
+-- an upload that ended well: its resource, and the offset at which it began with all bytes appended to it
+unfoldable pub stored_line : ℕ → ℕ → List ℕ
+stored_line resource length = line (codes "stored" ∷ decimal resource ∷ decimal length ∷ [])
+
 -- how the reading of the stream ended
 abbrev pub ending_text : Ending → List ℕ
 ending_text AtEnd = codes "done"
 ending_text SourceFault = codes "source fault"
+ending_text StoreFault = codes "store fault"
 ending_text InputLimit = codes "limit input 67108864"
 ending_text JournalLimit = codes "limit journal 1000000"
 

@@ -7,7 +7,7 @@ use Rattle.rpc_journal.specs.Effect.{Deed, Opening}
 use Rattle.rpc_journal.specs.Table.{Table, past}
 use Rattle.rpc_frames.specs.declared.counts.Counts.{Counts}
 use Rattle.rpc_schedule.specs.declared.ending.Ending.{Ending}
-use Rattle.run_report.specs.Items.{out_lines}
+use Rattle.run_report.specs.Items.{item_lines}
 use Rattle.run_report.specs.Lines.{frames_line, call_line, ending_line}
 
 -- the line of a call with its number
@@ -19,7 +19,7 @@ line_of_call ds numbered =
 abbrev pub call_lines : List Deed → List ℕ
 call_lines ds = flat_map (line_of_call ds) (enumerate_from 0 (calls ds))
 
--- the counts, the calls, the packets that went out, and how the reading of the stream ended
+-- the counts, the calls, the items that went out, and how the reading of the stream ended
 abbrev pub report : Table → Counts → List Item → Ending → List ℕ
 report table counts items ending =
-    frames_line counts ++ call_lines (past table) ++ out_lines items ++ ending_line ending
+    frames_line counts ++ call_lines (past table) ++ item_lines items ++ ending_line ending

@@ -10,6 +10,7 @@ mod lines;
 mod load;
 mod report;
 mod totals;
+mod uploads;
 
 pub use items::frame_bytes;
 pub use load::load_text;

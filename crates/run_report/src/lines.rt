@@ -1,7 +1,7 @@
 //! The lines of a report, each a function that appends it.
 
 ghost use Rattle.std.specs.Prelude.{◌≡◌, ◌++◌, OnOk, string_bytes};
-ghost use Rattle.run_report.specs.Lines.{frames_line, call_line, out_line, ending_line, ending_text, kind_name, end_name};
+ghost use Rattle.run_report.specs.Lines.{frames_line, call_line, out_line, stored_line, ending_line, ending_text, kind_name, end_name};
 
 use rpc_frames::{Counts, write_frame};
 use rpc_ids::{Kind, Status};
@@ -83,6 +83,18 @@ pub(crate) fn add_out_line(
     writeln!(text, "out {digits}")
 }
 
+/// An upload that ended well.
+#[tactic(auto, unfolding(crate::specs::Lines::stored_line))]
+pub(crate) fn add_stored_line(
+    resource: u32,
+    length: u64,
+    text: &mut String,
+) -> Result<(), AllocError>
+    ensures { OnOk result (string_bytes text.new ≡ string_bytes text.old ++ stored_line resource length) }
+{
+    writeln!(text, "stored {resource} {length}")
+}
+
 /// The last line.
 pub(crate) fn add_ending_line(ending: Ending, text: &mut String) -> Result<(), AllocError>
     ensures { OnOk result (string_bytes text.new ≡ string_bytes text.old ++ ending_line ending) }
@@ -97,6 +109,7 @@ fn ending_text(ending: Ending) -> &'static str
     match ending {
         Ending::AtEnd => "done",
         Ending::SourceFault => "source fault",
+        Ending::StoreFault => "store fault",
         Ending::InputLimit => "limit input 67108864",
         Ending::JournalLimit => "limit journal 1000000",
     }

@@ -5,7 +5,7 @@ ghost use Rattle.rpc_journal.specs.Table.{past};
 ghost use Rattle.run_report.specs.Lines.{ending_line};
 ghost use Rattle.run_report.specs.Report.{report, call_lines};
 
-use crate::items::add_out_lines;
+use crate::items::add_item_lines;
 use crate::lines::{add_call_line, add_ending_line, add_frames_line};
 use rpc_calls::Calls;
 use rpc_frames::Counts;
@@ -15,7 +15,7 @@ use rpc_schedule::Ending;
 use std::alloc::{AllocError, Global};
 
 /// The report of a run: a line with the counts of its stream, a line for each call, one for each packet among the items
-/// that went out, and one that tells how the reading of the stream ended. An item that acts on the store has no line.
+/// that went out and for each upload among them that ended well, and one that tells how the reading of the stream ended.
 pub fn report_text<H: Handler>(
     alloc: Global,
     counts: Counts,
@@ -28,7 +28,7 @@ pub fn report_text<H: Handler>(
     let mut text = String::new(alloc);
     add_frames_line(counts, &mut text)?;
     add_call_lines(alloc, calls, &mut text)?;
-    add_out_lines(alloc, items, &mut text)?;
+    add_item_lines(alloc, items, &mut text)?;
     add_ending_line(ending, &mut text)?;
     Ok(text)
 }

@@ -1,11 +1,11 @@
 //! Texts of runs that are small enough to read.
 ghost use Rattle.std.specs.Prelude.{◌≡◌, ◌≢◌, [], IfOk};
-ghost use Rattle.rpc_handlers.specs.HandlerRule.{empty_memo};
 ghost use Rattle.rpc_ids.specs.declared.method.Role.TheVariants.{Server};
 
 use crate::{frame_bytes, load_text, report_text};
 use bytes::Bytes;
 use demo_services::{DemoCall, DemoMaker, demo_registry};
+use link_io::{Fulls, Lefts, Shelf};
 use rpc_calls::Calls;
 use rpc_channel::Channels;
 use rpc_frames::Counts;
@@ -16,6 +16,7 @@ use rpc_packet::{CallName, Packet, PacketType};
 use rpc_schedule::Ending;
 use std::alloc::Global;
 use std::test::Fail;
+use transfer_chunk::Tuning;
 
 const DEMO: u32 = 0x70F4_5CFB;
 
@@ -58,10 +59,23 @@ fn name_of(method: u32) -> CallName
     }
 }
 
+// A maker of calls over no resource.
+fn maker_of_nothing(alloc: Global) -> Result<DemoMaker, Fail> {
+    let shelf = Shelf {
+        full: Fulls::new(alloc),
+        left: Lefts::new(alloc),
+    };
+    let tuning = Tuning {
+        window: 4,
+        chunk: 256,
+    };
+    Ok(DemoMaker::new(alloc, shelf, tuning)?)
+}
+
 // A table of the demo service, with channel 1 and no call.
 fn table(alloc: Global, maker: &DemoMaker) -> Result<Calls<DemoCall>, Fail>
     ensures role { IfOk result (λ t. t.setting.role ≡ Server) }
-    ensures seed { IfOk result (λ t. t.setting.seed ≡ empty_memo) }
+    ensures seed { IfOk result (λ t. t.setting.seed ≡ ⟦<DemoMaker as Maker>⟧.seed_memo maker.now) }
     ensures entries { IfOk result (λ t. t.entries ≡ []) }
 {
     let mut channels = Channels::new(alloc);
@@ -125,7 +139,7 @@ fn kept(act: Act) -> Item {
 #[test]
 fn each_ending_and_each_count_has_its_text(rt: HostRuntime) -> Result<(), Fail> {
     let alloc = rt.alloc();
-    let maker = DemoMaker::new(alloc)?;
+    let maker = maker_of_nothing(alloc)?;
     let calls = table(alloc, &maker)?;
     let for_others = Counts {
         valid: 2,
@@ -157,6 +171,11 @@ fn each_ending_and_each_count_has_its_text(rt: HostRuntime) -> Result<(), Fail> 
         ),
         (
             NO_SEGMENT,
+            Ending::StoreFault,
+            "frames 0 bad 0 other 0 dropped 0\nstore fault\n",
+        ),
+        (
+            NO_SEGMENT,
             Ending::InputLimit,
             "frames 0 bad 0 other 0 dropped 0\nlimit input 67108864\n",
         ),
@@ -177,7 +196,7 @@ fn each_ending_and_each_count_has_its_text(rt: HostRuntime) -> Result<(), Fail> 
 fn open_report(alloc: Global, method: u32) -> Result<String, Fail>
     requires { method ≢ 0 }
 {
-    let maker = DemoMaker::new(alloc)?;
+    let maker = maker_of_nothing(alloc)?;
     let calls = table_with_call(alloc, &maker, method)?;
     let text = report_text(alloc, ONE_FRAME, &calls, &[], Ending::AtEnd)?;
     Ok(text)
@@ -206,7 +225,7 @@ fn a_call_of_each_kind_is_open_before_it_runs(rt: HostRuntime) -> Result<(), Fai
 #[test]
 fn an_echo_is_reported_with_its_answer(rt: HostRuntime) -> Result<(), Fail> {
     let alloc = rt.alloc();
-    let maker = DemoMaker::new(alloc)?;
+    let maker = maker_of_nothing(alloc)?;
     let mut calls = table_with_call(alloc, &maker, ECHO)?;
     let items = run_ready(alloc, &mut calls)?;
     let text = report_text(alloc, ONE_FRAME, &calls, &items, Ending::AtEnd)?;
@@ -236,6 +255,62 @@ fn what_acts_on_the_store_has_no_frame_and_no_line(rt: HostRuntime) -> Result<()
     twice.extend_from_slice(&RESPONSE_FRAME)?;
     twice.extend_from_slice(&RESPONSE_FRAME)?;
     assert_eq!(rt; frames.as_slice(), twice.as_slice());
+    Ok(())
+}
+
+// A store action of a call.
+fn acts(call: u32, out: Out) -> Item {
+    Item {
+        call: Some(call),
+        act: Act::Keep(out),
+    }
+}
+
+fn begins(call: u32, session: u32, resource: u32, offset: u64) -> Item {
+    acts(
+        call,
+        Out::Begin {
+            session,
+            resource,
+            offset,
+        },
+    )
+}
+
+fn appends(alloc: Global, call: u32, session: u32) -> Result<Item, Fail> {
+    let bytes = Bytes::copy_from_slice(alloc, b"abc")?;
+    Ok(acts(call, Out::Append { session, bytes }))
+}
+
+fn commits(call: u32, session: u32) -> Item {
+    acts(call, Out::Commit { session })
+}
+
+#[test]
+fn uploads_that_end_well_are_told(rt: HostRuntime) -> Result<(), Fail> {
+    let alloc = rt.alloc();
+    let calls = table(alloc, &maker_of_nothing(alloc)?)?;
+    let items = [
+        begins(0, 1, 7, 2),
+        begins(1, 1, 8, 0),
+        appends(alloc, 0, 1)?,
+        appends(alloc, 0, 1)?,
+        commits(1, 1),
+        commits(0, 1),
+        // None of these is under way.
+        commits(0, 1),
+        begins(0, 2, 9, 0),
+        acts(0, Out::Leave { session: 2 }),
+        commits(0, 2),
+        begins(0, 3, 9, 0),
+        kept(Act::LeaveCall),
+        commits(0, 3),
+    ];
+    let text = report_text(alloc, NO_SEGMENT, &calls, &items, Ending::AtEnd)?;
+    assert_eq!(rt;
+        text.as_str(),
+        "frames 0 bad 0 other 0 dropped 0\nstored 8 0\nstored 7 8\ndone\n"
+    );
     Ok(())
 }
 

@@ -1,7 +1,7 @@
 //! Sources and sinks that fail, and that take one byte at a call.
 ghost use Rattle.std.specs.Prelude.{None};
 
-use super::{FIRST, FIRST_FRAME, FIRST_JOURNAL, FIRST_REPORT, unhex, words};
+use super::{FIRST, FIRST_FRAME, FIRST_JOURNAL, FIRST_REPORT, no_store, unhex, words};
 use crate::run_recorded;
 use link_io::{Failed, MemSink, MemSource, Sink, Source};
 use std::alloc::AllocError;
@@ -34,7 +34,13 @@ source fault
     for (line, fail, written) in rows {
         let mut input = MemSource::new(unhex(alloc, FIRST)?, Vec::from_slice(alloc, &[fail])?);
         let mut output = MemSink::new(Vec::new(alloc), Vec::new(alloc));
-        let status = run_recorded(alloc, &words(alloc, line)?, &mut input, &mut output);
+        let status = run_recorded(
+            alloc,
+            &words(alloc, line)?,
+            &mut input,
+            &mut output,
+            &mut no_store(alloc)?,
+        );
         assert_eq!(rt; status, 3, "{line}, read {fail}");
         assert_eq!(rt; output.bytes(), written.as_bytes(), "{line}, read {fail}");
     }
@@ -62,12 +68,18 @@ impl Sink for OneByte<MemSink> {
 
     ghost faults = { λ s. s.inner.faults };
 
+    ghost finished = { λ s. s.inner.finished };
+
     fn write(&mut self, bytes: &[u8]) -> Result<usize, Failed> {
         self.inner.write(&bytes[..1])
     }
 
     fn flush(&mut self) -> Result<(), Failed> {
         self.inner.flush()
+    }
+
+    fn finish(&mut self) -> Result<(), Failed> {
+        self.inner.finish()
     }
 }
 
@@ -93,7 +105,13 @@ fn a_failing_sink_has_a_beginning(rt: HostRuntime) -> Result<(), AllocError> {
         for (fail, left) in [(1, &b""[..]), (2, written)] {
             let mut input = MemSource::new(Vec::from_slice(alloc, content)?, Vec::new(alloc));
             let mut output = MemSink::new(Vec::new(alloc), Vec::from_slice(alloc, &[fail])?);
-            let status = run_recorded(alloc, &words(alloc, line)?, &mut input, &mut output);
+            let status = run_recorded(
+                alloc,
+                &words(alloc, line)?,
+                &mut input,
+                &mut output,
+                &mut no_store(alloc)?,
+            );
             assert_eq!(rt; status, 4, "{line}, call {fail}");
             assert_eq!(rt; output.bytes(), left, "{line}, call {fail}");
         }
@@ -102,7 +120,13 @@ fn a_failing_sink_has_a_beginning(rt: HostRuntime) -> Result<(), AllocError> {
         let mut output = OneByte {
             inner: MemSink::new(Vec::new(alloc), Vec::from_slice(alloc, &[5])?),
         };
-        let status = run_recorded(alloc, &words(alloc, line)?, &mut input, &mut output);
+        let status = run_recorded(
+            alloc,
+            &words(alloc, line)?,
+            &mut input,
+            &mut output,
+            &mut no_store(alloc)?,
+        );
         assert_eq!(rt; status, 4, "{line}");
         assert_eq!(rt; output.inner.bytes().len(), 4, "{line}");
         assert!(rt; written.starts_with(output.inner.bytes()), "{line}");
@@ -128,7 +152,13 @@ fn bytes_that_come_and_go_one_by_one_change_nothing(rt: HostRuntime) -> Result<(
         let mut output = OneByte {
             inner: MemSink::new(Vec::new(alloc), Vec::new(alloc)),
         };
-        let status = run_recorded(alloc, &words(alloc, line)?, &mut input, &mut output);
+        let status = run_recorded(
+            alloc,
+            &words(alloc, line)?,
+            &mut input,
+            &mut output,
+            &mut no_store(alloc)?,
+        );
         assert_eq!(rt; status, 0, "{line}");
         assert_eq!(rt; output.inner.bytes(), written, "{line}");
     }

@@ -1,6 +1,6 @@
 //! Streams that are made from a number.
 
-use super::words;
+use super::{no_store, words};
 use crate::run_recorded;
 use link_io::{MemSink, MemSource};
 use std::alloc::AllocError;
@@ -33,7 +33,13 @@ fn a_load_has_its_four_lines(rt: HostRuntime) -> Result<(), AllocError> {
         // The input isn't read: each read of it would fail.
         let mut input = MemSource::new(Vec::new(alloc), Vec::from_slice(alloc, &[1])?);
         let mut output = MemSink::new(Vec::new(alloc), Vec::new(alloc));
-        let status = run_recorded(alloc, &words(alloc, line)?, &mut input, &mut output);
+        let status = run_recorded(
+            alloc,
+            &words(alloc, line)?,
+            &mut input,
+            &mut output,
+            &mut no_store(alloc)?,
+        );
         assert_eq!(rt; status, 0, "{line}");
         assert_eq!(rt; output.bytes(), lines.as_bytes());
     }

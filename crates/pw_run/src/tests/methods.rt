@@ -162,24 +162,12 @@ fn a_payload_that_cannot_be_sent_back_is_refused(rt: HostRuntime) -> Result<(), 
     Ok(())
 }
 
-// A REQUEST of Read and a completion of Write of the transfer service on channel 1, and a REQUEST of Read on channel 9.
-const READ: &str = "7EA50310011D7BC8D65B25DA66785B38076CE43F437E";
-
-const WRITE_DONE: &str = "7EA503080810011D7BC8D65B25860563D43807BA3F01D87E";
-
+// A REQUEST of Read of the transfer service on channel 9.
 const READ_ON_NINE: &str = "7EA50310091D7BC8D65B25DA66785B380701373C197E";
 
 #[test]
-fn transfers_are_not_served_yet(rt: HostRuntime) -> Result<(), AllocError> {
+fn another_channel_is_unavailable(rt: HostRuntime) -> Result<(), AllocError> {
     let alloc = rt.alloc();
-    for line in ["replay", "replay raw", "replay journal"] {
-        for digits in [READ, WRITE_DONE] {
-            let ran = run(alloc, line, unhex(alloc, digits)?)?;
-            assert_eq!(rt; ran.status, 10, "{line}, {digits}");
-            assert!(rt; ran.output.is_empty(), "{line}, {digits}");
-        }
-    }
-    // A channel that isn't in has no such method, and is answered with UNAVAILABLE.
     let ran = run(alloc, "replay", unhex(alloc, READ_ON_NINE)?)?;
     assert_eq!(rt; ran.status, 0);
     assert_eq!(rt;

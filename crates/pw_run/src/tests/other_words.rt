@@ -1,7 +1,7 @@
 //! Words that are no command.
 
-use super::{FIRST_REPORT, unhex};
-use crate::run_recorded;
+use super::{FIRST_REPORT, no_store, unhex};
+use crate::{Command, run_recorded};
 use link_io::{MemSink, MemSource, Source};
 use std::alloc::{AllocError, Global};
 
@@ -59,7 +59,20 @@ fn is_refused(alloc: Global, words: &[String]) -> Result<bool, AllocError> {
         Vec::from_slice(alloc, FIRST_REPORT.as_bytes())?,
         Vec::from_slice(alloc, &[1])?,
     );
-    let status = run_recorded(alloc, words, &mut input, &mut output);
+    let status = run_recorded(alloc, words, &mut input, &mut output, &mut no_store(alloc)?);
     let is_unread = matches!(input.read(&mut [0]), Ok(1));
     Ok(status == 2 && is_unread && output.bytes() == FIRST_REPORT.as_bytes())
+}
+
+#[test]
+fn the_longest_load_is_a_command(rt: HostRuntime) -> Result<(), AllocError> {
+    let words = words_of(rt.alloc(), "load|30000|1")?;
+    assert_eq!(rt;
+        Command::of(&words),
+        Some(Command::Load {
+            calls: 30_000,
+            seed: 1
+        })
+    );
+    Ok(())
 }

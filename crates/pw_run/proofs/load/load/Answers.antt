@@ -11,8 +11,8 @@ use Rattle.load_stream.specs.Load.{load_packets, load_stream}
 use Rattle.load_stream.proofs.LoadLaws.{load_heard, load_most}
 use Rattle.run_report.specs.Load.{load_report}
 use Rattle.pw_run.specs.declared.outcome.Outcome.TheVariants.{Done}
-use Rattle.pw_run.specs.Demo.{demo_setting}
-use Rattle.pw_run.specs.Replay.{heard}
+use Rattle.pw_run.specs.Demo.{demo_setting, no_shelf}
+use Rattle.rpc_server.specs.Served.{heard}
 use Rattle.pw_run.specs.Writes.{Writes}
 use Rattle.pw_run.proofs.FullLemmas.{never_full}
 use Rattle.pw_run.proofs.ServedLemmas.{all_taken, at_end_of, at_full_of, at_limit_of}
@@ -28,13 +28,13 @@ returns-in-Ok-AtEnd-clause-did g c =
     let table : Table = c.replay.new.server.serving.table in
     let items : List Item = c.deref.result.now in
     let done = at_end_of _ c.in-Ok-AtEnd.field-0 c.in-Ok-AtEnd.field-0-is c.in-Ok-AtEnd.ensures.replayed in
-    let setting : table.setting ≡ demo_setting = c.in-Ok-AtEnd.ensures.setting ∙ c.in-Ok.ensures.setting in
+    let setting : table.setting ≡ demo_setting no_shelf = c.in-Ok-AtEnd.ensures.setting ∙ c.in-Ok.ensures.setting ∙ ap demo_setting c.no_shelf.ensures in
     let whole : done.bytes ≡ load_stream calls seed =
     all_taken _ c.replay.new.input done.bytes done.taken (done.at_end refl) ∙ c.in-Ok-new.ensures in
-    let packets : heard done.bytes ≡ load_packets calls seed = ap heard whole ∙ load_heard calls seed (omega (arith, c.requires)) in
+    let packets : heard done.bytes ≡ load_packets calls seed = ap heard whole ∙ load_heard calls seed (omega (arith, c.requires.fits)) in
     let was_served = subst (λ (set : Setting). IsOneThreadHistory demo_rule set (load_packets calls seed) table.entries) setting
     (subst (λ (ps : List Packet). IsOneThreadHistory demo_rule table.setting ps table.entries) packets done.history) in
-    let went : items ≡ items_sent (history demo_setting table.entries) =
+    let went : items ≡ items_sent (history (demo_setting no_shelf) table.entries) =
     c.deref.ensures.value ∙ done.items_are ∙ ap (λ (set : Setting). items_sent (history set table.entries)) setting in
     load_served calls seed (load_report calls seed items) Done old new c.write_load.result
     (λ writes. record {
@@ -49,14 +49,14 @@ unreachable-requires-in-Ok-InputLimit g c =
     let done = at_limit_of _ c.in-Ok-InputLimit.field-0 c.in-Ok-InputLimit.field-0-is c.in-Ok-InputLimit.ensures.replayed in
     let taken : c.in-Ok-new.source ≡ done.bytes ++ c.replay.new.input = done.taken in
     let long = ap length (sym c.in-Ok-new.ensures ∙ taken) ∙ length-append done.bytes c.replay.new.input in
-    omega (arith, long, done.at_limit refl, load_most c.args.calls c.args.seed, c.requires)
+    omega (arith, long, done.at_limit refl, load_most c.args.calls c.args.seed, c.requires.fits)
 
 pub unreachable-requires-in-Ok-JournalLimit : goal.unreachable-requires-in-Ok-JournalLimit
 unreachable-requires-in-Ok-JournalLimit g c =
     let table : Table = c.replay.new.server.serving.table in
     let left : List ℕ = c.replay.new.input in
     let full = at_full_of _ c.in-Ok-JournalLimit.field-0 c.in-Ok-JournalLimit.field-0-is c.in-Ok-JournalLimit.ensures.replayed in
-    let taken : c.in-Ok-new.source ≡ (full.bytes ++ full.unfed) ++ left = full.taken in
-    let setting : table.setting ≡ demo_setting = c.in-Ok-JournalLimit.ensures.setting ∙ c.in-Ok.ensures.setting in
-    never_full c.args.calls c.args.seed table.setting table.entries full.bytes (full.unfed ++ left) c.requires (ap (λ (set : Setting). set.role) setting)
-    (sym c.in-Ok-new.ensures ∙ (taken ∙ append_assoc full.bytes full.unfed left)) full.beginning
+    let taken : c.in-Ok-new.source ≡ (full.read.bytes ++ full.read.unfed) ++ left = full.read.taken in
+    let setting : table.setting ≡ demo_setting no_shelf = c.in-Ok-JournalLimit.ensures.setting ∙ c.in-Ok.ensures.setting ∙ ap demo_setting c.no_shelf.ensures in
+    never_full c.args.calls c.args.seed table.setting table.entries full.read.bytes (full.read.unfed ++ left) c.requires.fits (ap (λ (set : Setting). set.role) setting)
+    (sym c.in-Ok-new.ensures ∙ (taken ∙ append_assoc full.read.bytes full.read.unfed left)) full.beginning

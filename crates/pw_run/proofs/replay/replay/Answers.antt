@@ -1,42 +1,18 @@
-use Rattle.std.proofs.Common.{◌≡◌, List, sym, ◌∙◌, ap, subst}
-use Rattle.rpc_journal.specs.declared.item.Item.{Item}
-use Rattle.rpc_journal.specs.Lawful.{IsLegal}
-use Rattle.rpc_journal.specs.Table.{Table}
-use Rattle.rpc_schedule.specs.Replays.{Replayed}
-use Rattle.demo_services.specs.DemoRule.{demo_rule}
-use Rattle.rpc_server.specs.OwnEntries.{AreOwn}
-use Rattle.rpc_server.specs.Served.{WasFed}
-use Rattle.pw_run.specs.Replay.{AreCountsOf, heard}
-use Rattle.pw_run.proofs.ServedLemmas.{replayed_as}
-use Rattle.pw_run.proofs.WritesLemmas.{replay_did}
+use Rattle.pw_run.proofs.WritesLemmas.{nothing_did, replay_did}
 use Rattle.pw_run.proofs.replay.replay.Goals as goal
 
-pub returns-clause-did : goal.returns-clause-did
-returns-clause-did g c =
-    let left_old = g.I.Source.left c.args.input.now in
-    let left_new = g.I.Source.left c.replay.new.input in
-    let served : Table = c.replay.new.server.serving.table in
-    let table : Table = c.calls.result.now in
-    let same : table ≡ served = c.calls.ensures.table in
-    let ending = c.in-Ok-replay.ending in
-    let items : List Item = c.deref.result.now in
-    let went = replayed_as demo_rule heard (WasFed c.replay.new.server) (AreCountsOf c.counts-counts.result) left_old left_new ending
-    served c.replay.new.items.items c.counts-counts.ensures.counts c.in-Ok-replay.ensures.replayed in
-    let told : Replayed demo_rule heard (AreCountsOf c.counts-counts.result) left_old left_new ending table items =
-    subst (λ (t : Table). Replayed demo_rule heard (AreCountsOf c.counts-counts.result) left_old left_new ending t items) (sym same)
-    (subst (λ (is : List Item). Replayed demo_rule heard (AreCountsOf c.counts-counts.result) left_old left_new ending served is)
-    (sym c.deref.ensures.value) went) in
-    replay_did c.args.form left_old left_new (g.O.Sink.written c.args.output.now) (g.O.Sink.written c.write_run.new.output) c.write_run.result
-    (record {
-      ending = ending;
-      counts = c.counts-counts.result;
-      table = table;
-      items = items;
-      serves = record {
-        setting = ap (λ (t : Table). t.setting) same ∙ c.in-Ok-replay.ensures.setting ∙ c.in-Ok.ensures.setting;
-        served = told;
-        legal = subst (λ (t : Table). IsLegal demo_rule t.setting t.entries) (sym same) c.calls.ensures.legal;
-        own = subst (λ (t : Table). AreOwn t.entries) (sym same) c.calls.ensures.own;
-      };
-      writes = c.write_run.ensures.writes;
-    })
+pub returns-in-Ok-clause-did : goal.returns-in-Ok-clause-did
+returns-in-Ok-clause-did g c =
+    let left = g.I.Source.left in
+    let written = g.O.Sink.written in
+    let holds = g.S.Store.holds in
+    replay_did c.args.form c.in-Ok.shelf (left c.args.input.now) (left c.serve.new.input) (written c.args.output.now) (written c.serve.new.output)
+    (holds c.args.store.now) (holds c.list.new.self) (holds c.serve.new.store) c.serve.result c.in-Ok.ensures.lists c.in-Ok.ensures.kept c.serve.ensures.did
+
+pub returns-in-Err-Failed-clause-did : goal.returns-in-Err-Failed-clause-did
+returns-in-Err-Failed-clause-did g c =
+    let left = g.I.Source.left in
+    let written = g.O.Sink.written in
+    let holds = g.S.Store.holds in
+    nothing_did c.args.form (left c.args.input.now) (written c.args.output.now) (written c.write_nothing.new.output) (holds c.args.store.now)
+    (holds c.list.new.self) c.write_nothing.result c.list.ensures.kept c.write_nothing.ensures.writes
