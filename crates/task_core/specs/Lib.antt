@@ -1,0 +1,9 @@
+pub mod Context
+pub mod Visit
+pub mod Log
+pub mod Due
+pub mod Runs
+pub mod Timers
+pub mod Places
+pub mod Tasks
+pub mod Hearing

@@ -1,0 +1,21 @@
+//! Tasks that are polled on one thread, as those of Pigweed's pw_async2: a [`Dispatcher`] polls exactly the tasks that
+//! are due, the lowest key first, one poll a turn. A task says so when it waits for mail or sleeps until a moment.
+//! It holds no clock and waits for nothing: moments are handed in. `docs/TASKS.md` has the life of a task as a picture.
+#![tactic(auto)]
+
+pub mod cx;
+pub mod dispatcher;
+pub mod mail;
+mod place;
+pub mod stop;
+pub mod task;
+#[cfg(test)]
+mod tests;
+mod timers;
+
+pub use cx::Cx;
+pub use dispatcher::{Dispatcher, MAX_TASKS};
+pub use mail::Mail;
+pub use stop::{Stop, TaskRefused};
+pub use task::{Poll, Task};
+pub use wake_bells::{Bell, Bells, Ear};

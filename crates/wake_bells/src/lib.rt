@@ -1,0 +1,15 @@
+//! Wakes that other threads count: a word for each task, to which a [`Bell`] adds one, and which the [`Ear`] loads.
+//! A ring is one atomic addition; it waits for nobody and takes no memory. `docs/TASKS.md` says what wakes are for.
+#![tactic(auto)]
+
+pub mod bell;
+pub mod bells;
+pub mod ear;
+mod rule;
+#[cfg(test)]
+mod tests;
+pub mod view;
+
+pub use bell::Bell;
+pub use bells::Bells;
+pub use ear::Ear;
