@@ -1,0 +1,10 @@
+use Rattle.std.proofs.Common.{Some, sym, ap, ◌∙◌}
+use Rattle.rpc_client.proofs.WorkSteps.{handed}
+use Rattle.rpc_client.proofs.client.Client.ask_and_finish.Goals as goal
+
+pub returns-in-Some-take-clause-ends : goal.returns-in-Some-take-clause-ends
+returns-in-Some-take-clause-ends g c =
+    rw (← c.self.view_is)
+    (handed _ _ c.self.inside.calls c.end_run.new.calls _ c.self.inside.kept c.take.new.self c.in-Some.run' c.in-Some-take.run' c.call_number-call.result c.in_ok-event.event c.in-Some.is c.take.ensures.after
+    (sym c.in-Some-take.is ∙ c.take.ensures.value ∙ ap Some c.in_ok-call.ensures.answer) c.self.invariant.0 c.in_ok-call.ensures.fits c.end_run.ensures.setting c.end_run.ensures.adds
+    c.call_number-call.ensures (c.in_ok-event.ensures ∙ c.event.ensures))

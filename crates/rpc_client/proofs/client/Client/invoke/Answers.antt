@@ -1,0 +1,21 @@
+use Rattle.std.proofs.Common.{refl, sym, subst}
+use Rattle.rpc_ids.specs.declared.method.Role.TheVariants.{Client}
+use Rattle.rpc_end.specs.EndHolds.{kept_call}
+use Rattle.rpc_end.specs.EndState.{EndState, WasFed}
+use Rattle.rpc_end.proofs.CallSteps.{accepts_step}
+use Rattle.rpc_end.proofs.FedLemmas.{accepts_fed}
+use Rattle.rpc_client.proofs.client.Client.invoke.Goals as goal
+
+pub invariant_of-self : goal.invariant_of-self
+invariant_of-self g c = (
+  accepts_step _ _ _ c.self.inside.calls c.invoke.new.self _ _ _ _ _ 2 _ c.self.inside.kept c.invoke.result c.self.invariant.0 c.invoke.ensures.setting c.invoke.ensures.legal c.invoke.ensures.did refl (λ k. (refl, refl)),
+  c.self.invariant.1,
+)
+
+pub returns-clause-fed : goal.returns-clause-fed
+returns-clause-fed g c =
+    let old : EndState = record { serving = record { table = c.self.inside.calls; kept = kept_call c.self.inside.kept; refused = c.self.inside.refused }; listener = c.self.inside.listener } in
+    let new : EndState = record { serving = record { table = c.invoke.new.self; kept = kept_call c.self.inside.kept; refused = c.self.inside.refused }; listener = c.self.inside.listener } in
+    λ bytes fed.
+    let before : WasFed Client old bytes = subst (λ v. WasFed Client v bytes) (sym c.self.view_is) fed in
+    accepts_fed Client _ _ _ _ 2 _ c.invoke.result old new c.invoke.ensures.did (record { setting = c.invoke.ensures.setting; kept = refl; refused = refl; listener = refl }) refl bytes before

@@ -1,0 +1,6 @@
+use Rattle.std.proofs.Common.{refl}
+use Rattle.rpc_end.proofs.FedLemmas.{fed_nothing}
+use Rattle.rpc_client.proofs.client.Client.new.Goals as goal
+
+pub returns-clause-unfed : goal.returns-clause-unfed
+returns-clause-unfed g c = fed_nothing _ _ _ c.in_ok-listener.ensures.heard c.in_ok-calls.ensures.entries refl

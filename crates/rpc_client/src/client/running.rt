@@ -1,0 +1,99 @@
+//! The runs of handlers.
+ghost use Rattle.std.specs.Prelude.{◌≡◌, ℕ, List, true, Some, is_some, IfOk, OnErr};
+ghost use Rattle.rpc_journal.specs.declared.entry.EntryKind.TheVariants.{Finish};
+ghost use Rattle.rpc_journal.specs.History.{adding};
+ghost use Rattle.rpc_journal.specs.Lawful.{IsLegal};
+ghost use Rattle.rpc_journal.specs.Runs.{IsRunning};
+ghost use Rattle.rpc_ids.specs.declared.method.Role.TheVariants.{Client as client_role};
+ghost use Rattle.rpc_end.specs.EndState.{WasFed};
+ghost use Rattle.rpc_end.specs.Working.{TakesRun};
+ghost use Rattle.rpc_client.specs.Working.{HandsOn, WorksOn};
+
+use super::Client;
+use crate::copies::copy_event;
+use rpc_calls::{Calls, Running};
+use rpc_end::RUNS;
+use rpc_handlers::{Event, Handler};
+use rpc_journal::StartRefused;
+use std::alloc::AllocError;
+
+impl<H: Handler> Client<H> {
+    /// Runs the handler of one call: goes on with the run that is kept, or else begins one of the ready call whose oldest
+    /// waiting event was put first. The call and its event are handed on; `None` where no run is kept and no call is ready.
+    ///
+    /// # Errors
+    ///
+    /// Where the journal has no room for a run, or memory is wanting. A run that began before memory was wanting is kept,
+    /// and the next call goes on with it.
+    pub fn work(&mut self) -> Result<Option<(u32, Event)>, StartRefused>
+        ensures step { WorksOn H.rule self.old.serving result self.new.serving }
+        ensures listener { self.new.listener ≡ self.old.listener }
+        ensures fed { (bytes : List ℕ) → WasFed client_role self.old bytes → WasFed client_role self.new bytes }
+    {
+        self.work_once()
+    }
+
+    // The same.
+    fn work_once(&mut self) -> Result<Option<(u32, Event)>, StartRefused>
+        ensures step { WorksOn H.rule self.old.serving result self.new.serving }
+        ensures listener { self.new.listener ≡ self.old.listener }
+    {
+        if !self.take_run()? {
+            return Ok(None);
+        }
+        match self.ask_and_finish() {
+            Ok(handed) => Ok(Some(handed)),
+            Err(_) => Err(StartRefused::Memory),
+        }
+    }
+
+    // Keeps a run, where none is kept and one can begin. Answers whether one is kept.
+    fn take_run(&mut self) -> Result<bool, StartRefused>
+        ensures takes { TakesRun self.old.serving result self.new.serving }
+        ensures listener { self.new.listener ≡ self.old.listener }
+    {
+        if self.kept.is_some() {
+            return Ok(true);
+        }
+        let Some(run) = self.calls.start(RUNS)? else {
+            return Ok(false);
+        };
+        match self.kept.replace(run) {
+            None => Ok(true),
+            Some(_other) => unreachable!(),
+        }
+    }
+
+    // Copies the event of the run that is kept, asks its handler, and ends the run. Answers the call and the event.
+    fn ask_and_finish(&mut self) -> Result<(u32, Event), AllocError>
+        requires kept { is_some self.old.serving.kept ≡ true }
+        ensures ends { IfOk result (λ handed. HandsOn H.rule self.old.serving handed self.new.serving) }
+        ensures err { OnErr result (self.new ≡ self.old) }
+        ensures listener { self.new.listener ≡ self.old.listener }
+    {
+        let Some(run) = &mut self.kept else {
+            return Err(AllocError);
+        };
+        let call = run.call_number();
+        let event = copy_event(run.event())?;
+        run.call()?;
+        match self.kept.take() {
+            None => Err(AllocError),
+            Some(run) => {
+                end_run(&mut self.calls, run);
+                Ok((call, event))
+            }
+        }
+    }
+}
+
+// Ends a run, and lets its handler go where the table has no further use for it.
+fn end_run<H: Handler>(calls: &mut Calls<H>, run: Running<H>)
+    requires on { IsRunning H.rule calls.old.setting calls.old.entries run.run }
+    requires answered { run.answer ≡ Some run.gives }
+    ensures adds { calls.new.entries ≡ adding calls.old.entries run.run.seat (Finish run.run.call run.gives) }
+    ensures setting { calls.new.setting ≡ calls.old.setting }
+    ensures legal { IsLegal H.rule calls.new.setting calls.new.entries }
+{
+    let _ = calls.finish(run);
+}

@@ -1,0 +1,12 @@
+//! The client of one end of a link, on one thread.
+//!
+//! Enter at `Client`: invoke calls, feed it the bytes of the link, let it work, and take out what is to be sent.
+#![tactic(auto)]
+
+mod client;
+mod copies;
+
+pub use client::Client;
+
+#[cfg(test)]
+mod tests;

@@ -1,0 +1,4 @@
+pub mod EntrySteps
+pub mod IdleLemmas
+pub mod CallSteps
+pub mod FedLemmas
