@@ -1,0 +1,5 @@
+mod Counts
+mod Growing
+mod PumpEnds
+mod PumpLemmas
+mod Segments
