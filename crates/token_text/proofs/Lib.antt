@@ -1,0 +1,7 @@
+pub mod BookLemmas
+pub mod FormatLemmas
+pub mod MessageLemmas
+pub mod PrintLemmas
+pub mod PrintedLaws
+pub mod ReadLemmas
+pub mod WriteLemmas
