@@ -1,0 +1,5 @@
+mod Cancelling
+mod Feeding
+mod Opened
+mod Passing
+mod Standing

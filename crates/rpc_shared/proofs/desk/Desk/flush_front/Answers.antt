@@ -1,0 +1,9 @@
+use Rattle.rpc_journal.specs.ChangeLaws.{AddsBySeat}
+use Rattle.rpc_journal.proofs.ChangeLemmas.{adds_by_seat}
+use Rattle.rpc_shared.proofs.Passing.{made_of}
+use Rattle.rpc_shared.proofs.desk.Desk.flush_front.Goals as goal
+
+pub returns : goal.returns
+returns g c =
+    let laws : AddsBySeat (Unit {0}) (Unit {0}) = adds_by_seat in
+    record { made = made_of _ _ _ _ _ _ c.self.view_is c.flush_front.ensures.setting c.flush_front.ensures.legal (laws.flush_front _ _ _ _ _ c.flush_front.ensures.did) c.flush_front.ensures.did }

@@ -1,0 +1,9 @@
+use Rattle.rpc_journal.specs.ChangeLaws.{AddsBySeat}
+use Rattle.rpc_journal.proofs.ChangeLemmas.{adds_by_seat}
+use Rattle.rpc_shared.proofs.Passing.{made_of}
+use Rattle.rpc_shared.proofs.desk.Desk.halt.Goals as goal
+
+pub returns : goal.returns
+returns g c =
+    let laws : AddsBySeat (Unit {0}) (Unit {0}) = adds_by_seat in
+    record { made = made_of _ _ _ _ _ _ c.self.view_is c.halt.ensures.setting c.halt.ensures.legal (laws.halt _ _ _ _ _ c.halt.ensures.did) c.halt.ensures.did }

@@ -1,0 +1,5 @@
+pub mod Laws
+pub mod Looks
+pub mod OwnRuns
+pub mod Steps
+pub mod Waits
