@@ -31,33 +31,45 @@ const NOTHING: KfPacket = KfPacket {
     status: 0,
 };
 
+// The frame of the request for address 82.
+const REQUEST_FRAME: [u8; 27] = [
+    0x7E, 0xA5, 0x03, 0x10, 0x01, 0x1D, 0xFB, 0x5C, 0xF4, 0x70, 0x25, 0xE9, 0x0E, 0x47, 0x8B, 0x2A,
+    0x03, 0x61, 0x62, 0x63, 0x38, 0x01, 0x03, 0xED, 0xCE, 0x63, 0x7E,
+];
+
 #[test]
-fn packets_and_frames(rt: HostRuntime) {
-    assert_eq!(rt; kf_crc32(b"123456789"), 0xcbf4_3926);
+fn a_packet_is_read_and_written(rt: HostRuntime) {
     let mut packet = NOTHING;
     assert_eq!(rt; kf_packet_read(&REQUEST_BYTES, &mut packet), 0);
     assert_eq!(rt; packet, REQUEST);
     assert_eq!(rt; kf_packet_read(&REQUEST_BYTES[..18], &mut packet), 1);
     assert_eq!(rt; packet, REQUEST);
+    let mut short = [0; 18];
+    assert_eq!(rt; kf_packet_write(&packet, b"abc", &mut short), KF_NO_ROOM);
+    let mut bytes = [0; 19];
+    assert_eq!(rt; kf_packet_write(&packet, b"abc", &mut bytes), 19);
+    assert_eq!(rt; bytes, REQUEST_BYTES);
+}
 
+#[test]
+fn a_frame_is_written(rt: HostRuntime) {
+    assert_eq!(rt; kf_crc32(b"123456789"), 0xcbf4_3926);
+    let mut frame = [0; 27];
+    assert_eq!(rt; kf_encode_ui(82, &REQUEST_BYTES, &mut frame), 27);
+    assert_eq!(rt; frame, REQUEST_FRAME);
+    let mut short = [0; 20];
+    assert_eq!(rt; kf_encode_ui(82, &REQUEST_BYTES, &mut short), KF_NO_ROOM);
     let mut scratch = [0; 19];
+    let mut same = [0; 27];
     assert_eq!(rt;
-        kf_packet_write(&packet, b"abc", &mut scratch[..18]),
-        KF_NO_ROOM
+        kf_write_frame(82, &REQUEST, b"abc", &mut scratch, &mut same),
+        27
     );
-    assert_eq!(rt; kf_packet_write(&packet, b"abc", &mut scratch), 19);
-    assert_eq!(rt; &scratch[..], &REQUEST_BYTES[..]);
+    assert_eq!(rt; same, REQUEST_FRAME);
+}
 
-    let mut framed = [0; 29];
-    let mut same = [0; 29];
-    let len = kf_write_frame(82, &packet, b"abc", &mut scratch, &mut framed);
-    assert_eq!(rt; len, kf_encode_ui(82, &REQUEST_BYTES, &mut same));
-    assert_eq!(rt; &framed[..], &same[..]);
-    assert_eq!(rt;
-        kf_encode_ui(82, &REQUEST_BYTES, &mut same[..20]),
-        KF_NO_ROOM
-    );
-
+#[test]
+fn a_frame_is_found_in_two_pieces(rt: HostRuntime) {
     let mut decoder = KfDecoder {
         len: 7,
         phase: 9,
@@ -65,9 +77,9 @@ fn packets_and_frames(rt: HostRuntime) {
     };
     let mut buffer = [0; 64];
     kf_decoder_start(&mut decoder);
-    let begun = kf_decoder_push(&mut decoder, &mut buffer, &framed[..4]);
+    let begun = kf_decoder_push(&mut decoder, &mut buffer, &REQUEST_FRAME[..4]);
     assert_eq!(rt; (begun.taken, begun.kind), (4, 0));
-    let ended = kf_decoder_push(&mut decoder, &mut buffer, &framed[4..]);
+    let ended = kf_decoder_push(&mut decoder, &mut buffer, &REQUEST_FRAME[4..]);
     assert_eq!(rt; (ended.kind, ended.address, ended.control), (1, 82, 3));
     assert_eq!(rt;
         (ended.payload_at, ended.payload_len, ended.in_piece),
