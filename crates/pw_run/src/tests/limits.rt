@@ -78,11 +78,17 @@ fn an_input_ends_at_the_limit(rt: HostRuntime) -> Result<(), AllocError> {
 // A call of Echo adds four entries: its Arrive, Start, Finish and Flush. So the first packet behind 250,000 of them is
 // refused.
 #[test]
-fn a_journal_is_full_at_its_limit(rt: HostRuntime) -> Result<(), AllocError> {
+fn the_frames_end_where_the_journal_is_full(rt: HostRuntime) -> Result<(), AllocError> {
     let alloc = rt.alloc();
     let ran = run(alloc, "replay raw", repeated(alloc, FIRST, 250_001)?)?;
     assert_eq!(rt; ran.status, 8);
     assert!(rt; ran.output == repeated(alloc, FIRST_FRAME, 250_000)?);
+    Ok(())
+}
+
+#[test]
+fn the_report_tells_that_the_journal_is_full(rt: HostRuntime) -> Result<(), AllocError> {
+    let alloc = rt.alloc();
     let ran = run(alloc, "replay", repeated(alloc, FIRST, 250_001)?)?;
     assert_eq!(rt; ran.status, 8);
     assert!(rt;
@@ -94,10 +100,6 @@ fn a_journal_is_full_at_its_limit(rt: HostRuntime) -> Result<(), AllocError> {
         ran.output
             .as_slice()
             .ends_with(b"\nlimit journal 1000000\n")
-    );
-    assert_eq!(rt;
-        ran.output.iter().filter(|byte| **byte == b'\n').count(),
-        500_002
     );
     Ok(())
 }
