@@ -5,8 +5,10 @@
 
 mod client;
 mod copies;
+mod settling;
 
 pub use client::Client;
+pub use settling::work_until_idle;
 
 #[cfg(test)]
 mod tests;
