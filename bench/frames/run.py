@@ -4,12 +4,13 @@
 Builds bench/frames/plain_decoder.c with cc, bench/frames/table_decoder with cargo on Debian's librust-memchr-dev and
 librust-crc32fast-dev (left out where they aren't there), and the program crates/frame_speed with rt (proved, by LLVM).
 Each is run with a few rounds and with one, and the difference is measured, so reading the file and starting don't count.
+They take turns, and their processor time counts, so that other work on the machine tells less.
 """
 import os
 import random
+import resource
 import subprocess
 import sys
-import time
 import zlib
 
 HERE = os.path.dirname(os.path.abspath(__file__))
@@ -40,14 +41,17 @@ def stream(length, escapes):
 
 
 def seconds(command):
-    start = time.monotonic()
+    before = resource.getrusage(resource.RUSAGE_CHILDREN)
     out = subprocess.run(command, check=True, capture_output=True, text=True).stdout
-    return time.monotonic() - start, out
+    after = resource.getrusage(resource.RUSAGE_CHILDREN)
+    return after.ru_utime + after.ru_stime - before.ru_utime - before.ru_stime, out
 
 
-def speed(command, size):
-    best = min(seconds(command + [str(1 + ROUNDS)])[0] - seconds(command + ["1"])[0] for _ in range(3))
-    return size * ROUNDS / best / 1e6
+def speeds(commands, size):
+    """MB/s of each command, by the best of three turns."""
+    turns = [[(seconds(c + ["1"])[0], seconds(c + [str(1 + ROUNDS)])[0]) for c in commands] for _ in range(3)]
+    best = [[min(times) for times in zip(*runs)] for runs in zip(*turns)]
+    return [size * ROUNDS / max(all_rounds - one, 1e-3) / 1e6 for one, all_rounds in best]
 
 
 def table_decoder():
@@ -86,11 +90,9 @@ def main():
                 told.add(seconds([table, path, "1"])[1])
             if len(told) != 1:
                 sys.exit(f"the decoders differ: {told}")
-            a = speed([ours, path], size)
-            b = speed([plain, "plain", path], size)
-            c = speed([plain, "memcpy", path], size)
-            d = speed([table, path], size) if table else None
-            beside = f"{d:.0f} | {a / d:.2f}" if d else "- | -"
+            commands = [[ours, path], [plain, "plain", path], [plain, "memcpy", path]] + ([[table, path]] if table else [])
+            a, b, c, *d = speeds(commands, size)
+            beside = f"{d[0]:.0f} | {a / d[0]:.2f}" if d else "- | -"
             print(f"| {length} | {'many' if escapes else 'few'} | {a:.0f} | {b:.0f} | {a / b:.2f} | {beside} | {c:.0f} |", flush=True)
 
 

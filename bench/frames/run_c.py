@@ -36,8 +36,8 @@ def main():
             told = {run.seconds(command + ["1"])[1] for command in commands}
             if len(told) != 1:
                 sys.exit(f"the decoders differ: {told}")
-            speeds = " | ".join(f"{run.speed(command, size):.0f}" for command in commands)
-            print(f"| {length} | {'many' if escapes else 'few'} | {speeds} |", flush=True)
+            told = " | ".join(f"{speed:.0f}" for speed in run.speeds(commands, size))
+            print(f"| {length} | {'many' if escapes else 'few'} | {told} |", flush=True)
 
 
 if __name__ == "__main__":

@@ -1,33 +1,21 @@
 -- How a stream with one more segment is counted.
-use Rattle.std.proofs.Common.{◌≡◌, ℕ, ◌+◌, Bool, true, false, cond, not, List, [], ◌∷◌, ◌++◌, length, map, nat_lt, count_by, refl, sym, ◌∙◌, ap, arith, append-nil}
+use Rattle.std.proofs.Common.{◌≡◌, ℕ, Bool, true, false, cond, not, List, [], ◌∷◌, ◌++◌, length, map, nat_lt, count_by, refl, ◌∙◌, ap, append-nil}
 use Rattle.std.specs.Io.Iter.{u64_saturate}
 use Rattle.std.specs.List.{filter}
-use Rattle.std.proofs.lemmas.List.Sums.{sum_by-append}
 use Rattle.hdlc_frame.specs.declared.found.Bad.{Bad}
 use Rattle.hdlc_frame.specs.Found.{FrameParts, Found, found}
 use Rattle.hdlc_frame.specs.Found.Found.{frame, fault}
+use Rattle.hdlc_frame.specs.Counted.{one_more}
+use Rattle.hdlc_frame.proofs.Counted.{saturated_if}
 use Rattle.hdlc_frame.proofs.Parting.{found_none}
 use Rattle.frame_router.specs.declared.fate.Fate.{Fate}
 use Rattle.frame_router.specs.declared.fate.Fate.TheVariants as is
 use Rattle.frame_router.specs.declared.port.Port.{Port}
 use Rattle.frame_router.specs.declared.routes.Route.{Route}
 use Rattle.frame_router.specs.declared.tally.Tally.{Tally}
-use Rattle.frame_router.specs.Counting.{one_more, with_fate}
+use Rattle.frame_router.specs.Counting.{with_fate}
 use Rattle.frame_router.specs.Fates.{fate_of, is_passing, passes}
 use Rattle.frame_router.specs.Routed.{Arrival, LaneView, arriving, count_of, is_dropped, is_fate, tally_of}
-
-count_more : {X : Type 0} (p : X → Bool) (xs : List X) (x : X) → count_by p (xs ++ x ∷ []) ≡ count_by p xs + cond (p x) 1 0
-count_more p xs x = sum_by-append (λ y. cond (p y) 1 0) xs (x ∷ []) ∙ omega arith
-
-one_more_is : (n : ℕ) → u64_saturate (n + 1) ≡ one_more (u64_saturate n)
-one_more_is n = omega arith
-
-saturated_cond : (b : Bool) (n : ℕ) → u64_saturate (n + cond b 1 0) ≡ cond b (one_more (u64_saturate n)) (u64_saturate n)
-saturated_cond true n = one_more_is n
-saturated_cond false n = omega arith
-
-saturated_if : {X : Type 0} (p : X → Bool) (xs : List X) (x : X) → u64_saturate (count_by p (xs ++ x ∷ [])) ≡ cond (p x) (one_more (u64_saturate (count_by p xs))) (u64_saturate (count_by p xs))
-saturated_if p xs x = ap u64_saturate (count_more p xs x) ∙ saturated_cond (p x) (count_by p xs)
 
 same_tally :
     (p h l o b f p' h' l' o' b' f' : ℕ) → p ≡ p' → h ≡ h' → l ≡ l' → o ≡ o' → b ≡ b' → f ≡ f' →

@@ -5,13 +5,11 @@ use Rattle.std.proofs.KnownBytes.{Appends-kept, Consumes-trans}
 use Rattle.link_io.specs.declared.why.Why.{Why}
 use Rattle.link_io.specs.declared.why.Why.TheVariants as why
 use Rattle.frame_router.specs.declared.port.Port.{Port}
-use Rattle.frame_router.specs.declared.pumping.Pumped.{Pumped}
 use Rattle.frame_router.specs.declared.pumping.Stopped.{Stopped}
 use Rattle.frame_router.specs.declared.pumping.Stopped.TheVariants.{Sink, Memory}
 use Rattle.frame_router.specs.declared.routes.Route.{Route}
-use Rattle.frame_router.specs.declared.tally.Tally.{Tally}
-use Rattle.frame_router.specs.Pumped.{Pumps, PumpsBy, PumpsPart, wire_of}
-use Rattle.frame_router.specs.Pumping.{HasTaken, IsPumped, PumpState, PumpsOn, StopsIn}
+use Rattle.frame_router.specs.Pumped.{Pumps, PumpsBy, wire_of}
+use Rattle.frame_router.specs.Pumping.{HasTaken, IsPumped, PumpsOn, StopsIn}
 use Rattle.frame_router.specs.Routed.{LaneView}
 use Rattle.frame_router.specs.Stops.{stopped_pump, tally_in}
 

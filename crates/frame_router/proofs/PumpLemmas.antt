@@ -15,8 +15,8 @@ use Rattle.frame_router.specs.declared.tally.Tally.{Tally}
 use Rattle.frame_router.specs.Fates.{frame_bytes, passed}
 use Rattle.frame_router.specs.Pumped.{PumpsPart, all_kept, wire_of}
 use Rattle.frame_router.specs.Pumping.{IsPumped, PumpState, PumpsOn, StopsIn}
-use Rattle.frame_router.specs.Routed.{Arrival, HasRouted, LaneView, RoutesMore, arriving}
-use Rattle.frame_router.proofs.Growing.{Begins, wire_begins}
+use Rattle.frame_router.specs.Routed.{HasRouted, LaneView, RoutesMore, arriving}
+use Rattle.frame_router.proofs.Growing.{wire_begins}
 use Rattle.frame_router.proofs.Segments.{gives_front, passed_none}
 
 all_arrived : (fs : List FrameParts) → map (λ a. a.arrived) (all_kept fs) ≡ fs
@@ -115,7 +115,7 @@ stops_before routes from old was piece tally same first stream pumped =
       unwritten = begins.0;
       begins = refl;
       wrote = subst (Appends first was) (sym (append-nil (wire_of routes from stream))) pumped.wrote;
-      within = begins.1 ∙ ap (λ xs. xs ++ begins.0) (sym (append-nil (wire_of routes from stream)));
+      within = sym begins.1 ∙ ap (λ xs. xs ++ begins.0) (sym (append-nil (wire_of routes from stream)));
       counts = same ∙ pumped.routed.tally;
     }
 
@@ -142,7 +142,7 @@ stops_within routes from old mid new piece taken bytes front was is tally some r
       begins = refl;
       wrote = Appends-trans first was is written part pumped.wrote wrote.2;
       within =
-          ap (wire_of routes from) (sym whole) ∙ later.1 ∙ ap (λ xs. xs ++ later.0) (grows ∙ ap (λ xs. written ++ xs) (sym (take-append-drop wrote.0 bytes)) ∙ sym (append_assoc written part rest)) ∙
+          ap (wire_of routes from) (sym whole) ∙ sym later.1 ∙ ap (λ xs. xs ++ later.0) (grows ∙ ap (λ xs. written ++ xs) (sym (take-append-drop wrote.0 bytes)) ∙ sym (append_assoc written part rest)) ∙
           append_assoc (written ++ part) rest later.0;
       counts = same ∙ pumped.routed.tally;
     }

@@ -1,16 +1,12 @@
 -- How one more segment is counted.
-use Rattle.std.specs.Prelude.{ℕ, ◌+◌, Bool, true, false, List, [], ◌∷◌}
-use Rattle.std.specs.Io.Iter.{u64_saturate}
+use Rattle.std.specs.Prelude.{ℕ, Bool, true, false, List, [], ◌∷◌}
+use Rattle.hdlc_frame.specs.Counted.{one_more}
 use Rattle.hdlc_frame.specs.Found.{Found}
-use Rattle.hdlc_frame.specs.Found.Found.{frame, fault}
+use Rattle.hdlc_frame.specs.Found.Found.{frame}
 use Rattle.frame_router.specs.declared.fate.Fate.{Fate}
 use Rattle.frame_router.specs.declared.fate.Fate.TheVariants.{Passes, Home, Lost, Other, Bad}
 use Rattle.frame_router.specs.declared.tally.Tally.{Tally}
 use Rattle.frame_router.specs.Fates.{frame_bytes}
-
--- one more, as far as a count goes
-abbrev pub one_more : ℕ → ℕ
-one_more n = u64_saturate (n + 1)
 
 -- with one more segment of this fate, which was kept or not
 abbrev pub with_fate : Tally → Fate → Bool → Tally

@@ -4,7 +4,7 @@ use Rattle.std.specs.Io.KnownBytes.{Appends, Consumes, IsAtEnd}
 use Rattle.std.specs.List.{flat_map}
 use Rattle.hdlc_frame.specs.Found.{FrameParts}
 use Rattle.link_io.specs.declared.why.Why.{Why}
-use Rattle.link_io.specs.declared.why.Why.TheVariants.{Settled, Source, Sink, InputLimit}
+use Rattle.link_io.specs.declared.why.Why.TheVariants.{Settled, Source, InputLimit}
 use Rattle.frame_router.specs.declared.port.Port.{Port}
 use Rattle.frame_router.specs.declared.pumping.Pumped.{Pumped}
 use Rattle.frame_router.specs.declared.routes.Route.{Route}

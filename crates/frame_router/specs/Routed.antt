@@ -1,10 +1,10 @@
 -- What one direction of a router has done with the stream that came.
-use Rattle.std.specs.Prelude.{◌≡◌, ℕ, ◌+◌, ◌≤◌, ◌<◌, nat_lt, Bool, true, false, not, List, [], ◌∷◌, ◌++◌, length, map, take, filter, count_by, Option}
+use Rattle.std.specs.Prelude.{◌≡◌, ℕ, ◌≤◌, ◌<◌, nat_lt, Bool, true, false, not, List, [], ◌∷◌, ◌++◌, length, map, take, filter, count_by}
 use Rattle.std.specs.Io.Iter.{u64_saturate}
 use Rattle.hdlc_frame.specs.Found.{FrameParts, Found, found}
 use Rattle.hdlc_frame.specs.Machine.{HasRead, Reading}
 use Rattle.frame_router.specs.declared.fate.Fate.{Fate}
-use Rattle.frame_router.specs.declared.fate.Fate.TheVariants.{Passes, Home, Lost, Other, Bad}
+use Rattle.frame_router.specs.declared.fate.Fate.TheVariants.{Home, Lost, Other, Bad}
 use Rattle.frame_router.specs.declared.port.Port.{Port}
 use Rattle.frame_router.specs.declared.port.Port.TheVariants.{Left, Right}
 use Rattle.frame_router.specs.declared.routes.Route.{Route}

@@ -1,7 +1,8 @@
 //! How the segments of one side are counted.
 
 ghost use Rattle.std.specs.Prelude.{◌≡◌};
-ghost use Rattle.frame_router.specs.Counting.{one_more, with_fate};
+ghost use Rattle.hdlc_frame.specs.Counted.{one_more};
+ghost use Rattle.frame_router.specs.Counting.{with_fate};
 
 use crate::fate::Fate;
 

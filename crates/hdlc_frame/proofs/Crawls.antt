@@ -11,7 +11,8 @@ use Rattle.hdlc_frame.specs.Content.{unescaped}
 use Rattle.hdlc_frame.specs.Machine.{HasRead, HasReadText, Reading, content_behind}
 use Rattle.hdlc_frame.specs.Steps.{Moves, Unescapes, phase_in_text}
 use Rattle.hdlc_frame.proofs.Contents.{neq-eqb, walk_escape, walk_escaped, walk_itself}
-use Rattle.hdlc_frame.proofs.Machines.{behind_escaped, behind_plain, grown, has_more, moves_text, onto_content, onto_nothing, onto_twice}
+use Rattle.hdlc_frame.proofs.Texts.{behind_escaped, behind_plain, grown, has_more, onto_content, onto_nothing, onto_twice}
+use Rattle.hdlc_frame.proofs.Runs.{moves_text}
 use Rattle.hdlc_frame.proofs.Parting.{NoFlag}
 
 one_flag_free : (x : ℕ) → x ≢ FLAG → All (λ octet. octet ≢ FLAG) (x ∷ [])

@@ -1,9 +1,13 @@
 pub mod Carried
 pub mod Contents
+pub mod Counted
 mod Crawls
+mod Escapes
 mod Examples
+mod Flags
 pub mod Headers
 mod Tables
+mod Texts
 pub mod Machines
 pub mod Numbers
 pub mod Parting
@@ -11,4 +15,5 @@ mod Laying
 mod Placed
 pub mod ReadBack
 pub mod Register
+mod Runs
 mod Words

@@ -1,12 +1,14 @@
 -- How a stream's segments grow with it.
-use Rattle.std.proofs.Common.{◌≡◌, ℕ, Bool, true, false, List, [], ◌∷◌, ◌++◌, drop, map, Option, Some, None, refl, sym, ap, ◌∙◌, append_assoc}
+use Rattle.std.proofs.Common.{◌≡◌, ℕ, Bool, true, false, List, [], ◌∷◌, ◌++◌, drop, map, Option, Some, None, refl, sym, ap, ◌∙◌, append_assoc, subst}
+use mathlib.Core.List.{IsPrefix}
 use Rattle.std.specs.List.{All, filter, slice_split, onto_first}
 use Rattle.std.specs.Option.{option_map}
+use Rattle.std.proofs.lemmas.Bool.{eqb-true}
 use Rattle.std.proofs.lemmas.List.{append-nil, map-append}
-use Rattle.std.proofs.lemmas.List.Elements.{filter-append}
+use Rattle.std.proofs.lemmas.List.Elements.{All-cons, All-nil, filter-append}
 use Rattle.std.proofs.lemmas.List.Splits.{slice_split-cons_yes, slice_split-cons_no, slice_split_none}
 use Rattle.hdlc_frame.specs.declared.octets.TheConstants.{FLAG}
-use Rattle.hdlc_frame.specs.Found.{found, found_in}
+use Rattle.hdlc_frame.specs.Found.{Found, found, found_in}
 use Rattle.hdlc_frame.specs.Laws.{SegmentsGrow, ended}
 use Rattle.hdlc_frame.specs.Segments.{but_last, has_octets, is_flag, last_of, open_text, segments, texts_behind_flags}
 
@@ -154,6 +156,28 @@ found_flag limit stream = ap (map (found_in limit)) (segments_flag stream) ∙ m
 pub found_none : (limit : ℕ) → found limit [] ≡ []
 unfolding found
 found_none limit = ap (map (found_in limit)) segments_none
+
+one_octet : (limit : ℕ) (stream : List ℕ) (octet : ℕ) → IsPrefix (found limit stream) (found limit (stream ++ octet ∷ []))
+one_octet limit stream octet = at (is_flag octet) refl
+  where
+    at : (b : Bool) → is_flag octet ≡ b → IsPrefix (found limit stream) (found limit (stream ++ octet ∷ []))
+    at true flag =
+        subst (λ x. IsPrefix (found limit stream) (found limit (stream ++ x ∷ []))) (sym (eqb-true octet FLAG flag))
+        (map (found_in limit) (ended (open_text stream)), sym (found_flag limit stream))
+    at false other =
+        let none : NoFlag (octet ∷ []) = All-cons (λ x. is_flag x ≡ false) octet [] other (All-nil (λ x. is_flag x ≡ false)) in
+        ([], append-nil (found limit stream) ∙ sym (found_text limit stream (octet ∷ []) none))
+
+prefix_then : (a b c : List Found) → IsPrefix a b → IsPrefix b c → IsPrefix a c
+prefix_then a b c p q = (p.0 ++ q.0, sym (append_assoc a p.0 q.0) ∙ ap (λ xs. xs ++ q.0) p.1 ∙ q.1)
+
+-- In more of a stream the same is found first.
+pub found_begins : (limit : ℕ) (stream more : List ℕ) → IsPrefix (found limit stream) (found limit (stream ++ more))
+found_begins limit stream [] = ([], append-nil (found limit stream) ∙ ap (found limit) (sym (append-nil stream)))
+found_begins limit stream (octet ∷ more) =
+    prefix_then (found limit stream) (found limit (stream ++ octet ∷ [])) (found limit (stream ++ octet ∷ more)) (one_octet limit stream octet)
+    (subst (λ s. IsPrefix (found limit (stream ++ octet ∷ [])) (found limit s)) (append_assoc stream (octet ∷ []) more)
+    (found_begins limit (stream ++ octet ∷ []) more))
 
 pub segments_grow_is : (stream : List ℕ) → SegmentsGrow stream
 segments_grow_is stream = record {

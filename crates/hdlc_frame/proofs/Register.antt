@@ -1,5 +1,5 @@
 -- What a table of 256 registers gives, against the definition bit by bit.
-use Rattle.std.proofs.Common.{◌≡◌, ℕ, ◌+◌, ◌*◌, ◌/◌, ◌%◌, ◌^◌, ◌<◌, ◌==◌, length, get_or, drop, add-one, subst, zero, suc, List, [], ◌∷◌, ◌++◌, Bool, true, false, cond, refl, sym, ap, ◌∙◌, arith, bit_xor}
+use Rattle.std.proofs.Common.{◌≡◌, ℕ, ◌+◌, ◌*◌, ◌/◌, ◌%◌, ◌^◌, ◌<◌, ◌==◌, length, get_or, drop, add-one, zero-add, subst, zero, suc, List, [], ◌∷◌, ◌++◌, Bool, true, false, cond, refl, sym, ap, ◌∙◌, arith, bit_xor}
 use Rattle.std.specs.Int.Bits.{xor_assoc, xor_self, xor_zero_r, xor_shifted}
 use Rattle.std.proofs.lemmas.Nat.{xor_comm, xor_mod, xor_shr, shr_below, shr_split}
 use Rattle.std.proofs.Math.Nat.{pow-suc}
@@ -70,6 +70,20 @@ pub zeros_add : (n a b : ℕ) → after_bits n (bit_xor a b) 0 ≡ bit_xor (afte
 unfolding after_bits
 zeros_add zero a b = refl
 zeros_add (suc n) a b = ap (λ x. after_bits n x 0) (bit_adds a b) ∙ zeros_add n (after_bit a 0) (after_bit b 0)
+
+-- first some zeros, then others
+pub zeros_then : (m n r : ℕ) → after_bits (m + n) r 0 ≡ after_bits n (after_bits m r 0) 0
+unfolding after_bits
+zeros_then zero n r = ap (λ k. after_bits k r 0) (zero-add n)
+zeros_then (suc m) n r =
+    let e : suc m + n ≡ suc (m + n) = omega arith in
+    ap (λ k. after_bits k r 0) e ∙ zeros_then m n (after_bit r 0)
+
+-- none make none
+pub zeros_of_zero : (n : ℕ) → after_bits n 0 0 ≡ 0
+unfolding after_bits
+zeros_of_zero zero = refl
+zeros_of_zero (suc n) = zeros_of_zero n
 
 chosen_no : (half : ℕ) → chosen false half ≡ half
 unfolding chosen

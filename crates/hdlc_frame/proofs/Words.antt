@@ -1,21 +1,13 @@
--- Eight octets at once, against the definition bit by bit.
-use Rattle.std.proofs.Common.{◌≡◌, ℕ, ◌+◌, ◌*◌, ◌/◌, ◌%◌, ◌^◌, ◌<◌, zero, suc, List, [], ◌∷◌, length, get_or, refl, sym, ap, ◌∙◌, zero-add, bit_xor, arith}
-use Rattle.std.specs.Int.{from_le_bytes, to_le_bytes, w64}
+-- Eight and sixteen octets at once, against the definition bit by bit.
+use Rattle.std.proofs.Common.{◌≡◌, ℕ, ◌+◌, ◌-◌, ◌*◌, ◌/◌, ◌%◌, ◌^◌, ◌<◌, zero, suc, List, [], ◌∷◌, ◌++◌, length, get_or, refl, sym, ap, ◌∙◌, zero-add, bit_xor, arith}
+use Rattle.std.specs.Int.{from_le_bytes, w64}
 use Rattle.std.specs.Int.Bits.{xor_shifted}
 use Rattle.std.proofs.lemmas.List.{get_or_default}
-use Rattle.std.proofs.lemmas.Nat.{shr_split, xor_lt}
-use Rattle.std.proofs.Math.Nat.{pow-suc}
+use Rattle.std.proofs.lemmas.Nat.{pow-add, shr_split, xor_comm}
+use Rattle.std.proofs.Math.Nat.{div-div-eq-div-mul, pow-suc}
 use Rattle.hdlc_frame.specs.CheckSequence.{after_bit, after_bits, after_octet, after_octets}
 use Rattle.hdlc_frame.specs.Laws.{AreOctets}
-use Rattle.hdlc_frame.proofs.Register.{bits_merge, zeros_add, zeros_shift}
-
--- first some zeros, then others
-zeros_then : (m n r : ℕ) → after_bits (m + n) r 0 ≡ after_bits n (after_bits m r 0) 0
-unfolding after_bits
-zeros_then zero n r = ap (λ k. after_bits k r 0) (zero-add n)
-zeros_then (suc m) n r =
-    let e : suc m + n ≡ suc (m + n) = omega arith in
-    ap (λ k. after_bits k r 0) e ∙ zeros_then m n (after_bit r 0)
+use Rattle.hdlc_frame.proofs.Register.{bits_merge, octets-append, zeros_add, zeros_of_zero, zeros_shift, zeros_then}
 
 -- the lowest octet of a register, and what is above it
 octet_apart : (n r : ℕ) → after_bits (8 + n) r 0 ≡ bit_xor (after_bits n (r / 256) 0) (after_bits (8 + n) (r % 256) 0)
@@ -85,81 +77,54 @@ eight_at_once (a ∷ b ∷ c ∷ d ∷ e ∷ f ∷ []) r len fit = absurd (omega
 eight_at_once (a ∷ b ∷ c ∷ d ∷ e ∷ f ∷ g ∷ []) r len fit = absurd (omega arith)
 eight_at_once (a ∷ b ∷ c ∷ d ∷ e ∷ f ∷ g ∷ h ∷ i ∷ xs) r len fit = absurd (omega arith)
 
--- each octet of a word on its own
-abbrev pub folded : ℕ → ℕ → ℕ → ℕ → ℕ → ℕ → ℕ → ℕ → ℕ
-folded a b c d e f g h =
-    bit_xor
-    (bit_xor
-    (bit_xor
-    (bit_xor
-    (bit_xor (bit_xor (bit_xor (after_bits 8 h 0) (after_bits 16 g 0)) (after_bits 24 f 0)) (after_bits 32 e 0))
-    (after_bits 40 d 0))
-    (after_bits 48 c 0))
-    (after_bits 56 b 0))
-    (after_bits 64 a 0)
+-- what zeros make of the upper octets of a word, as far as i of them
+pub upper_none : (lane word : ℕ) → word < 2 ^ 64 → 0 ≡ after_bits (8 * (lane + 0)) (word / 2 ^ (8 * (8 - 0))) 0
+upper_none lane word h =
+    let none : word / 2 ^ 64 ≡ 0 = omega arith in
+    sym (ap (λ x. after_bits (8 * (lane + 0)) x 0) none ∙ zeros_of_zero (8 * (lane + 0)))
 
-apart : (n r x : ℕ) → after_bits n (r / 256) 0 ≡ x → after_bits (8 + n) r 0 ≡ bit_xor x (after_bits (8 + n) (r % 256) 0)
-apart n r x e = octet_apart n r ∙ ap (λ y. bit_xor y (after_bits (8 + n) (r % 256) 0)) e
-
-word_apart :
-    (w : ℕ) →
-    after_bits 64 w 0 ≡
-    folded (w % 256) (w / 256 % 256) (w / 256 / 256 % 256) (w / 256 / 256 / 256 % 256) (w / 256 / 256 / 256 / 256 % 256)
-    (w / 256 / 256 / 256 / 256 / 256 % 256) (w / 256 / 256 / 256 / 256 / 256 / 256 % 256) (w / 256 / 256 / 256 / 256 / 256 / 256 / 256)
-word_apart w =
-    apart 56 w _
-    (apart 48 (w / 256) _
-    (apart 40 (w / 256 / 256) _
-    (apart 32 (w / 256 / 256 / 256) _
-    (apart 24 (w / 256 / 256 / 256 / 256) _
-    (apart 16 (w / 256 / 256 / 256 / 256 / 256) _ (octet_apart 8 (w / 256 / 256 / 256 / 256 / 256 / 256)))))))
-
-folded_same :
-    (a b c d e f g h a2 b2 c2 d2 e2 f2 g2 h2 : ℕ) → a ≡ a2 → b ≡ b2 → c ≡ c2 → d ≡ d2 → e ≡ e2 → f ≡ f2 → g ≡ g2 → h ≡ h2 →
-    folded a b c d e f g h ≡ folded a2 b2 c2 d2 e2 f2 g2 h2
-folded_same a b c d e f g h a2 b2 c2 d2 e2 f2 g2 h2 ea eb ec ed ee ef eg eh = cc
-
-pub word_parts :
-    (w : ℕ) → w < 2 ^ 64 →
-    let part : ℕ → ℕ = λ i. get_or (to_le_bytes w64 w) i 0 in
-    after_bits 64 w 0 ≡ folded (part 0) (part 1) (part 2) (part 3) (part 4) (part 5) (part 6) (part 7)
-word_parts w low =
-    word_apart w ∙
-    folded_same _ _ _ _ _ _ _ _ _ _ _ _ _ _ _ _ (omega arith) (omega arith) (omega arith) (omega arith) (omega arith) (omega arith)
-    (omega arith) (omega arith)
-
-abbrev fold_parts : List ℕ → ℕ
-fold_parts parts =
-    folded (get_or parts 0 0) (get_or parts 1 0) (get_or parts 2 0) (get_or parts 3 0) (get_or parts 4 0) (get_or parts 5 0) (get_or parts 6 0)
-    (get_or parts 7 0)
-
-all_same :
-    (h g f e d c b a h2 g2 f2 e2 d2 c2 b2 a2 : ℕ) → h ≡ h2 → g ≡ g2 → f ≡ f2 → e ≡ e2 → d ≡ d2 → c ≡ c2 → b ≡ b2 → a ≡ a2 →
-    bit_xor (bit_xor (bit_xor (bit_xor (bit_xor (bit_xor (bit_xor h g) f) e) d) c) b) a ≡
-    bit_xor (bit_xor (bit_xor (bit_xor (bit_xor (bit_xor (bit_xor h2 g2) f2) e2) d2) c2) b2) a2
-all_same h g f e d c b a h2 g2 f2 e2 d2 c2 b2 a2 eh eg ef ee ed ec eb ea =
-    ap (λ x. bit_xor (bit_xor (bit_xor (bit_xor (bit_xor (bit_xor (bit_xor x g) f) e) d) c) b) a) eh ∙
-    ap (λ x. bit_xor (bit_xor (bit_xor (bit_xor (bit_xor (bit_xor (bit_xor h2 x) f) e) d) c) b) a) eg ∙
-    ap (λ x. bit_xor (bit_xor (bit_xor (bit_xor (bit_xor (bit_xor (bit_xor h2 g2) x) e) d) c) b) a) ef ∙
-    ap (λ x. bit_xor (bit_xor (bit_xor (bit_xor (bit_xor (bit_xor (bit_xor h2 g2) f2) x) d) c) b) a) ee ∙
-    ap (λ x. bit_xor (bit_xor (bit_xor (bit_xor (bit_xor (bit_xor (bit_xor h2 g2) f2) e2) x) c) b) a) ed ∙
-    ap (λ x. bit_xor (bit_xor (bit_xor (bit_xor (bit_xor (bit_xor (bit_xor h2 g2) f2) e2) d2) x) b) a) ec ∙
-    ap (λ x. bit_xor (bit_xor (bit_xor (bit_xor (bit_xor (bit_xor (bit_xor h2 g2) f2) e2) d2) c2) x) a) eb ∙
-    ap (λ x. bit_xor (bit_xor (bit_xor (bit_xor (bit_xor (bit_xor (bit_xor h2 g2) f2) e2) d2) c2) b2) x) ea
-
-pub eight_is :
-    (register r word : ℕ) (xs parts : List ℕ) (h g f e d c b a : ℕ) → length xs ≡ 8 → ((i : ℕ) → get_or xs i 0 < 256) → r ≡ register →
-    word ≡ from_le_bytes w64 xs → r < 2 ^ 64 → word < 2 ^ 64 → parts ≡ to_le_bytes w64 (bit_xor r word) →
-    h ≡ after_bits 8 (get_or parts 7 0) 0 → g ≡ after_bits 16 (get_or parts 6 0) 0 → f ≡ after_bits 24 (get_or parts 5 0) 0 →
-    e ≡ after_bits 32 (get_or parts 4 0) 0 → d ≡ after_bits 40 (get_or parts 3 0) 0 → c ≡ after_bits 48 (get_or parts 2 0) 0 →
-    b ≡ after_bits 56 (get_or parts 1 0) 0 → a ≡ after_bits 64 (get_or parts 0 0) 0 →
-    bit_xor (bit_xor (bit_xor (bit_xor (bit_xor (bit_xor (bit_xor h g) f) e) d) c) b) a ≡ after_octets register xs
-eight_is register r word xs parts h g f e d c b a len fit er ew lr lw ep eh eg ef ee ed ec eb ea =
-    let fits : AreOctets xs = λ k x below. rw (get_or_default xs k x 0 below) (fit k) in
-    let part : ℕ → ℕ = λ i. get_or parts i 0 in
-    let at_end : bit_xor (bit_xor (bit_xor (bit_xor (bit_xor (bit_xor (bit_xor h g) f) e) d) c) b) a ≡ folded (part 0) (part 1) (part 2) (part 3) (part 4) (part 5) (part 6) (part 7) =
-    all_same h g f e d c b a _ _ _ _ _ _ _ _ eh eg ef ee ed ec eb ea
+pub upper_more :
+    (lane word i sum found : ℕ) → i < 8 → sum ≡ after_bits (8 * (lane + i)) (word / 2 ^ (8 * (8 - i))) 0 →
+    found ≡ after_bits (8 * (lane + i + 1)) (word / 2 ^ (8 * (7 - i)) % 256) 0 →
+    bit_xor sum found ≡ after_bits (8 * (lane + (i + 1))) (word / 2 ^ (8 * (8 - (i + 1)))) 0
+upper_more lane word i sum found h so_far is =
+    let n = 8 * (lane + i) in
+    let x = word / 2 ^ (8 * (7 - i)) in
+    let bits : 8 * (7 - i) + 8 ≡ 8 * (8 - i) = omega arith in
+    let zeros : 8 * (lane + i + 1) ≡ 8 + n = omega arith in
+    let all : 8 + n ≡ 8 * (lane + (i + 1)) = omega arith in
+    let left : 7 - i ≡ 8 - (i + 1) = omega arith in
+    let high : x / 256 ≡ word / 2 ^ (8 * (8 - i)) =
+    div-div-eq-div-mul word (2 ^ (8 * (7 - i))) 256 ∙ ap (λ p. word / p) (sym (pow-add 2 (8 * (7 - i)) 8)) ∙ ap (λ k. word / 2 ^ k) bits
     in
-    let word_is_xor : bit_xor r word ≡ bit_xor register (from_le_bytes w64 xs) = ap (λ x. bit_xor x word) er ∙ ap (bit_xor register) ew in
-    at_end ∙ ap fold_parts ep ∙ sym (word_parts (bit_xor r word) (xor_lt 64 r word lr lw)) ∙ ap (λ w. after_bits 64 w 0) word_is_xor ∙
-    sym (eight_at_once xs register len fits)
+    ap (λ y. bit_xor y found) (so_far ∙ ap (λ y. after_bits n y 0) (sym high)) ∙
+    ap (bit_xor (after_bits n (x / 256) 0)) (is ∙ ap (λ k. after_bits k (x % 256) 0) zeros) ∙ sym (octet_apart n x) ∙
+    ap (λ k. after_bits k x 0) all ∙ ap (λ k. after_bits (8 * (lane + (i + 1))) (word / 2 ^ (8 * k)) 0) left
+
+pub upper_all :
+    (lane word i sum : ℕ) → i ≡ 8 → sum ≡ after_bits (8 * (lane + i)) (word / 2 ^ (8 * (8 - i))) 0 → sum ≡ after_bits (8 * (lane + 8)) word 0
+upper_all lane word i sum e so_far =
+    let whole : word / 1 ≡ word = omega arith in
+    so_far ∙ ap (λ k. after_bits (8 * (lane + k)) (word / 2 ^ (8 * (8 - k))) 0) e ∙ ap (λ x. after_bits (8 * (lane + 8)) x 0) whole
+
+pub are_octets : (xs : List ℕ) → ((i : ℕ) → get_or xs i 0 < 256) → AreOctets xs
+are_octets xs fit k x below = rw (get_or_default xs k x 0 below) (fit k)
+
+pub sixteen_same :
+    (r register word first more second low high : ℕ) → r ≡ register → word ≡ first → more ≡ second →
+    low ≡ after_bits 64 more 0 → high ≡ after_bits 128 (bit_xor r word) 0 →
+    bit_xor low high ≡ bit_xor (after_bits 64 second 0) (after_bits 128 (bit_xor register first) 0)
+sixteen_same r register word first more second low high er ew em el eh =
+    ap (λ x. bit_xor x high) (el ∙ ap (λ x. after_bits 64 x 0) em) ∙
+    ap (bit_xor (after_bits 64 second 0)) (eh ∙ ap (λ x. after_bits 128 (bit_xor x word) 0) er ∙ ap (λ x. after_bits 128 (bit_xor register x) 0) ew)
+
+-- two words of octets: what the first leaves goes through the zeros of the second
+pub sixteen_at_once :
+    (xs ys : List ℕ) (r : ℕ) → length xs ≡ 8 → length ys ≡ 8 → AreOctets xs → AreOctets ys →
+    after_octets r (xs ++ ys) ≡ bit_xor (after_bits 64 (from_le_bytes w64 ys) 0) (after_bits 128 (bit_xor r (from_le_bytes w64 xs)) 0)
+sixteen_at_once xs ys r few more fit fits =
+    let word = bit_xor r (from_le_bytes w64 xs) in
+    let behind = after_bits 64 (from_le_bytes w64 ys) 0 in
+    octets-append r xs ys ∙ ap (λ x. after_octets x ys) (eight_at_once xs r few fit) ∙
+    eight_at_once ys (after_bits 64 word 0) more fits ∙ zeros_add 64 (after_bits 64 word 0) (from_le_bytes w64 ys) ∙
+    ap (λ x. bit_xor x behind) (sym (zeros_then 64 64 word)) ∙ xor_comm (after_bits 128 word 0) behind

@@ -1,5 +1,6 @@
 -- The laws of the definitions. Each is the contract of a public function of `laws`.
 use Rattle.std.specs.Prelude.{◌≡◌, ◌↔◌, ℕ, ◌+◌, ◌<◌, ◌≤◌, false, List, [], ◌∷◌, ◌++◌, length, Option, Some, None}
+use mathlib.Core.List.{IsPrefix}
 use Rattle.std.specs.List.{All}
 use Rattle.std.specs.Option.{option_map}
 use Rattle.hdlc_frame.specs.declared.found.Bad.TheVariants.{Escape}
@@ -33,6 +34,10 @@ pub record SegmentsGrow (stream : List ℕ) : Type 0 where
       open_text (stream ++ more) ≡ option_map (λ text. text ++ more) (open_text stream)
   pub flag : segments (stream ++ FLAG ∷ []) ≡ segments stream ++ ended (open_text stream)
   pub flag_opens : open_text (stream ++ FLAG ∷ []) ≡ Some []
+
+-- in more of a stream the same is found first
+abbrev pub FindsOn : Type 0
+FindsOn = (limit : ℕ) (stream more : List ℕ) → IsPrefix (found limit stream) (found limit (stream ++ more))
 
 -- What the writer writes behind any stream is a flag and one segment, in which that very frame is found.
 pub record IsReadBack (address : ℕ) (payload : List ℕ) : Type 0 where

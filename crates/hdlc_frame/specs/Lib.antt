@@ -1,5 +1,6 @@
 pub mod CheckSequence
 pub mod Content
+pub mod Counted
 pub mod Encoded
 pub mod Found
 pub mod Laws

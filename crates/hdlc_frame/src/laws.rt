@@ -1,7 +1,7 @@
 //! Laws of the definitions, for callers' proofs. Nothing runs here.
 
 ghost use Rattle.std.specs.Prelude.{◌≡◌, ℕ, ◌^◌, ◌<◌, List};
-ghost use Rattle.hdlc_frame.specs.Laws.{AreOctets, IsFoundIn, IsReadBack, SegmentsGrow};
+ghost use Rattle.hdlc_frame.specs.Laws.{AreOctets, FindsOn, IsFoundIn, IsReadBack, SegmentsGrow};
 
 use crate::crc::{ALL_ONES, POLYNOMIAL};
 use crate::judge::SHORTEST_CONTENT;
@@ -26,6 +26,11 @@ pub fn found_is_carried()
 /// How the segments of a stream grow with it, octet by octet.
 pub fn segments_grow()
     ensures { (stream : List ℕ) → SegmentsGrow stream }
+{}
+
+/// In more of a stream the same frames and faults are found first.
+pub fn more_is_found_behind()
+    ensures { FindsOn }
 {}
 
 /// What `encode_ui` appends is one segment, and is read back so.

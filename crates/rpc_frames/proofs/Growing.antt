@@ -1,26 +1,23 @@
 -- What one more segment does to the packets and the counts of a stream.
-use Rattle.std.proofs.Common.{◌≡◌, ℕ, zero, suc, ◌+◌, ◌≤◌, Bool, true, false, cond, List, [], ◌∷◌, ◌++◌, length, map, count_by, refl, sym, ◌∙◌, ap, subst, arith, length-append, append-nil, append_assoc}
+use Rattle.std.proofs.Common.{◌≡◌, ℕ, ◌≤◌, cond, List, [], ◌∷◌, ◌++◌, length, count_by, refl, sym, ◌∙◌, ap, arith, length-append, append-nil}
 use mathlib.Core.List.{IsPrefix}
-use Rattle.std.proofs.lemmas.Bool.{eqb-true}
 use Rattle.std.specs.Io.Iter.{u64_saturate}
 use Rattle.std.specs.List.{filter_map, flat_map}
 use Rattle.std.specs.Option.{option_to_list}
 use Rattle.std.proofs.lemmas.Grind.{flat_map-append}
 use Rattle.std.proofs.lemmas.List.Elements.{filter_map-append}
-use Rattle.std.proofs.lemmas.List.Sums.{sum_by-append}
 use Rattle.hdlc_frame.specs.declared.found.Bad.{Bad}
-use Rattle.hdlc_frame.specs.declared.octets.TheConstants.{FLAG}
-use Rattle.hdlc_frame.specs.Found.{FrameParts, Found, found, found_in, frames_in, faults_in, valid_frames, faults_of}
-use Rattle.hdlc_frame.specs.Laws.{ended}
-use Rattle.hdlc_frame.specs.Segments.{is_flag, open_text}
+use Rattle.hdlc_frame.specs.Found.{FrameParts, Found, found, frames_in, faults_in, valid_frames, faults_of}
 use Rattle.hdlc_frame.specs.Found.Found.{frame, fault}
-use Rattle.hdlc_frame.proofs.Parting.{NoFlag, found_flag, found_none, found_text}
+use Rattle.hdlc_frame.specs.Counted.{one_more}
+use Rattle.hdlc_frame.proofs.Counted.{saturated_if, saturated_length}
+use Rattle.hdlc_frame.proofs.Parting.{found_begins, found_none}
 use Rattle.rpc_ids.specs.declared.method.Role.{Role}
 use Rattle.rpc_frames.specs.declared.counts.Counts.{Counts}
 use Rattle.rpc_frames.specs.declared.heard.Heard.{Heard}
 use Rattle.rpc_frames.specs.declared.heard.Heard.TheVariants as is
 use Rattle.rpc_frames.specs.declared.limits.TheConstants.{LARGEST_CONTENT}
-use Rattle.rpc_frames.specs.Counting.{one_more, with_segment}
+use Rattle.rpc_frames.specs.Counting.{with_segment}
 use Rattle.rpc_frames.specs.Heard.{counts_of, heard_in_frame, heard_packets, is_dropped, is_other}
 use Rattle.rpc_frames.specs.HeardAs.{HearsIn, packet_in}
 
@@ -57,34 +54,15 @@ heard_fault : (role : Role) (old new : List ℕ) (bad : Bad) → IsMore old (fau
 unfolding heard_packets
 heard_fault role old new bad more = ap (filter_map (heard_in_frame role)) (frames_fault old new bad more)
 
-count_more : {X : Type 0} (p : X → Bool) (xs : List X) (x : X) → count_by p (xs ++ x ∷ []) ≡ count_by p xs + cond (p x) 1 0
-count_more p xs x = sum_by-append (λ y. cond (p y) 1 0) xs (x ∷ []) ∙ omega arith
-
-length_more : {X : Type 0} (xs : List X) (x : X) → length (xs ++ x ∷ []) ≡ length xs + 1
-length_more xs x = length-append xs (x ∷ []) ∙ omega arith
-
-one_more_is : (n : ℕ) → u64_saturate (n + 1) ≡ one_more (u64_saturate n)
-one_more_is n = omega arith
-
-saturated_more : (m n : ℕ) → m ≡ n + 1 → u64_saturate m ≡ one_more (u64_saturate n)
-saturated_more m n e = ap u64_saturate e ∙ one_more_is n
-
 same_counts : (v b o d v' b' o' d' : ℕ) → v ≡ v' → b ≡ b' → o ≡ o' → d ≡ d' → ◌≡◌ {A = Counts} (record { valid = v; bad = b; other = o; dropped = d }) (record { valid = v'; bad = b'; other = o'; dropped = d' })
 same_counts v b o d v' b' o' d' p q r s = cc
-
-saturated_cond : (b : Bool) (n : ℕ) → u64_saturate (n + cond b 1 0) ≡ cond b (one_more (u64_saturate n)) (u64_saturate n)
-saturated_cond true n = one_more_is n
-saturated_cond false n = omega arith
-
-saturated_if : {X : Type 0} (p : X → Bool) (xs : List X) (x : X) → u64_saturate (count_by p (xs ++ x ∷ [])) ≡ cond (p x) (one_more (u64_saturate (count_by p xs))) (u64_saturate (count_by p xs))
-saturated_if p xs x = ap u64_saturate (count_more p xs x) ∙ saturated_cond (p x) (count_by p xs)
 
 counts_fault : (role : Role) (old new : List ℕ) (bad : Bad) → IsMore old (fault bad) new → counts_of role new ≡ with_segment (counts_of role old) is.Fault
 unfolding counts_of
 counts_fault role old new bad more =
     let frames = frames_fault old new bad more in
-    let faults = ap length (faults_fault old new bad more) ∙ length_more (faults_of LARGEST_CONTENT old) bad in
-    same_counts _ _ _ _ _ _ _ _ (ap (λ fs. u64_saturate (length fs)) frames) (saturated_more _ _ faults)
+    let faults = ap (λ fs. u64_saturate (length fs)) (faults_fault old new bad more) ∙ saturated_length (faults_of LARGEST_CONTENT old) bad in
+    same_counts _ _ _ _ _ _ _ _ (ap (λ fs. u64_saturate (length fs)) frames) faults
     (ap (λ fs. u64_saturate (count_by is_other fs)) frames) (ap (λ fs. u64_saturate (count_by (is_dropped role) fs)) frames)
 
 -- a frame more, counted as other or dropped by these tests
@@ -98,7 +76,7 @@ counts_frame :
 unfolding counts_of
 counts_frame role old new f more =
     let frames = frames_frame old new f more in
-    same_counts _ _ _ _ _ _ _ _ (saturated_more _ _ (ap length frames ∙ length_more (valid_frames LARGEST_CONTENT old) f))
+    same_counts _ _ _ _ _ _ _ _ (ap (λ fs. u64_saturate (length fs)) frames ∙ saturated_length (valid_frames LARGEST_CONTENT old) f)
     (ap (λ fs. u64_saturate (length fs)) (faults_frame old new f more))
     (ap (λ fs. u64_saturate (count_by is_other fs)) frames ∙ saturated_if is_other (valid_frames LARGEST_CONTENT old) f)
     (ap (λ fs. u64_saturate (count_by (is_dropped role) fs)) frames ∙ saturated_if (is_dropped role) (valid_frames LARGEST_CONTENT old) f)
@@ -146,39 +124,13 @@ nothing_counted_in role =
     same_counts _ _ _ _ _ _ _ _ (ap (λ fs. u64_saturate (length fs)) frames) (ap (λ fs. u64_saturate (length fs)) faults)
     (ap (λ fs. u64_saturate (count_by is_other fs)) frames) (ap (λ fs. u64_saturate (count_by (is_dropped role) fs)) frames)
 
-no_flag_one : (octet : ℕ) → is_flag octet ≡ false → NoFlag (octet ∷ [])
-no_flag_one octet plain zero d below = plain
-no_flag_one octet plain (suc k) d below = absurd (omega (arith, below))
-
--- In more of a stream the same is found first. One octet more ends the open segment, or none.
-octet_found : (stream : List ℕ) (octet : ℕ) → (more : List Found) × (found LARGEST_CONTENT (stream ++ octet ∷ []) ≡ found LARGEST_CONTENT stream ++ more)
-octet_found stream octet = at (is_flag octet) refl
-  where
-    at : (b : Bool) → is_flag octet ≡ b → (more : List Found) × (found LARGEST_CONTENT (stream ++ octet ∷ []) ≡ found LARGEST_CONTENT stream ++ more)
-    at true flag =
-        subst (λ o. (more : List Found) × (found LARGEST_CONTENT (stream ++ o ∷ []) ≡ found LARGEST_CONTENT stream ++ more)) (sym (eqb-true octet FLAG flag))
-        (map (found_in LARGEST_CONTENT) (ended (open_text stream)), found_flag LARGEST_CONTENT stream)
-    at false plain = ([], found_text LARGEST_CONTENT stream (octet ∷ []) (no_flag_one octet plain) ∙ sym (append-nil (found LARGEST_CONTENT stream)))
-
-found_more : (stream bytes : List ℕ) → (more : List Found) × (found LARGEST_CONTENT (stream ++ bytes) ≡ found LARGEST_CONTENT stream ++ more)
-found_more stream [] = ([], ap (found LARGEST_CONTENT) (append-nil stream) ∙ sym (append-nil (found LARGEST_CONTENT stream)))
-found_more stream (octet ∷ bytes) = then (octet_found stream octet) (found_more (stream ++ octet ∷ []) bytes)
-  where
-    then : (one : List Found) × (found LARGEST_CONTENT (stream ++ octet ∷ []) ≡ found LARGEST_CONTENT stream ++ one)
-        → (more : List Found) × (found LARGEST_CONTENT ((stream ++ octet ∷ []) ++ bytes) ≡ found LARGEST_CONTENT (stream ++ octet ∷ []) ++ more)
-        → (more : List Found) × (found LARGEST_CONTENT (stream ++ octet ∷ bytes) ≡ found LARGEST_CONTENT stream ++ more)
-    then one more = (
-      one.0 ++ more.0,
-      ap (found LARGEST_CONTENT) (sym (append_assoc stream (octet ∷ []) bytes)) ∙
-          (more.1 ∙ (ap (λ xs. xs ++ more.0) one.1 ∙ append_assoc (found LARGEST_CONTENT stream) one.0 more.0)),
-    )
-
+-- In more of a stream the same packets are heard first.
 pub packets_begin : (role : Role) (stream bytes : List ℕ) → IsPrefix (heard_packets role stream) (heard_packets role (stream ++ bytes))
 unfolding heard_packets
 packets_begin role stream bytes =
-    let more = found_more stream bytes in
+    let more = found_begins LARGEST_CONTENT stream bytes in
     let frames : valid_frames LARGEST_CONTENT (stream ++ bytes) ≡ valid_frames LARGEST_CONTENT stream ++ flat_map frames_in more.0 =
-    ap (flat_map frames_in) more.1 ∙ flat_map-append frames_in (found LARGEST_CONTENT stream) more.0 in (
+    ap (flat_map frames_in) (sym more.1) ∙ flat_map-append frames_in (found LARGEST_CONTENT stream) more.0 in (
       filter_map (heard_in_frame role) (flat_map frames_in more.0),
       sym (ap (filter_map (heard_in_frame role)) frames ∙ filter_map-append (heard_in_frame role) (valid_frames LARGEST_CONTENT stream) (flat_map frames_in more.0)),
     )

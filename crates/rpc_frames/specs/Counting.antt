@@ -1,13 +1,8 @@
 -- How one more segment is counted.
-use Rattle.std.specs.Prelude.{ℕ, ◌+◌}
-use Rattle.std.specs.Io.Iter.{u64_saturate}
+use Rattle.hdlc_frame.specs.Counted.{one_more}
 use Rattle.rpc_frames.specs.declared.counts.Counts.{Counts}
 use Rattle.rpc_frames.specs.declared.heard.Heard.{Heard}
 use Rattle.rpc_frames.specs.declared.heard.Heard.TheVariants.{Fault, Other, Dropped, Packet}
-
--- one more, as far as a count goes
-abbrev pub one_more : ℕ → ℕ
-one_more n = u64_saturate (n + 1)
 
 -- the counts with one more segment, in which this is heard
 abbrev pub with_segment : Counts → Heard → Counts

@@ -1,7 +1,8 @@
 //! How the segments of a stream are counted.
 
 ghost use Rattle.std.specs.Prelude.{◌≡◌};
-ghost use Rattle.rpc_frames.specs.Counting.{one_more, with_segment};
+ghost use Rattle.hdlc_frame.specs.Counted.{one_more};
+ghost use Rattle.rpc_frames.specs.Counting.{with_segment};
 
 use crate::heard::Heard;
 

@@ -1,4 +1,4 @@
-use Rattle.std.proofs.Common.{ℕ, ◌≤◌, length, arith, length-take, length-drop}
+use Rattle.std.proofs.Common.{ℕ, arith, length-take, length-drop}
 use Rattle.frame_router.proofs.PumpLemmas.{on_more, on_nothing, on_whole, stops_later}
 use Rattle.frame_router.proofs.pumping.pump_piece.Goals as goal
 

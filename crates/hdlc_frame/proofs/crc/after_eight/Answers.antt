@@ -1,10 +1,11 @@
-use Rattle.hdlc_frame.proofs.Words.{eight_is}
+use Rattle.std.proofs.Common.{ap, sym, ◌∙◌, bit_xor}
+use Rattle.hdlc_frame.specs.CheckSequence.{after_bits}
+use Rattle.hdlc_frame.proofs.Words.{are_octets, eight_at_once}
 use Rattle.hdlc_frame.proofs.crc.after_eight.Goals as goal
 
 pub returns : goal.returns
 returns c =
-    eight_is c.args.register c.from.result c.from_le_bytes.result c.args.octets.now c.to_le_bytes-parts.result c.after_zeros.result
-    c.after_zeros-2.result c.after_zeros-3.result c.after_zeros-4.result c.after_zeros-5.result c.after_zeros-6.result c.after_zeros-7.result
-    c.after_zeros-8.result c.told-octets c.fits-octets c.from.ensures c.from_le_bytes.ensures c.from.type_inv c.from_le_bytes.type_inv
-    c.to_le_bytes-parts.ensures c.after_zeros.ensures c.after_zeros-2.ensures c.after_zeros-3.ensures c.after_zeros-4.ensures
-    c.after_zeros-5.ensures c.after_zeros-6.ensures c.after_zeros-7.ensures c.after_zeros-8.ensures
+    let octets = c.args.octets.now in
+    c.after_word.ensures ∙ ap (λ x. after_bits 64 (bit_xor x c.from_le_bytes.result) 0) c.from.ensures ∙
+    ap (λ x. after_bits 64 (bit_xor c.args.register x) 0) c.from_le_bytes.ensures ∙
+    sym (eight_at_once octets c.args.register c.told-octets (are_octets octets c.fits-octets))

@@ -1,5 +1,4 @@
 use Rattle.frame_router.proofs.Segments.{nothing_routed}
-use Rattle.std.proofs.Common.{refl}
 use Rattle.frame_router.proofs.lane.Lane.new.Goals as goal
 
 pub returns-clause-routed : goal.returns-clause-routed

@@ -1,6 +1,6 @@
 use Rattle.frame_router.specs.declared.port.Port.TheVariants.{Left, Right}
 use Rattle.frame_router.specs.declared.port.Port.{Port}
-use Rattle.frame_router.specs.Routed.{HasRouted, LaneView, RouterView, lane_from}
+use Rattle.frame_router.specs.Routed.{HasRouted, LaneView, lane_from}
 use Rattle.frame_router.specs.declared.routes.Route.{Route}
 use Rattle.std.proofs.Common.{List, []}
 use Rattle.frame_router.proofs.router.Router.new.Goals as goal

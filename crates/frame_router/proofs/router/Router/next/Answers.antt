@@ -1,4 +1,4 @@
-use Rattle.std.proofs.Common.{refl, ap}
+use Rattle.std.proofs.Common.{ap}
 use Rattle.frame_router.proofs.Segments.{gives_front}
 use Rattle.frame_router.proofs.router.Router.next.Goals as goal
 
