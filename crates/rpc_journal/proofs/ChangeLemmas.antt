@@ -18,7 +18,7 @@ use Rattle.rpc_journal.specs.Changes.{Accepts, StartDid, StartOfDid, FinishDid, 
 use Rattle.rpc_journal.specs.Conditions.{IsInputOpen}
 use Rattle.rpc_journal.specs.Effect.{Deed}
 use Rattle.rpc_journal.specs.Quiet.{is_quiet}
-use Rattle.rpc_journal.specs.History.{told, tell, history, entry_by, adding}
+use Rattle.rpc_journal.specs.History.{deeds_of, deeds_with, history, entry_by, adding}
 use Rattle.rpc_journal.specs.Items.{input_ended, is_end_in}
 use Rattle.rpc_journal.specs.Lawful.{AllowedAll, IsLawful, is_wrong_seat}
 use Rattle.rpc_journal.specs.Laws.{seat_of}
@@ -88,7 +88,7 @@ pub begun_runs : (rule : HandlerRule) (set : Setting) (seat : ℕ) (run : Run) (
     → Begins rule set seat run before after → IsRunning rule set after run
 begun_runs rule set seat run before after begins =
     let e : Entry = entry_by seat (Start run.call) in
-    let now : history set after ≡ tell set (history set before) e = ap (history set) begins.adds ∙ history-push set before e in
+    let now : history set after ≡ deeds_with set (history set before) e = ap (history set) begins.adds ∙ history-push set before e in
     let own : (run.call == run.call) ≡ true = eq-eqb run.call run.call refl in
     record {
       started = rw (begins.adds, begins.newest, begins.own_seat) (last_at before (entry_by seat (Start run.call)));
@@ -102,18 +102,18 @@ no_end seat EndIn other right = absurd (true≢false (sym (ap not (ne_eqb seat 0
 no_end seat _ other right = refl
 
 open_from : (set : Setting) (new old : List Entry) → AllowedAll set (new ++ old) → AllByRecursion (λ e. seat_of e ≢ 0) new
-    → input_ended (told set old) ≡ false → input_ended (told set (new ++ old)) ≡ false
+    → input_ended (deeds_of set old) ≡ false → input_ended (deeds_of set (new ++ old)) ≡ false
 open_from set [] old all others is = is
 open_from set (e ∷ new) old all others is =
     let before = open_from set new old all.0 others.1 is in
-    rw (no_end e.seat e.kind others.0 (allowed set (told set (new ++ old)) e all.1).seat) before
+    rw (no_end e.seat e.kind others.0 (allowed set (deeds_of set (new ++ old)) e all.1).seat) before
 
 -- the input stays open over the entries of other seats
 pub input_stays_open : (set : Setting) (h more : List Entry) (seat : ℕ) → IsLawful set (h ++ more)
     → AllByRecursion (λ e. seat_of e ≢ 0) more → IsInputOpen set h seat → IsInputOpen set (h ++ more) seat
 input_stays_open set h more seat lawful others is = record {
   feeder = is.feeder;
-  not_ended = subst (λ es. input_ended (told set es) ≡ false) (sym (reverse-append h more))
+  not_ended = subst (λ es. input_ended (deeds_of set es) ≡ false) (sym (reverse-append h more))
       (open_from set (reverse more) (reverse h) (allowed-parts set h more lawful) (all-reverse _ more others) is.not_ended);
 }
 
@@ -135,18 +135,18 @@ cancel_quiets set seat c status before after did =
         → is_quiet (history set after) c ≡ true
     at true cancelled is idle = subst (λ es. is_quiet (history set es) c ≡ true) (sym is) (quiet_parts (history set before) c cancelled idle)
     at false cancelled is idle =
-        let now : history set after ≡ tell set (history set before) (entry_by seat (Cancel c)) = ap (history set) is ∙ history-push set before (entry_by seat (Cancel c)) in
+        let now : history set after ≡ deeds_with set (history set before) (entry_by seat (Cancel c)) = ap (history set) is ∙ history-push set before (entry_by seat (Cancel c)) in
         subst (λ ds. is_quiet ds c ≡ true) (sym now)
-        (quiet_parts (tell set (history set before) (entry_by seat (Cancel c))) c (rw (eq-eqb c c refl) refl) idle)
+        (quiet_parts (deeds_with set (history set before) (entry_by seat (Cancel c))) c (rw (eq-eqb c c refl) refl) idle)
 
 -- and so does the end of a cancelled call's run
 finish_quiets : {H : Type 0} (set : Setting) (run : Run) (a : Answer) (handler : H) (result : Option H) (before after : List Entry)
     → is_cancelled (history set before) run.call ≡ true → FinishDid set run a handler result before after → is_quiet (history set after) run.call ≡ true
 finish_quiets set run a handler result before after cancelled did =
-    let now : history set after ≡ tell set (history set before) (entry_by run.seat (Finish run.call a)) =
+    let now : history set after ≡ deeds_with set (history set before) (entry_by run.seat (Finish run.call a)) =
     ap (history set) did.adds ∙ history-push set before (entry_by run.seat (Finish run.call a)) in
     subst (λ ds. is_quiet ds run.call ≡ true) (sym now)
-    (quiet_parts (tell set (history set before) (entry_by run.seat (Finish run.call a))) run.call cancelled (rw (eq-eqb run.call run.call refl) refl))
+    (quiet_parts (deeds_with set (history set before) (entry_by run.seat (Finish run.call a))) run.call cancelled (rw (eq-eqb run.call run.call refl) refl))
 
 pub becomes_quiet : {H : Type 0} → BecomesQuiet H
 becomes_quiet = record {

@@ -4,7 +4,7 @@ use Rattle.std.specs.List.{list_any}
 use Rattle.rpc_journal.specs.Calls.{of_call}
 use Rattle.rpc_journal.specs.Effect.{Opening}
 use Rattle.rpc_journal.specs.Entries.{each_from, made_from}
-use Rattle.rpc_journal.specs.Marks.{is_empty}
+use Rattle.rpc_journal.specs.Kinds.{is_empty}
 
 module _ {A : Type 0} (test : ℕ → Opening → Bool) (value : A) where
   -- none is put to a call of a lower number

@@ -26,12 +26,12 @@ use Rattle.rpc_journal.specs.Effect.{Opening, Deed}
 use Rattle.rpc_journal.specs.Calls.{of_call, same_name, calls, call_count, call_at, ends_of, has_end, opens_named, last_call, live_call, is_cancelled}
 use Rattle.rpc_journal.specs.Queues.{is_completed}
 use Rattle.rpc_journal.specs.Items.{is_done}
-use Rattle.rpc_journal.specs.Marks.{is_empty, is_okay, is_unary, streams_up, streams_down}
-use Rattle.rpc_journal.specs.Rows.{Row, channels_in, method_named, no_effect, says_item, status_packet, sends}
+use Rattle.rpc_journal.specs.Kinds.{is_empty, is_okay, is_unary, streams_up, streams_down}
+use Rattle.rpc_journal.specs.Rows.{Row, channels_in, method_named, no_effect, says_item, status_packet, packet_item}
 use Rattle.rpc_journal.specs.ServerTable.{method_row, known_row, unknown_row}
 use Rattle.rpc_journal.specs.ClientTable.{call_row, live_row, no_call_row}
-use Rattle.rpc_journal.specs.Entries.{each_from, is_live_on, row_by, arrive_row, leaves, effect_of, invoke_effect, finish_effect, answered, end_effect, is_heard, cancel_effect, with_call}
-use Rattle.rpc_journal.specs.History.{told}
+use Rattle.rpc_journal.specs.Entries.{each_from, is_live_on, row_by, arrive_row, leave_item, effect_of, invoke_effect, finish_effect, answered, end_effect, is_heard, cancel_effect, with_call}
+use Rattle.rpc_journal.specs.History.{deeds_of}
 use Rattle.rpc_journal.proofs.EachLemmas.{none_before}
 use Rattle.rpc_channel.specs.Rising.{has_id}
 
@@ -164,7 +164,7 @@ end_effect-ends Client ds c name kind done None live = tt
 end_effect-ends Client ds c name kind done (Some end) live = at (is_okay end.status) (is_unary kind || done)
   where
     at : (okay closed : Bool)
-        → EndsOpen ds (if okay then (if closed then no_effect else says_item (sends c (status_packet Completion name Okay))) else record no_effect { ends = (c, end.status) ∷ []; drops = c ∷ []; says = sends c (status_packet ClientError name end.status) ∷ [] }).ends
+        → EndsOpen ds (if okay then (if closed then no_effect else says_item (packet_item c (status_packet Completion name Okay))) else record no_effect { ends = (c, end.status) ∷ []; drops = c ∷ []; says = packet_item c (status_packet ClientError name end.status) ∷ [] }).ends
     at true true = tt
     at true false = tt
     at false closed = one_end ds c live
@@ -183,7 +183,7 @@ finish-ends : (set : Setting) (ds : List Deed) (c : ℕ) (a : Answer) (o : Optio
 finish-ends set ds c a None is = tt
 finish-ends set ds c a (Some o) is = at (is_cancelled ds c)
   where
-    at : (b : Bool) → EndsOpen ds (if b then says_item (leaves c) else answered set.role c o (is_heard ds c) (is_done ds c) a).ends
+    at : (b : Bool) → EndsOpen ds (if b then says_item (leave_item c) else answered set.role c o (is_heard ds c) (is_done ds c) a).ends
     at true = tt
     at false = answered-ends set.role ds c o (is_heard ds c) (is_done ds c) a (heard_live ds c) (slice_get_within _ _ _ is)
 
@@ -247,16 +247,16 @@ gets_one ds c (x ∷ xs) all = at (x.0 == c) refl (gets_one ds c xs all.3)
     at false e rest = rest
 
 -- each call has at most one end
-pub ends_once : (set : Setting) (h : List Entry) (c : ℕ) → length (ends_of (told set h) c) ≤ 1
+pub ends_once : (set : Setting) (h : List Entry) (c : ℕ) → length (ends_of (deeds_of set h) c) ≤ 1
 ends_once set [] c = omega arith
-ends_once set (e ∷ h) c = at (ends_of (told set h) c) refl (ends_once set h c)
+ends_once set (e ∷ h) c = at (ends_of (deeds_of set h) c) refl (ends_once set h c)
   where
-    at : (xs : List Status) → ends_of (told set h) c ≡ xs → length xs ≤ 1
-        → length (xs ++ of_call c (effect_of set (told set h) e.kind).ends) ≤ 1
-    at [] is short = gets_one (told set h) c _ (effect-ends set (told set h) e.kind)
+    at : (xs : List Status) → ends_of (deeds_of set h) c ≡ xs → length xs ≤ 1
+        → length (xs ++ of_call c (effect_of set (deeds_of set h) e.kind).ends) ≤ 1
+    at [] is short = gets_one (deeds_of set h) c _ (effect-ends set (deeds_of set h) e.kind)
     at (x ∷ xs) is short =
-        let none : of_call c (effect_of set (told set h) e.kind).ends ≡ [] =
-        ended_gets_none (told set h) c _ (effect-ends set (told set h) e.kind) (ap (λ ys. not (is_empty ys)) is) in
+        let none : of_call c (effect_of set (deeds_of set h) e.kind).ends ≡ [] =
+        ended_gets_none (deeds_of set h) c _ (effect-ends set (deeds_of set h) e.kind) (ap (λ ys. not (is_empty ys)) is) in
         subst (λ ys. length ((x ∷ xs) ++ ys) ≤ 1) (sym none) (subst (λ ys. length ys ≤ 1) (sym (append-nil (x ∷ xs))) short)
 
 rest_some : {A : Type 0} (xs ys : List A) → not (is_empty xs) ≡ false → not (is_empty (xs ++ ys)) ≡ true → is_empty ys ≡ false
@@ -264,22 +264,22 @@ rest_some [] ys none some = not-true _ some
 rest_some (x ∷ xs) ys none some = absurd (true≢false none)
 
 -- a call with an end is there
-pub ended_known : (set : Setting) (h : List Entry) (c : ℕ) → has_end (told set h) c ≡ true → c < call_count (told set h)
+pub ended_known : (set : Setting) (h : List Entry) (c : ℕ) → has_end (deeds_of set h) c ≡ true → c < call_count (deeds_of set h)
 ended_known set [] c ended = absurd (false≢true ended)
-ended_known set (e ∷ h) c ended = at (has_end (told set h) c) refl (ended_known set h c)
+ended_known set (e ∷ h) c ended = at (has_end (deeds_of set h) c) refl (ended_known set h c)
   where
-    more : call_count (told set h) ≤ call_count (told set (e ∷ h))
-    more = omega (arith, length-append (calls (told set h)) (option_to_list (effect_of set (told set h) e.kind).opens))
+    more : call_count (deeds_of set h) ≤ call_count (deeds_of set (e ∷ h))
+    more = omega (arith, length-append (calls (deeds_of set h)) (option_to_list (effect_of set (deeds_of set h) e.kind).opens))
 
-    among : (xs : List (ℕ × Status)) → EndsOpen (told set h) xs → is_empty (of_call c xs) ≡ false → c < call_count (told set h)
+    among : (xs : List (ℕ × Status)) → EndsOpen (deeds_of set h) xs → is_empty (of_call c xs) ≡ false → c < call_count (deeds_of set h)
     among [] all some = absurd (true≢false some)
     among (x ∷ xs) all some = here (x.0 == c) refl (among xs all.3) some
       where
-        here : (b : Bool) → (x.0 == c) ≡ b → (is_empty (of_call c xs) ≡ false → c < call_count (told set h))
-            → is_empty (if b then x.1 ∷ of_call c xs else of_call c xs) ≡ false → c < call_count (told set h)
-        here true e rest some = subst (λ k. k < call_count (told set h)) (eqb-true _ _ e) all.1
+        here : (b : Bool) → (x.0 == c) ≡ b → (is_empty (of_call c xs) ≡ false → c < call_count (deeds_of set h))
+            → is_empty (if b then x.1 ∷ of_call c xs else of_call c xs) ≡ false → c < call_count (deeds_of set h)
+        here true e rest some = subst (λ k. k < call_count (deeds_of set h)) (eqb-true _ _ e) all.1
         here false e rest some = rest some
 
-    at : (b : Bool) → has_end (told set h) c ≡ b → (has_end (told set h) c ≡ true → c < call_count (told set h)) → c < call_count (told set (e ∷ h))
+    at : (b : Bool) → has_end (deeds_of set h) c ≡ b → (has_end (deeds_of set h) c ≡ true → c < call_count (deeds_of set h)) → c < call_count (deeds_of set (e ∷ h))
     at true is before = omega (arith, more, before is)
-    at false is before = omega (arith, more, among _ (effect-ends set (told set h) e.kind) (rest_some (ends_of (told set h) c) _ is ended))
+    at false is before = omega (arith, more, among _ (effect-ends set (deeds_of set h) e.kind) (rest_some (ends_of (deeds_of set h) c) _ is ended))

@@ -25,14 +25,13 @@ use Rattle.rpc_journal.specs.declared.waiting.Waiting.{Waiting}
 use Rattle.rpc_journal.specs.Calls.{calls, call_at, call_count, ends_of, has_end, is_cancel_of, is_cancelled, is_start_of, live_call, of_call}
 use Rattle.rpc_journal.specs.Effect.{Opening, Deed}
 use Rattle.rpc_journal.specs.Entries.{arrive_row, cancel_effect, each_from, effect_of, invoke_effect, is_live, is_live_on, row_by, wants_tick, with_call}
-use Rattle.rpc_journal.specs.History.{history, told}
+use Rattle.rpc_journal.specs.History.{history, deeds_of, deed_by}
 use Rattle.rpc_journal.specs.Lawful.{AllowedAll, IsLawful, call_named, is_unknown}
-use Rattle.rpc_journal.specs.Marks.{is_empty, is_okay, is_unary, streams_down, streams_up}
+use Rattle.rpc_journal.specs.Kinds.{is_empty, is_okay, is_unary, streams_down, streams_up}
 use Rattle.rpc_journal.specs.Queues.{drops_of, is_completed, puts_since, starts_since, waiting_of}
 use Rattle.rpc_journal.specs.Rows.{Row, channels_in, method_named, says_item}
 use Rattle.rpc_journal.specs.ServerTable.{known_row, method_row, unknown_row}
 use Rattle.rpc_journal.specs.ClientTable.{call_row, live_row, no_call_row}
-use Rattle.rpc_journal.specs.Touch.{deed_by}
 use Rattle.rpc_journal.proofs.Allowed.{allowed}
 use Rattle.rpc_journal.proofs.EachLemmas.{one_put}
 use Rattle.rpc_journal.proofs.EndLemmas.{AllLive, ended_known, live_is}
@@ -191,24 +190,24 @@ cut_waits : (set : Setting) (ds : List Deed) (seat c : ℕ) (o : Opening) → ca
 cut_waits set ds seat c o there = rw (there, eq-eqb c c refl) refl
 
 -- the call that an allowed Cancel names is there
-pub cut_known : (set : Setting) (h : List Entry) (e : Entry) (c : ℕ) → AllowedAll set (e ∷ h) → e.kind ≡ Cancel c → c < call_count (told set h)
+pub cut_known : (set : Setting) (h : List Entry) (e : Entry) (c : ℕ) → AllowedAll set (e ∷ h) → e.kind ≡ Cancel c → c < call_count (deeds_of set h)
 cut_known set h e c all kind =
-    leb-false _ _ (ap (λ k. is_unknown (call_count (told set h)) (call_named k)) (sym kind) ∙ (allowed set (told set h) e all.1).known)
+    leb-false _ _ (ap (λ k. is_unknown (call_count (deeds_of set h)) (call_named k)) (sym kind) ∙ (allowed set (deeds_of set h) e all.1).known)
 
 -- a cancelled call has an end
-pub cancelled_ends : (set : Setting) (h : List Entry) (c : ℕ) → AllowedAll set h → is_cancelled (told set h) c ≡ true → has_end (told set h) c ≡ true
+pub cancelled_ends : (set : Setting) (h : List Entry) (c : ℕ) → AllowedAll set h → is_cancelled (deeds_of set h) c ≡ true → has_end (deeds_of set h) c ≡ true
 cancelled_ends set [] c all cancelled = absurd (false≢true cancelled)
 cancelled_ends set (e ∷ h) c all cancelled = at (is_cancel_of c e.kind) refl (cancelled_ends set h c all.0)
   where
-    at : (b : Bool) → is_cancel_of c e.kind ≡ b → (is_cancelled (told set h) c ≡ true → has_end (told set h) c ≡ true) → has_end (told set (e ∷ h)) c ≡ true
+    at : (b : Bool) → is_cancel_of c e.kind ≡ b → (is_cancelled (deeds_of set h) c ≡ true → has_end (deeds_of set h) c ≡ true) → has_end (deeds_of set (e ∷ h)) c ≡ true
     at true now before =
         let kind : e.kind ≡ Cancel c = names_it c e.kind now in
-        let row = get_some (calls (told set h)) c (cut_known set h e c all kind) in
-        subst (λ k. has_end (deed_by e.seat k (effect_of set (told set h) k) ∷ told set h) c ≡ true) (sym kind)
-        (cut_ends set (told set h) e.seat c row.0 row.1)
+        let row = get_some (calls (deeds_of set h)) c (cut_known set h e c all kind) in
+        subst (λ k. has_end (deed_by e.seat k (effect_of set (deeds_of set h) k) ∷ deeds_of set h) c ≡ true) (sym kind)
+        (cut_ends set (deeds_of set h) e.seat c row.0 row.1)
     at false other before =
-        has_end-more (told set h) (deed_by e.seat e.kind (effect_of set (told set h) e.kind)) c
-        (before (ap (λ b. b || is_cancelled (told set h) c) (sym other) ∙ cancelled))
+        has_end-more (deeds_of set h) (deed_by e.seat e.kind (effect_of set (deeds_of set h) e.kind)) c
+        (before (ap (λ b. b || is_cancelled (deeds_of set h) c) (sym other) ∙ cancelled))
 
 -- no event waits where none did, and none is put
 still_none : (ds : List Deed) (d : Deed) (c : ℕ) → waiting_of ds c ≡ [] → of_call c d.does.puts ≡ [] → waiting_of (d ∷ ds) c ≡ []
@@ -222,17 +221,17 @@ still_none ds d c none put = at (drops_of d c) (is_start_of c d.entry.kind)
     at false false = rw put (ap (drop (starts_since ds c)) (append-nil (puts_since ds c)) ∙ none)
 
 -- no event waits for a cancelled call
-pub cancelled_waits_none : (set : Setting) (h : List Entry) (c : ℕ) → AllowedAll set h → is_cancelled (told set h) c ≡ true → waiting_of (told set h) c ≡ []
+pub cancelled_waits_none : (set : Setting) (h : List Entry) (c : ℕ) → AllowedAll set h → is_cancelled (deeds_of set h) c ≡ true → waiting_of (deeds_of set h) c ≡ []
 cancelled_waits_none set [] c all cancelled = absurd (false≢true cancelled)
 cancelled_waits_none set (e ∷ h) c all cancelled = at (is_cancel_of c e.kind) refl (cancelled_waits_none set h c all.0)
   where
-    at : (b : Bool) → is_cancel_of c e.kind ≡ b → (is_cancelled (told set h) c ≡ true → waiting_of (told set h) c ≡ []) → waiting_of (told set (e ∷ h)) c ≡ []
+    at : (b : Bool) → is_cancel_of c e.kind ≡ b → (is_cancelled (deeds_of set h) c ≡ true → waiting_of (deeds_of set h) c ≡ []) → waiting_of (deeds_of set (e ∷ h)) c ≡ []
     at true now before =
         let kind : e.kind ≡ Cancel c = names_it c e.kind now in
-        let row = get_some (calls (told set h)) c (cut_known set h e c all kind) in
-        subst (λ k. waiting_of (deed_by e.seat k (effect_of set (told set h) k) ∷ told set h) c ≡ []) (sym kind)
-        (cut_waits set (told set h) e.seat c row.0 row.1)
+        let row = get_some (calls (deeds_of set h)) c (cut_known set h e c all kind) in
+        subst (λ k. waiting_of (deed_by e.seat k (effect_of set (deeds_of set h) k) ∷ deeds_of set h) c ≡ []) (sym kind)
+        (cut_waits set (deeds_of set h) e.seat c row.0 row.1)
     at false other before =
-        let was : is_cancelled (told set h) c ≡ true = ap (λ b. b || is_cancelled (told set h) c) (sym other) ∙ cancelled in
-        still_none (told set h) (deed_by e.seat e.kind (effect_of set (told set h) e.kind)) c (before was)
-        (effect-none set (told set h) e.kind c (cancelled_ends set h c all.0 was) (ended_known set h c (cancelled_ends set h c all.0 was)))
+        let was : is_cancelled (deeds_of set h) c ≡ true = ap (λ b. b || is_cancelled (deeds_of set h) c) (sym other) ∙ cancelled in
+        still_none (deeds_of set h) (deed_by e.seat e.kind (effect_of set (deeds_of set h) e.kind)) c (before was)
+        (effect-none set (deeds_of set h) e.kind c (cancelled_ends set h c all.0 was) (ended_known set h c (cancelled_ends set h c all.0 was)))

@@ -29,8 +29,8 @@ use Rattle.rpc_journal.specs.Queues.{waiting_of, taken_event}
 use Rattle.rpc_journal.specs.Items.{flush_count, is_ready, items_sent}
 use Rattle.rpc_journal.specs.Quiet.{is_quiet, is_settled}
 use Rattle.rpc_journal.specs.States.{state_of}
-use Rattle.rpc_journal.specs.Rows.{channels_in, no_effect, says_item, status_packet, sends}
-use Rattle.rpc_journal.specs.Entries.{arrive_row, keeps, leaves}
+use Rattle.rpc_journal.specs.Rows.{channels_in, no_effect, says_item, status_packet, packet_item}
+use Rattle.rpc_journal.specs.Entries.{arrive_row, store_item, leave_item}
 use Rattle.rpc_journal.specs.History.{history, entry_by}
 use Rattle.rpc_journal.specs.Lawful.{broken, IsLawful}
 use Rattle.rpc_journal.specs.Choice.{oldest_place}
@@ -192,7 +192,7 @@ handler_comes_back : is_spent (history server cancelled) (history server quieted
 unfolding arrive_row
 handler_comes_back = refl
 
-finish_only_leaves : items_sent (history server quieted) ≡ sends 0 (status_packet ServerError chat status.Cancelled) ∷ leaves 0 ∷ []
+finish_only_leaves : items_sent (history server quieted) ≡ packet_item 0 (status_packet ServerError chat status.Cancelled) ∷ leave_item 0 ∷ []
 unfolding arrive_row
 finish_only_leaves = refl
 
@@ -300,7 +300,7 @@ failed_echo_hears_its_end = refl
 
 -- a message for a client's Echo ends it, and the server is told
 
-stream_ends_echo : arrive_row client (history client invoked_echo) (packet ServerStream echo []) ≡ record { does = record no_effect { ends = (0, status.InvalidArgument) ∷ []; puts = (0, event.Ended status.InvalidArgument) ∷ []; says = sends 0 (status_packet ClientError echo status.InvalidArgument) ∷ [] }; answer = Closed 0 }
+stream_ends_echo : arrive_row client (history client invoked_echo) (packet ServerStream echo []) ≡ record { does = record no_effect { ends = (0, status.InvalidArgument) ∷ []; puts = (0, event.Ended status.InvalidArgument) ∷ []; says = packet_item 0 (status_packet ClientError echo status.InvalidArgument) ∷ [] }; answer = Closed 0 }
 unfolding arrive_row
 stream_ends_echo = refl
 
@@ -364,14 +364,14 @@ halted_once = refl
 abbrev greeting : Answer
 greeting = record { items = SaysMessage (1 ∷ []) ∷ SavesAt 3 ∷ []; end = Some (record { status = status.Okay; payload = 2 ∷ [] }) }
 
-answered_in_order : items_sent (history server (running ++ entry_by 2 (Finish 0 greeting) ∷ [])) ≡ sends 0 (packet ServerStream chat (1 ∷ [])) ∷ keeps 0 (SavesAt 3) ∷ sends 0 (packet Response chat (2 ∷ [])) ∷ []
+answered_in_order : items_sent (history server (running ++ entry_by 2 (Finish 0 greeting) ∷ [])) ≡ packet_item 0 (packet ServerStream chat (1 ∷ [])) ∷ store_item 0 (SavesAt 3) ∷ packet_item 0 (packet Response chat (2 ∷ [])) ∷ []
 unfolding arrive_row
 answered_in_order = refl
 
 abbrev ended_runs : List Entry
 ended_runs = requested_again ++ entry_by 2 (Start 0) ∷ entry_by 2 (Finish 0 greeting) ∷ []
 
-ended_says_nothing : items_sent (history server ended_runs) ≡ keeps 0 (SavesAt 3) ∷ []
+ended_says_nothing : items_sent (history server ended_runs) ≡ store_item 0 (SavesAt 3) ∷ []
 unfolding arrive_row
 ended_says_nothing = refl
 
@@ -404,7 +404,7 @@ echoed_is_settled : is_settled (history server echoed) ≡ true
 unfolding arrive_row
 echoed_is_settled = refl
 
-echoed_responds : items_sent (history server echoed) ≡ sends 0 (record { ptype = Response; name = echo; payload = 97 ∷ []; status = 0 }) ∷ []
+echoed_responds : items_sent (history server echoed) ≡ packet_item 0 (record { ptype = Response; name = echo; payload = 97 ∷ []; status = 0 }) ∷ []
 unfolding arrive_row
 echoed_responds = refl
 
@@ -428,7 +428,7 @@ unfolding arrive_row
 other_lives = refl
 
 peer_is_told : items_sent (history server closed_one)
-    ≡ sends 0 (status_packet ServerError chat status.Aborted) ∷ sends 1 (status_packet ServerError sum status.Aborted) ∷ []
+    ≡ packet_item 0 (status_packet ServerError chat status.Aborted) ∷ packet_item 1 (status_packet ServerError sum status.Aborted) ∷ []
 unfolding arrive_row
 peer_is_told = refl
 
@@ -457,8 +457,8 @@ answered_unavailable = refl
 abbrev client_closed : List Entry
 client_closed = entry_by 3 (Invoke (packet Request chat []) empty_memo) ∷ entry_by 3 (Close 1) ∷ []
 
-client_tells : items_sent (history client client_closed) ≡ sends 0 (packet Request chat []) ∷ sends 0 (status_packet ClientError chat status.Aborted) ∷ []
-client_tells = refl
+client_agrees : items_sent (history client client_closed) ≡ packet_item 0 (packet Request chat []) ∷ packet_item 0 (status_packet ClientError chat status.Aborted) ∷ []
+client_agrees = refl
 
 no_channel : invoke_refusal client client_closed sum ≡ Some invoke.NoChannel
 no_channel = refl

@@ -13,7 +13,7 @@ use Rattle.rpc_journal.specs.declared.setting.Setting.{Setting}
 use Rattle.rpc_journal.specs.Calls.{calls, call_count}
 use Rattle.rpc_journal.specs.Conditions.{IsCall}
 use Rattle.rpc_journal.specs.Entries.{effect_of}
-use Rattle.rpc_journal.specs.History.{told, history}
+use Rattle.rpc_journal.specs.History.{deeds_of, history}
 use Rattle.rpc_journal.specs.Items.{arrival_of, arrivals, is_flush, flushes, flush_count, items_sent, items_flushed}
 use Rattle.rpc_journal.specs.Lawful.{AllowedAll, IsLawful, is_wrong_seat}
 use Rattle.rpc_journal.specs.Laws.{seat_of}
@@ -21,29 +21,29 @@ use Rattle.rpc_journal.proofs.Allowed.{allowed}
 use Rattle.rpc_journal.proofs.Push.{all-unreverse}
 
 -- the newer entries add to the items
-sent_from : (set : Setting) (new old : List Entry) → IsPrefix (items_sent (told set old)) (items_sent (told set (new ++ old)))
+sent_from : (set : Setting) (new old : List Entry) → IsPrefix (items_sent (deeds_of set old)) (items_sent (deeds_of set (new ++ old)))
 sent_from set [] old = ([], append-nil _)
 sent_from set (e ∷ new) old =
     let before = sent_from set new old in
-    let says : List Item = (effect_of set (told set (new ++ old)) e.kind).says in
-    (before.0 ++ says, sym (append_assoc (items_sent (told set old)) before.0 says) ∙ ap (λ items. items ++ says) before.1)
+    let says : List Item = (effect_of set (deeds_of set (new ++ old)) e.kind).says in
+    (before.0 ++ says, sym (append_assoc (items_sent (deeds_of set old)) before.0 says) ∙ ap (λ items. items ++ says) before.1)
 
 if_more : (b : Bool) (n : ℕ) → n ≤ (if b then n + 1 else n)
 if_more true n = omega arith
 if_more false n = omega arith
 
-flushes_from : (set : Setting) (new old : List Entry) → flush_count (told set old) ≤ flush_count (told set (new ++ old))
+flushes_from : (set : Setting) (new old : List Entry) → flush_count (deeds_of set old) ≤ flush_count (deeds_of set (new ++ old))
 flushes_from set [] old = omega arith
-flushes_from set (e ∷ new) old = omega (arith, flushes_from set new old, if_more (is_flush e.kind) (flush_count (told set (new ++ old))))
+flushes_from set (e ∷ new) old = omega (arith, flushes_from set new old, if_more (is_flush e.kind) (flush_count (deeds_of set (new ++ old))))
 
-calls_from : (set : Setting) (new old : List Entry) → call_count (told set old) ≤ call_count (told set (new ++ old))
+calls_from : (set : Setting) (new old : List Entry) → call_count (deeds_of set old) ≤ call_count (deeds_of set (new ++ old))
 calls_from set [] old = omega arith
 calls_from set (e ∷ new) old =
-    omega (arith, calls_from set new old, length-append (calls (told set (new ++ old))) (option_to_list (effect_of set (told set (new ++ old)) e.kind).opens))
+    omega (arith, calls_from set new old, length-append (calls (deeds_of set (new ++ old))) (option_to_list (effect_of set (deeds_of set (new ++ old)) e.kind).opens))
 
 pub items_begin : (set : Setting) (h more : List Entry) → IsPrefix (items_sent (history set h)) (items_sent (history set (h ++ more)))
 items_begin set h more =
-    subst (λ es. IsPrefix (items_sent (history set h)) (items_sent (told set es))) (sym (reverse-append h more)) (sent_from set (reverse more) (reverse h))
+    subst (λ es. IsPrefix (items_sent (history set h)) (items_sent (deeds_of set es))) (sym (reverse-append h more)) (sent_from set (reverse more) (reverse h))
 
 -- the first m of a list begin the first n of a longer one, where m is at most n
 take_begins : {A : Type 0} (m n : ℕ) (xs rest : List A) → m ≤ n → IsPrefix (take m xs) (take n (xs ++ rest))
@@ -57,7 +57,7 @@ pub flushed_begin : (set : Setting) (h more : List Entry) → IsPrefix (items_fl
 flushed_begin set h more =
     let sent = items_begin set h more in
     let fewer : flush_count (history set h) ≤ flush_count (history set (h ++ more)) =
-    subst (λ es. flush_count (history set h) ≤ flush_count (told set es)) (sym (reverse-append h more)) (flushes_from set (reverse more) (reverse h)) in
+    subst (λ es. flush_count (history set h) ≤ flush_count (deeds_of set es)) (sym (reverse-append h more)) (flushes_from set (reverse more) (reverse h)) in
     subst (λ items. IsPrefix (items_flushed (history set h)) (take (flush_count (history set (h ++ more))) items)) sent.1
     (take_begins _ _ (items_sent (history set h)) sent.0 fewer)
 
@@ -65,13 +65,13 @@ flushed_begin set h more =
 pub call_stays : (set : Setting) (h more : List Entry) (c : ℕ) → IsCall set h c → IsCall set (h ++ more) c
 call_stays set h more c is =
     let fewer : call_count (history set h) ≤ call_count (history set (h ++ more)) =
-    subst (λ es. call_count (history set h) ≤ call_count (told set es)) (sym (reverse-append h more)) (calls_from set (reverse more) (reverse h)) in
+    subst (λ es. call_count (history set h) ≤ call_count (deeds_of set es)) (sym (reverse-append h more)) (calls_from set (reverse more) (reverse h)) in
     record { below = omega (arith, is.below, fewer) }
 
 -- each entry is of a seat that may make it
 pub right_seats : (set : Setting) (es : List Entry) → AllowedAll set es → AllByRecursion (λ e. is_wrong_seat e.seat e.kind ≡ false) es
 right_seats set [] all = tt
-right_seats set (e ∷ es) all = ((allowed set (told set es) e all.1).seat, right_seats set es all.0)
+right_seats set (e ∷ es) all = ((allowed set (deeds_of set es) e all.1).seat, right_seats set es all.0)
 
 arrival_none : (seat : ℕ) (kind : EntryKind) → (seat == 0) ≡ false → is_wrong_seat seat kind ≡ false → arrival_of kind ≡ []
 arrival_none seat (Arrive p) other right = absurd (true≢false (sym (ap not other) ∙ right))
@@ -105,7 +105,7 @@ arrivals_of_seat set h lawful = arrivals-made_by h (all-unreverse _ h (right_sea
 pub flushes_of_seat : (set : Setting) (h : List Entry) → IsLawful set h → flushes h ≡ flushes (made_by seat_of 1 h)
 flushes_of_seat set h lawful = flushes-made_by h (all-unreverse _ h (right_seats set (reverse h) lawful.allowed))
 
-flush_count-told : (set : Setting) (es : List Entry) → flush_count (told set es) ≡ flushes es
+flush_count-told : (set : Setting) (es : List Entry) → flush_count (deeds_of set es) ≡ flushes es
 flush_count-told set [] = refl
 flush_count-told set (e ∷ es) = ap (λ n. if is_flush e.kind then n + 1 else n) (flush_count-told set es)
 

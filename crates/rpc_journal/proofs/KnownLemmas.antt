@@ -25,13 +25,13 @@ use Rattle.rpc_journal.specs.declared.item.Item.{Item}
 use Rattle.rpc_journal.specs.declared.setting.Setting.{Setting}
 use Rattle.rpc_journal.specs.Calls.{of_call, calls, call_count, call_at, live_call, is_cancelled, is_start_of, is_finish_of, runner_of}
 use Rattle.rpc_journal.specs.Effect.{Effect, Opening, Deed}
-use Rattle.rpc_journal.specs.Entries.{row_by, arrive_row, leaves, effect_of, invoke_effect, finish_effect, answered, end_effect, is_heard, cancel_effect, each_from, with_call}
-use Rattle.rpc_journal.specs.History.{told}
+use Rattle.rpc_journal.specs.Entries.{row_by, arrive_row, leave_item, effect_of, invoke_effect, finish_effect, answered, end_effect, is_heard, cancel_effect, each_from, with_call}
+use Rattle.rpc_journal.specs.History.{deeds_of}
 use Rattle.rpc_journal.specs.Items.{is_done, is_ready}
 use Rattle.rpc_journal.specs.Lawful.{AllowedAll, is_unknown, call_named}
-use Rattle.rpc_journal.specs.Marks.{is_empty, is_okay, is_unary, streams_up, streams_down}
+use Rattle.rpc_journal.specs.Kinds.{is_empty, is_okay, is_unary, streams_up, streams_down}
 use Rattle.rpc_journal.specs.Queues.{drops_of, puts_since, starts_since, waiting_of, is_completed}
-use Rattle.rpc_journal.specs.Rows.{Row, channels_in, method_named, no_effect, says_item, status_packet, sends}
+use Rattle.rpc_journal.specs.Rows.{Row, channels_in, method_named, no_effect, says_item, status_packet, packet_item}
 use Rattle.rpc_journal.specs.ServerTable.{method_row, known_row, unknown_row}
 use Rattle.rpc_journal.specs.ClientTable.{call_row, live_row, no_call_row}
 use Rattle.rpc_journal.proofs.Allowed.{allowed}
@@ -137,7 +137,7 @@ end_effect-puts Client c name kind done None = refl
 end_effect-puts Client c name kind done (Some end) = at (is_okay end.status) (is_unary kind || done)
   where
     at : (okay closed : Bool)
-        → (if okay then (if closed then no_effect else says_item (sends c (status_packet Completion name Okay))) else record no_effect { ends = (c, end.status) ∷ []; drops = c ∷ []; says = sends c (status_packet ClientError name end.status) ∷ [] }).puts ≡ []
+        → (if okay then (if closed then no_effect else says_item (packet_item c (status_packet Completion name Okay))) else record no_effect { ends = (c, end.status) ∷ []; drops = c ∷ []; says = packet_item c (status_packet ClientError name end.status) ∷ [] }).puts ≡ []
     at true true = refl
     at true false = refl
     at false closed = refl
@@ -146,7 +146,7 @@ pub finish-puts : (set : Setting) (ds : List Deed) (c : ℕ) (a : Answer) (o : O
 finish-puts set ds c a None = refl
 finish-puts set ds c a (Some o) = at (is_cancelled ds c) (is_heard ds c)
   where
-    at : (b heard : Bool) → (if b then says_item (leaves c) else answered set.role c o heard (is_done ds c) a).puts ≡ []
+    at : (b heard : Bool) → (if b then says_item (leave_item c) else answered set.role c o heard (is_done ds c) a).puts ≡ []
     at true heard = refl
     at false true = end_effect-puts set.role c o.name o.method.kind (is_done ds c) a.end
     at false false = refl
@@ -181,46 +181,46 @@ none_beyond n c (put ∷ puts) below beyond =
     rw (ne_eqb put.0 c (λ same. omega (arith, same, below.0, beyond))) (none_beyond n c puts below.1 beyond)
 
 -- no event was put to a call that isn't there
-pub unput : (set : Setting) (h : List Entry) (c : ℕ) → call_count (told set h) ≤ c → puts_since (told set h) c ≡ []
+pub unput : (set : Setting) (h : List Entry) (c : ℕ) → call_count (deeds_of set h) ≤ c → puts_since (deeds_of set h) c ≡ []
 unput set [] c beyond = refl
 unput set (e ∷ h) c beyond =
-    let more = length-append (calls (told set h)) (option_to_list (effect_of set (told set h) e.kind).opens) in
-    let now : of_call c (effect_of set (told set h) e.kind).puts ≡ [] =
-    none_beyond _ c _ (effect-puts set (told set h) e.kind) (omega (arith, more, beyond)) in
-    at (drops_of (record { entry = e; does = effect_of set (told set h) e.kind }) c) (unput set h c (omega (arith, more, beyond))) now
+    let more = length-append (calls (deeds_of set h)) (option_to_list (effect_of set (deeds_of set h) e.kind).opens) in
+    let now : of_call c (effect_of set (deeds_of set h) e.kind).puts ≡ [] =
+    none_beyond _ c _ (effect-puts set (deeds_of set h) e.kind) (omega (arith, more, beyond)) in
+    at (drops_of (record { entry = e; does = effect_of set (deeds_of set h) e.kind }) c) (unput set h c (omega (arith, more, beyond))) now
   where
-    at : (b : Bool) → puts_since (told set h) c ≡ [] → of_call c (effect_of set (told set h) e.kind).puts ≡ []
-        → (if b then [] else puts_since (told set h) c) ++ map (λ event. record { at = length (told set h); event = event }) (of_call c (effect_of set (told set h) e.kind).puts) ≡ []
+    at : (b : Bool) → puts_since (deeds_of set h) c ≡ [] → of_call c (effect_of set (deeds_of set h) e.kind).puts ≡ []
+        → (if b then [] else puts_since (deeds_of set h) c) ++ map (λ event. record { at = length (deeds_of set h); event = event }) (of_call c (effect_of set (deeds_of set h) e.kind).puts) ≡ []
     at true before now = rw now refl
     at false before now = rw (before, now) refl
 
 -- a ready call is there
-pub ready_known : (set : Setting) (h : List Entry) (c : ℕ) → is_ready (told set h) c ≡ true → c < call_count (told set h)
+pub ready_known : (set : Setting) (h : List Entry) (c : ℕ) → is_ready (deeds_of set h) c ≡ true → c < call_count (deeds_of set h)
 ready_known set h c ready = lt_of_not-le (λ beyond. at (waits beyond))
   where
-    some : is_empty (waiting_of (told set h) c) ≡ false
+    some : is_empty (waiting_of (deeds_of set h) c) ≡ false
     some = not-true _ (and_parts _ _ (and_parts _ _ (and_parts _ _ (and_parts _ _ ready).0).0).0).0
 
-    waits : call_count (told set h) ≤ c → waiting_of (told set h) c ≡ []
-    waits beyond = ap (drop (starts_since (told set h) c)) (unput set h c beyond) ∙ drop-nil (starts_since (told set h) c)
+    waits : call_count (deeds_of set h) ≤ c → waiting_of (deeds_of set h) c ≡ []
+    waits beyond = ap (drop (starts_since (deeds_of set h) c)) (unput set h c beyond) ∙ drop-nil (starts_since (deeds_of set h) c)
 
-    at : waiting_of (told set h) c ≡ [] → ⊥
+    at : waiting_of (deeds_of set h) c ≡ [] → ⊥
     at none = true≢false (sym (ap is_empty none) ∙ some)
 
 -- a call that runs is there
-pub run_known : (set : Setting) (h : List Entry) (c seat : ℕ) → AllowedAll set h → runner_of (told set h) c ≡ Some seat → c < call_count (told set h)
+pub run_known : (set : Setting) (h : List Entry) (c seat : ℕ) → AllowedAll set h → runner_of (deeds_of set h) c ≡ Some seat → c < call_count (deeds_of set h)
 run_known set [] c seat all runs = absurd cc
 run_known set (e ∷ h) c seat all runs =
-    let more = length-append (calls (told set h)) (option_to_list (effect_of set (told set h) e.kind).opens) in
+    let more = length-append (calls (deeds_of set h)) (option_to_list (effect_of set (deeds_of set h) e.kind).opens) in
     omega (arith, more, at (is_start_of c e.kind) refl (is_finish_of c e.kind) runs (run_known set h c seat all.0))
   where
-    starts : (kind : EntryKind) → is_start_of c kind ≡ true → is_unknown (call_count (told set h)) (call_named kind) ≡ false → c < call_count (told set h)
-    starts (Start x) is known = subst (λ k. k < call_count (told set h)) (eqb-true x c is) (leb-false _ _ known)
+    starts : (kind : EntryKind) → is_start_of c kind ≡ true → is_unknown (call_count (deeds_of set h)) (call_named kind) ≡ false → c < call_count (deeds_of set h)
+    starts (Start x) is known = subst (λ k. k < call_count (deeds_of set h)) (eqb-true x c is) (leb-false _ _ known)
     starts _ is known = absurd (false≢true is)
 
     at : (b : Bool) → is_start_of c e.kind ≡ b → (f : Bool)
-        → (if b then Some e.seat else if f then None else runner_of (told set h) c) ≡ Some seat
-        → (runner_of (told set h) c ≡ Some seat → c < call_count (told set h)) → c < call_count (told set h)
-    at true is f runs before = starts e.kind is (allowed set (told set h) e all.1).known
+        → (if b then Some e.seat else if f then None else runner_of (deeds_of set h) c) ≡ Some seat
+        → (runner_of (deeds_of set h) c ≡ Some seat → c < call_count (deeds_of set h)) → c < call_count (deeds_of set h)
+    at true is f runs before = starts e.kind is (allowed set (deeds_of set h) e all.1).known
     at false is true runs before = absurd cc
     at false is false runs before = before runs

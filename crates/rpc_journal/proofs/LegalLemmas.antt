@@ -20,10 +20,10 @@ use Rattle.rpc_journal.specs.Calls.{call_at, ends_of, has_end, is_cancelled, liv
 use Rattle.rpc_journal.specs.ChangeLaws.{KeepsLegal}
 use Rattle.rpc_journal.specs.Changes.{Accepts, StartDid, StartOfDid, FlushDid, request}
 use Rattle.rpc_journal.specs.Conditions.{CanComplete, CanHalt, CanInvoke, CanSay, IsCall, IsHeard, IsInputOpen}
-use Rattle.rpc_journal.specs.History.{history, told, entry_by, adding}
+use Rattle.rpc_journal.specs.History.{history, deeds_of, entry_by, adding}
 use Rattle.rpc_journal.specs.Items.{flush_count, halt_reason, is_done, is_for, is_ready, items_sent}
 use Rattle.rpc_journal.specs.Lawful.{IsAnsweredByRule, IsLegal, full_queue, has_stream, is_settled_reason, is_unary_call}
-use Rattle.rpc_journal.specs.Marks.{is_empty, is_server, or_else}
+use Rattle.rpc_journal.specs.Kinds.{is_empty, is_server, or_else}
 use Rattle.rpc_journal.specs.Rows.{channels_in, method_named}
 use Rattle.rpc_channel.specs.Rising.{has_id}
 use Rattle.rpc_journal.specs.Refusals.{refused_where, arrive_refusal, invoke_refusal, say_refusal, done_refusal, replace_refusal, close_refusal}

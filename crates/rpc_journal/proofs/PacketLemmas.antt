@@ -28,12 +28,12 @@ use Rattle.rpc_journal.specs.Effect.{Opening, Deed}
 use Rattle.rpc_journal.specs.Calls.{calls, call_count, call_at, has_end, ends_of, live_call, is_cancelled, runner_of, of_call}
 use Rattle.rpc_journal.specs.Queues.{is_completed}
 use Rattle.rpc_journal.specs.Items.{items_sent, is_done}
-use Rattle.rpc_journal.specs.Marks.{is_empty, is_okay, is_unary, streams_up, streams_down}
-use Rattle.rpc_journal.specs.Rows.{Row, channels_in, method_named, no_effect, says_item, status_packet, sends}
+use Rattle.rpc_journal.specs.Kinds.{is_empty, is_okay, is_unary, streams_up, streams_down}
+use Rattle.rpc_journal.specs.Rows.{Row, channels_in, method_named, no_effect, says_item, status_packet, packet_item}
 use Rattle.rpc_journal.specs.ServerTable.{method_row, known_row, unknown_row}
 use Rattle.rpc_journal.specs.ClientTable.{call_row, live_row, no_call_row}
-use Rattle.rpc_journal.specs.Entries.{row_by, arrive_row, leaves, effect_of, invoke_effect, out_item, answer_item, messages_go, answered, end_effect, finish_effect, is_heard, cancel_effect, error_type, is_live_on, made_from, with_call}
-use Rattle.rpc_journal.specs.History.{told, history}
+use Rattle.rpc_journal.specs.Entries.{row_by, arrive_row, leave_item, effect_of, invoke_effect, out_item, answer_item, messages_go, answered, end_effect, finish_effect, is_heard, cancel_effect, error_type, is_live_on, made_from, with_call}
+use Rattle.rpc_journal.specs.History.{deeds_of, history}
 use Rattle.rpc_journal.specs.Lawful.{AllowedAll, IsLawful, is_refused, is_refused_say}
 use Rattle.rpc_journal.specs.Laws.{is_packet_for, NoPacketFor, SaysNoMoreOf}
 use Rattle.rpc_journal.proofs.Allowed.{allowed}
@@ -175,7 +175,7 @@ end_effect-packets Client c k name kind done None other = tt
 end_effect-packets Client c k name kind done (Some end) other = at (is_okay end.status) (is_unary kind || done)
   where
     at : (okay closed : Bool)
-        → NoPacketFor c (if okay then (if closed then no_effect else says_item (sends k (status_packet Completion name Okay))) else record no_effect { ends = (k, end.status) ∷ []; drops = k ∷ []; says = sends k (status_packet ClientError name end.status) ∷ [] }).says
+        → NoPacketFor c (if okay then (if closed then no_effect else says_item (packet_item k (status_packet Completion name Okay))) else record no_effect { ends = (k, end.status) ∷ []; drops = k ∷ []; says = packet_item k (status_packet ClientError name end.status) ∷ [] }).says
     at true true = tt
     at true false = (other_packet c k other, tt)
     at false closed = (other_packet c k other, tt)
@@ -196,7 +196,7 @@ finish-packets : (set : Setting) (ds : List Deed) (c k : ℕ) (a : Answer) (o : 
 finish-packets set ds c k a None ended = tt
 finish-packets set ds c k a (Some o) ended = at (is_cancelled ds k)
   where
-    at : (b : Bool) → NoPacketFor c (if b then says_item (leaves k) else answered set.role k o (is_heard ds k) (is_done ds k) a).says
+    at : (b : Bool) → NoPacketFor c (if b then says_item (leave_item k) else answered set.role k o (is_heard ds k) (is_done ds k) a).says
     at true = (no_packet c k, tt)
     at false = answered-packets set.role c k o (is_heard ds k) (is_done ds k) a (λ heard. apart ds c k ended (heard_live ds k heard))
 
@@ -204,11 +204,11 @@ cancel-packets : (set : Setting) (ds : List Deed) (c k : ℕ) (o : Option Openin
 cancel-packets set ds c k None ended = tt
 cancel-packets set ds c k (Some o) ended = packets-append c _ _ (told (has_end ds k) refl) (left (is_some (runner_of ds k)))
   where
-    told : (b : Bool) → has_end ds k ≡ b → NoPacketFor c (if b then [] else sends k (status_packet (error_type set.role) o.name Cancelled) ∷ [])
+    told : (b : Bool) → has_end ds k ≡ b → NoPacketFor c (if b then [] else packet_item k (status_packet (error_type set.role) o.name Cancelled) ∷ [])
     told true is = tt
     told false is = (other_packet c k (apart ds c k ended is), tt)
 
-    left : (b : Bool) → NoPacketFor c (if b then [] else leaves k ∷ [])
+    left : (b : Bool) → NoPacketFor c (if b then [] else leave_item k ∷ [])
     left true = tt
     left false = (no_packet c k, tt)
 
@@ -218,13 +218,13 @@ done-packets set ds c k ended accepted = apart ds c k ended (neither _ _ (neithe
 -- of calls that pass a test, which only live ones pass
 each-packets : (role : Role) (ds : List Deed) (c n : ℕ) (test : ℕ → Opening → Bool) (os : List Opening) → has_end ds c ≡ true
     → ((k : ℕ) (o : Opening) → test k o ≡ true → has_end ds k ≡ false)
-    → NoPacketFor c (made_from n test (λ k o. sends k (status_packet (error_type role) o.name Aborted)) os)
+    → NoPacketFor c (made_from n test (λ k o. packet_item k (status_packet (error_type role) o.name Aborted)) os)
 each-packets role ds c n test [] ended live = tt
 each-packets role ds c n test (o ∷ os) ended live = at (test n o) refl (each-packets role ds c (n + 1) test os ended live)
   where
-    at : (b : Bool) → test n o ≡ b → NoPacketFor c (made_from (n + 1) test (λ k x. sends k (status_packet (error_type role) x.name Aborted)) os)
-        → NoPacketFor c (if b then sends n (status_packet (error_type role) o.name Aborted) ∷ made_from (n + 1) test (λ k x. sends k (status_packet (error_type role) x.name Aborted)) os
-        else made_from (n + 1) test (λ k x. sends k (status_packet (error_type role) x.name Aborted)) os)
+    at : (b : Bool) → test n o ≡ b → NoPacketFor c (made_from (n + 1) test (λ k x. packet_item k (status_packet (error_type role) x.name Aborted)) os)
+        → NoPacketFor c (if b then packet_item n (status_packet (error_type role) o.name Aborted) ∷ made_from (n + 1) test (λ k x. packet_item k (status_packet (error_type role) x.name Aborted)) os
+        else made_from (n + 1) test (λ k x. packet_item k (status_packet (error_type role) x.name Aborted)) os)
     at true is rest = (other_packet c n (apart ds c n ended (live n o is)), rest)
     at false is rest = rest
 
@@ -255,29 +255,29 @@ has_end-more ds d c ended = at (ends_of ds c) ended
     at [] some = absurd (false≢true some)
     at (x ∷ xs) some = refl
 
-pub has_end-older : (set : Setting) (new old : List Entry) (c : ℕ) → has_end (told set old) c ≡ true → has_end (told set (new ++ old)) c ≡ true
+pub has_end-older : (set : Setting) (new old : List Entry) (c : ℕ) → has_end (deeds_of set old) c ≡ true → has_end (deeds_of set (new ++ old)) c ≡ true
 has_end-older set [] old c ended = ended
 has_end-older set (e ∷ new) old c ended =
-    has_end-more (told set (new ++ old)) (record { entry = e; does = effect_of set (told set (new ++ old)) e.kind }) c (has_end-older set new old c ended)
+    has_end-more (deeds_of set (new ++ old)) (record { entry = e; does = effect_of set (deeds_of set (new ++ old)) e.kind }) c (has_end-older set new old c ended)
 
 -- of entries that stand the newest first: the newer ones add no packet of a call that has an end before them
-pub no_more_packets : (set : Setting) (new old : List Entry) (c : ℕ) → AllowedAll set (new ++ old) → has_end (told set old) c ≡ true
-    → SaysNoMoreOf c (items_sent (told set old)) (items_sent (told set (new ++ old)))
+pub no_more_packets : (set : Setting) (new old : List Entry) (c : ℕ) → AllowedAll set (new ++ old) → has_end (deeds_of set old) c ≡ true
+    → SaysNoMoreOf c (items_sent (deeds_of set old)) (items_sent (deeds_of set (new ++ old)))
 no_more_packets set [] old c all ended = record { added = []; later_is = sym (append-nil _); no_packet = tt }
 no_more_packets set (e ∷ new) old c all ended =
     let before = no_more_packets set new old c all.0 ended in
     let still = has_end-older set new old c ended in
-    let fits = allowed set (told set (new ++ old)) e all.1 in
-    let says : List Item = (effect_of set (told set (new ++ old)) e.kind).says in
+    let fits = allowed set (deeds_of set (new ++ old)) e all.1 in
+    let says : List Item = (effect_of set (deeds_of set (new ++ old)) e.kind).says in
     record {
       added = before.added ++ says;
-      later_is = ap (λ items. items ++ says) before.later_is ∙ append_assoc (items_sent (told set old)) before.added says;
+      later_is = ap (λ items. items ++ says) before.later_is ∙ append_assoc (items_sent (deeds_of set old)) before.added says;
       no_packet = packets-append c _ _ before.no_packet
-          (effect-packets set (told set (new ++ old)) e.kind c still (ended_known set (new ++ old) c still) fits.accepted);
+          (effect-packets set (deeds_of set (new ++ old)) e.kind c still (ended_known set (new ++ old) c still) fits.accepted);
     }
 
 pub no_packet_after_end : (set : Setting) (h more : List Entry) (c : ℕ) → IsLawful set (h ++ more) → has_end (history set h) c ≡ true
     → SaysNoMoreOf c (items_sent (history set h)) (items_sent (history set (h ++ more)))
 no_packet_after_end set h more c lawful ended =
-    subst (λ es. SaysNoMoreOf c (items_sent (history set h)) (items_sent (told set es))) (sym (reverse-append h more))
+    subst (λ es. SaysNoMoreOf c (items_sent (history set h)) (items_sent (deeds_of set es))) (sym (reverse-append h more))
     (no_more_packets set (reverse more) (reverse h) c (allowed-parts set h more lawful) ended)

@@ -12,6 +12,9 @@ below_or_not (suc n) (suc m) = at (below_or_not n m)
     at (inr h) = inr (omega (arith, h))
 
 module _ {A : Type 0} where
+  pub some_same : (x y : A) → Some x ≡ Some y → x ≡ y
+  some_same x y is = cc
+
   pub get_front : (xs ys : List A) (k : ℕ) → k < length xs → slice_get (xs ++ ys) k ≡ slice_get xs k
   get_front [] ys k within = absurd (omega arith)
   get_front (x ∷ xs) ys zero within = refl

@@ -6,12 +6,12 @@ use mathlib.Core.List.{IsPrefix}
 use Rattle.rpc_handlers.specs.HandlerRule.{HandlerRule}
 use Rattle.rpc_journal.specs.declared.entry.Entry.{Entry}
 use Rattle.rpc_journal.specs.declared.setting.Setting.{Setting}
-use Rattle.rpc_journal.specs.History.{told, tell, history}
+use Rattle.rpc_journal.specs.History.{deeds_of, deeds_with, history}
 use Rattle.rpc_journal.specs.Lawful.{broken, AllowedAll, AnsweredAll, IsAnsweredByRule, IsLawful, IsLegal}
 
 -- one more entry
-pub history-push : (set : Setting) (h : List Entry) (e : Entry) → history set (h ++ e ∷ []) ≡ tell set (history set h) e
-history-push set h e = ap (told set) (reverse-append h (e ∷ []))
+pub history-push : (set : Setting) (h : List Entry) (e : Entry) → history set (h ++ e ∷ []) ≡ deeds_with set (history set h) e
+history-push set h e = ap (deeds_of set) (reverse-append h (e ∷ []))
 
 pub lawful-push : (set : Setting) (h : List Entry) (e : Entry)
     → IsLawful set h → broken set (history set h) e ≡ None → IsLawful set (h ++ e ∷ [])

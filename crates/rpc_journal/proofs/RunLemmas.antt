@@ -16,7 +16,7 @@ use Rattle.rpc_journal.specs.Queues.{taken_event}
 use Rattle.rpc_journal.specs.Items.{is_for, is_ready}
 use Rattle.rpc_journal.specs.Quiet.{is_quiet}
 use Rattle.rpc_journal.specs.States.{state_before_run}
-use Rattle.rpc_journal.specs.History.{told, history}
+use Rattle.rpc_journal.specs.History.{deeds_of, history}
 use Rattle.rpc_journal.specs.Lawful.{AllowedAll, IsLawful, starts_unready, finishes_unrun}
 use Rattle.rpc_journal.specs.Laws.{seat_of, HasNoRunOf, StaysQuiet}
 use Rattle.rpc_journal.specs.Runs.{Run, IsRunning}
@@ -53,15 +53,15 @@ idle_unrun seat None idle runs = false≢true runs
 idle_unrun seat (Some s) idle runs = false≢true idle
 
 -- a quiet call stays quiet, and its runs neither begin nor end
-pub quiet_from : (set : Setting) (new old : List Entry) (c : ℕ) → AllowedAll set (new ++ old) → is_quiet (told set old) c ≡ true
-    → (is_quiet (told set (new ++ old)) c ≡ true) × HasNoRunOf c new
+pub quiet_from : (set : Setting) (new old : List Entry) (c : ℕ) → AllowedAll set (new ++ old) → is_quiet (deeds_of set old) c ≡ true
+    → (is_quiet (deeds_of set (new ++ old)) c ≡ true) × HasNoRunOf c new
 quiet_from set [] old c all quiet = (quiet, tt)
 quiet_from set (e ∷ new) old c all quiet = at (quiet_from set new old c all.0 quiet)
   where
-    at : (is_quiet (told set (new ++ old)) c ≡ true) × HasNoRunOf c new
-        → (is_quiet (told set (e ∷ (new ++ old))) c ≡ true) × HasNoRunOf c (e ∷ new)
+    at : (is_quiet (deeds_of set (new ++ old)) c ≡ true) × HasNoRunOf c new
+        → (is_quiet (deeds_of set (e ∷ (new ++ old))) c ≡ true) × HasNoRunOf c (e ∷ new)
     at before =
-        let ds : List Deed = told set (new ++ old) in
+        let ds : List Deed = deeds_of set (new ++ old) in
         let parts = and_parts (is_cancelled ds c) (is_none (runner_of ds c)) before.0 in
         let fits = allowed set ds e all.1 in
         let start : is_start_of c e.kind ≡ false =
@@ -76,7 +76,7 @@ pub quiet_for_good : (set : Setting) (h more : List Entry) (c : ℕ) → IsLawfu
 quiet_for_good set h more c lawful quiet =
     let stays = quiet_from set (reverse more) (reverse h) c (allowed-parts set h more lawful) quiet in
     record {
-      quiet = subst (λ es. is_quiet (told set es) c ≡ true) (sym (reverse-append h more)) stays.0;
+      quiet = subst (λ es. is_quiet (deeds_of set es) c ≡ true) (sym (reverse-append h more)) stays.0;
       no_run = all-unreverse _ more stays.1;
     }
 
@@ -86,22 +86,22 @@ record SameRun (rule : HandlerRule) (set : Setting) (c : ℕ) (ds later : List D
   taken : taken_event later c ≡ taken_event ds c
   state : state_before_run rule set later c ≡ state_before_run rule set ds c
 
-busy_unready : (ds : List Deed) (c seat : ℕ) → runner_of ds c ≡ Some seat → is_ready ds c ≡ true → ⊥
+pub busy_unready : (ds : List Deed) (c seat : ℕ) → runner_of ds c ≡ Some seat → is_ready ds c ≡ true → ⊥
 busy_unready ds c seat runs ready = false≢true (sym (ap is_none runs) ∙ ready_idle ds c ready)
 
-other_unrun : (ds : List Deed) (c seat other : ℕ) → runner_of ds c ≡ Some seat → other ≢ seat → is_for other (runner_of ds c) ≡ true → ⊥
+pub other_unrun : (ds : List Deed) (c seat other : ℕ) → runner_of ds c ≡ Some seat → other ≢ seat → is_for other (runner_of ds c) ≡ true → ⊥
 other_unrun ds c seat other runs apart run =
     apart (sym (eqb-true seat other (subst (λ o. is_for other o ≡ true) runs run)))
 
 run_from : (rule : HandlerRule) (set : Setting) (new old : List Entry) (c seat : ℕ) → AllowedAll set (new ++ old)
-    → AllByRecursion (λ e. seat_of e ≢ seat) new → runner_of (told set old) c ≡ Some seat
-    → SameRun rule set c (told set old) (told set (new ++ old))
+    → AllByRecursion (λ e. seat_of e ≢ seat) new → runner_of (deeds_of set old) c ≡ Some seat
+    → SameRun rule set c (deeds_of set old) (deeds_of set (new ++ old))
 run_from rule set [] old c seat all others runs = record { runner = refl; taken = refl; state = refl }
 run_from rule set (e ∷ new) old c seat all others runs = at (run_from rule set new old c seat all.0 others.1 runs)
   where
-    at : SameRun rule set c (told set old) (told set (new ++ old)) → SameRun rule set c (told set old) (told set (e ∷ (new ++ old)))
+    at : SameRun rule set c (deeds_of set old) (deeds_of set (new ++ old)) → SameRun rule set c (deeds_of set old) (deeds_of set (e ∷ (new ++ old)))
     at before =
-        let ds : List Deed = told set (new ++ old) in
+        let ds : List Deed = deeds_of set (new ++ old) in
         let fits = allowed set ds e all.1 in
         let on : runner_of ds c ≡ Some seat = before.runner ∙ runs in
         let start : is_start_of c e.kind ≡ false = no_start set ds e c fits (busy_unready ds c seat on) in
@@ -117,7 +117,7 @@ pub run_stands : (rule : HandlerRule) (set : Setting) (h more : List Entry) (run
     → AllByRecursion (λ e. seat_of e ≢ run.seat) more → IsRunning rule set h run → IsRunning rule set (h ++ more) run
 run_stands rule set h more run lawful others is =
     let same = run_from rule set (reverse more) (reverse h) run.call run.seat (allowed-parts set h more lawful) (all-reverse _ more others) is.unfinished in
-    let later : told set (reverse more ++ reverse h) ≡ history set (h ++ more) = ap (told set) (sym (reverse-append h more)) in
+    let later : deeds_of set (reverse more ++ reverse h) ≡ history set (h ++ more) = ap (deeds_of set) (sym (reverse-append h more)) in
     record {
       started = prefix_get h (h ++ more) run.place _ (more, refl) is.started;
       unfinished = subst (λ ds. runner_of ds run.call ≡ Some run.seat) later (same.runner ∙ is.unfinished);

@@ -5,7 +5,7 @@ use Rattle.rpc_journal.specs.declared.entry.Entry.{Entry}
 use Rattle.rpc_journal.specs.declared.fault.Fault.{Fault}
 use Rattle.rpc_journal.specs.declared.setting.Setting.{Setting}
 use Rattle.rpc_journal.specs.Faults.{IsFirstFault}
-use Rattle.rpc_journal.specs.History.{history, tell, told}
+use Rattle.rpc_journal.specs.History.{history, deeds_with, deeds_of}
 use Rattle.rpc_journal.specs.Lawful.{AllowedAll, IsLawful, broken}
 use Rattle.rpc_journal.proofs.Push.{history-push, lawful-front, lawful-push}
 
@@ -17,7 +17,7 @@ take_suc (y ∷ ys) (suc k) x there = ap (λ zs. y ∷ zs) (take_suc ys k x ther
 pub take_next : {A : Type 0} (xs : List A) (k : ℕ) (x : A) → slice_get xs k ≡ Some x → take (k + 1) xs ≡ take k xs ++ x ∷ []
 take_next xs k x there = ap (λ n. take n xs) (add-one k) ∙ take_suc xs k x there
 
-told_length : (set : Setting) (h : List Entry) → length (told set h) ≡ length h
+told_length : (set : Setting) (h : List Entry) → length (deeds_of set h) ≡ length h
 told_length set [] = refl
 told_length set (e ∷ h) = ap suc (told_length set h)
 
@@ -30,7 +30,7 @@ lawful_next set h at e there lawful fits =
     subst (IsLawful set) (sym (take_next h at e there)) (lawful-push set (take at h) e lawful fits)
 
 pub history_next : (set : Setting) (h : List Entry) (at : ℕ) (e : Entry) → slice_get h at ≡ Some e
-    → history set (take (at + 1) h) ≡ tell set (history set (take at h)) e
+    → history set (take (at + 1) h) ≡ deeds_with set (history set (take at h)) e
 history_next set h at e there = ap (history set) (take_next h at e there) ∙ history-push set (take at h) e
 
 -- a history with a fault isn't lawful

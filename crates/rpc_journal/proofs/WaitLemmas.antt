@@ -23,15 +23,14 @@ use Rattle.rpc_journal.specs.Calls.{calls, call_at, call_count, ends_of, has_end
 use Rattle.rpc_journal.specs.ClientTable.{call_row, live_row, no_call_row}
 use Rattle.rpc_journal.specs.Effect.{Effect, Opening, Deed}
 use Rattle.rpc_journal.specs.Entries.{arrive_row, each_from, effect_of, is_live, is_live_on, row_by, wants_tick}
-use Rattle.rpc_journal.specs.History.{told}
+use Rattle.rpc_journal.specs.History.{deeds_of, deed_by}
 use Rattle.rpc_journal.specs.Items.{input_ended, is_end_in}
 use Rattle.rpc_journal.specs.Lawful.{AllowedAll, full_among}
 use Rattle.rpc_journal.specs.Laws.{FewWait, ends_waiting}
-use Rattle.rpc_journal.specs.Marks.{is_empty, is_okay, is_unary, streams_down, streams_up}
-use Rattle.rpc_journal.specs.Queues.{drops_of, is_completed, is_ended, messages_waiting, puts_since, starts_since, waiting_of}
+use Rattle.rpc_journal.specs.Kinds.{is_empty, is_okay, is_unary, streams_down, streams_up}
+use Rattle.rpc_journal.specs.Queues.{drops_of, is_completed, is_ended, messages_waiting, puts_since, starts_since, waiting_of, put_at}
 use Rattle.rpc_journal.specs.Rows.{Row, channels_in, method_named}
 use Rattle.rpc_journal.specs.ServerTable.{known_row, method_row, unknown_row}
-use Rattle.rpc_journal.specs.Touch.{deed_by, put_at}
 use Rattle.rpc_journal.proofs.Allowed.{Allowed, allowed}
 use Rattle.rpc_journal.proofs.EachLemmas.{has_number, none_past, one_put}
 use Rattle.rpc_journal.proofs.EndLemmas.{ended_known}
@@ -40,7 +39,7 @@ use Rattle.rpc_journal.proofs.KnownLemmas.{cancel-puts, finish-puts}
 use Rattle.rpc_journal.proofs.PacketLemmas.{has_end-more}
 use Rattle.rpc_journal.proofs.PlaceLemmas.{below_or_not, get_some}
 use Rattle.rpc_journal.proofs.RunLemmas.{started_ready}
-use Rattle.rpc_journal.proofs.TellLemmas.{put_is, queue_is, some_left}
+use Rattle.rpc_journal.proofs.QueueLemmas.{put_is, queue_is, some_left}
 
 -- how many of these events are none of an end, and how many are
 abbrev messages_in : List Event → ℕ
@@ -355,14 +354,14 @@ no_full : {A : Type 0} (o : Option A) → is_some o ≡ false → o ≡ None
 no_full None is = refl
 no_full (Some x) is = absurd (true≢false is)
 
-arrive_step : (set : Setting) (h : List Entry) (seat c : ℕ) (p : Packet) → Allowed set (told set h) (record { seat = seat; kind = Arrive p }) → Bounded (told set h) c
-    → StepFew (told set h) (deed_by seat (Arrive p) (effect_of set (told set h) (Arrive p))) c
-arrive_step set h seat c p fits before = at (has_end (told set h) c) refl
+arrive_step : (set : Setting) (h : List Entry) (seat c : ℕ) (p : Packet) → Allowed set (deeds_of set h) (record { seat = seat; kind = Arrive p }) → Bounded (deeds_of set h) c
+    → StepFew (deeds_of set h) (deed_by seat (Arrive p) (effect_of set (deeds_of set h) (Arrive p))) c
+arrive_step set h seat c p fits before = at (has_end (deeds_of set h) c) refl
   where
-    at : (b : Bool) → has_end (told set h) c ≡ b → StepFew (told set h) (deed_by seat (Arrive p) (effect_of set (told set h) (Arrive p))) c
-    at true ended = few_none set (told set h) seat (Arrive p) c fits before (effect-none set (told set h) (Arrive p) c ended (ended_known set h c ended))
+    at : (b : Bool) → has_end (deeds_of set h) c ≡ b → StepFew (deeds_of set h) (deed_by seat (Arrive p) (effect_of set (deeds_of set h) (Arrive p))) c
+    at true ended = few_none set (deeds_of set h) seat (Arrive p) c fits before (effect-none set (deeds_of set h) (Arrive p) c ended (ended_known set h c ended))
     at false live =
-        let ds : List Deed = told set h in
+        let ds : List Deed = deeds_of set h in
         let row = arrive-few set ds p c in
         let none : ends_waiting ds c ≡ 0 = before.none_yet live fits.input in
         let full : full_among ds (arrive_row set ds p).does.puts ≡ None = no_full _ (or_second _ _ fits.accepted) in
@@ -376,9 +375,9 @@ arrive_step set h seat c p fits before = at (has_end (told set h) c) refl
               rw (given, none) (zero_either (drops_of (deed_by seat (Arrive p) (effect_of set ds (Arrive p))) c));
         }
       where
-        by : (messages_in (of_call c (arrive_row set (told set h) p).does.puts) ≡ 0) ⊎ (messages_waiting (told set h) c < 64)
-            → messages_in (of_call c (arrive_row set (told set h) p).does.puts) ≤ 1
-            → messages_waiting (told set h) c + messages_in (of_call c (arrive_row set (told set h) p).does.puts) ≤ 64
+        by : (messages_in (of_call c (arrive_row set (deeds_of set h) p).does.puts) ≡ 0) ⊎ (messages_waiting (deeds_of set h) c < 64)
+            → messages_in (of_call c (arrive_row set (deeds_of set h) p).does.puts) ≤ 1
+            → messages_waiting (deeds_of set h) c + messages_in (of_call c (arrive_row set (deeds_of set h) p).does.puts) ≤ 64
         by (inl none) one = omega (arith, none, before.messages)
         by (inr few) one = omega (arith, few, one)
 
@@ -388,49 +387,49 @@ arrive_step set h seat c p fits before = at (has_end (told set h) c) refl
 
 -- an entry that puts one event to each call that passes a test: this call doesn't, isn't there, or does
 each_step : (set : Setting) (h : List Entry) (seat c : ℕ) (kind : EntryKind) (test : ℕ → Opening → Bool) (event : Event)
-    → Allowed set (told set h) (record { seat = seat; kind = kind }) → Bounded (told set h) c → (effect_of set (told set h) kind).puts ≡ each_from 0 test event (calls (told set h))
-    → ((o : Opening) → test c o ≡ true → of_call c (effect_of set (told set h) kind).puts ≡ event ∷ []
-    → c < call_count (told set h) → StepFew (told set h) (deed_by seat kind (effect_of set (told set h) kind)) c)
-    → StepFew (told set h) (deed_by seat kind (effect_of set (told set h) kind)) c
-each_step set h seat c kind test event fits before puts given = at (below_or_not c (call_count (told set h)))
+    → Allowed set (deeds_of set h) (record { seat = seat; kind = kind }) → Bounded (deeds_of set h) c → (effect_of set (deeds_of set h) kind).puts ≡ each_from 0 test event (calls (deeds_of set h))
+    → ((o : Opening) → test c o ≡ true → of_call c (effect_of set (deeds_of set h) kind).puts ≡ event ∷ []
+    → c < call_count (deeds_of set h) → StepFew (deeds_of set h) (deed_by seat kind (effect_of set (deeds_of set h) kind)) c)
+    → StepFew (deeds_of set h) (deed_by seat kind (effect_of set (deeds_of set h) kind)) c
+each_step set h seat c kind test event fits before puts given = at (below_or_not c (call_count (deeds_of set h)))
   where
-    at : (c < call_count (told set h)) ⊎ (call_count (told set h) ≤ c) → StepFew (told set h) (deed_by seat kind (effect_of set (told set h) kind)) c
-    at (inr past) = few_none set (told set h) seat kind c fits before (ap (of_call c) puts ∙ none_past test event (calls (told set h)) 0 c (omega (arith, past)))
+    at : (c < call_count (deeds_of set h)) ⊎ (call_count (deeds_of set h) ≤ c) → StepFew (deeds_of set h) (deed_by seat kind (effect_of set (deeds_of set h) kind)) c
+    at (inr past) = few_none set (deeds_of set h) seat kind c fits before (ap (of_call c) puts ∙ none_past test event (calls (deeds_of set h)) 0 c (omega (arith, past)))
     at (inl below) =
-        let found = get_some (calls (told set h)) c below in
-        let is : of_call c (effect_of set (told set h) kind).puts ≡ (if test c found.0 then event ∷ [] else []) =
-        ap (of_call c) puts ∙ one_put test event (calls (told set h)) 0 c c found.0 found.1 (omega arith) in
+        let found = get_some (calls (deeds_of set h)) c below in
+        let is : of_call c (effect_of set (deeds_of set h) kind).puts ≡ (if test c found.0 then event ∷ [] else []) =
+        ap (of_call c) puts ∙ one_put test event (calls (deeds_of set h)) 0 c c found.0 found.1 (omega arith) in
         by found.0 (test c found.0) refl is below
       where
-        by : (o : Opening) (b : Bool) → test c o ≡ b → of_call c (effect_of set (told set h) kind).puts ≡ (if b then event ∷ [] else []) → c < call_count (told set h)
-            → StepFew (told set h) (deed_by seat kind (effect_of set (told set h) kind)) c
+        by : (o : Opening) (b : Bool) → test c o ≡ b → of_call c (effect_of set (deeds_of set h) kind).puts ≡ (if b then event ∷ [] else []) → c < call_count (deeds_of set h)
+            → StepFew (deeds_of set h) (deed_by seat kind (effect_of set (deeds_of set h) kind)) c
         by o true tested is below = given o tested is below
-        by o false tested is below = few_none set (told set h) seat kind c fits before is
+        by o false tested is below = few_none set (deeds_of set h) seat kind c fits before is
 
-tick_step : (set : Setting) (h : List Entry) (seat c now : ℕ) → Allowed set (told set h) (record { seat = seat; kind = Tick now }) → Bounded (told set h) c
-    → StepFew (told set h) (deed_by seat (Tick now) (effect_of set (told set h) (Tick now))) c
+tick_step : (set : Setting) (h : List Entry) (seat c now : ℕ) → Allowed set (deeds_of set h) (record { seat = seat; kind = Tick now }) → Bounded (deeds_of set h) c
+    → StepFew (deeds_of set h) (deed_by seat (Tick now) (effect_of set (deeds_of set h) (Tick now))) c
 tick_step set h seat c now fits before =
-    each_step set h seat c (Tick now) (wants_tick (told set h)) (Ticked now) fits before refl
+    each_step set h seat c (Tick now) (wants_tick (deeds_of set h)) (Ticked now) fits before refl
     (λ o wants is below.
-    let few : length (waiting_of (told set h) c) < 64 = ltb-true (length (waiting_of (told set h) c)) 64 (and_parts _ _ wants).1 in
-    let less : messages_waiting (told set h) c ≤ length (waiting_of (told set h) c) = count_by-le-length _ (waiting_of (told set h) c) in
+    let few : length (waiting_of (deeds_of set h) c) < 64 = ltb-true (length (waiting_of (deeds_of set h) c)) 64 (and_parts _ _ wants).1 in
+    let less : messages_waiting (deeds_of set h) c ≤ length (waiting_of (deeds_of set h) c) = count_by-le-length _ (waiting_of (deeds_of set h) c) in
     record {
       alone = λ s. absurd (false≢true s);
       some = λ s. absurd (false≢true s);
       messages = rw is (omega (arith, few, less));
       ends = rw is (omega (arith, before.ends));
       none_yet = λ unended open_input.
-          let was : ends_waiting (told set h) c ≡ 0 =
-          before.none_yet (unended_before (told set h) (deed_by seat (Tick now) (effect_of set (told set h) (Tick now))) c unended) open_input in
+          let was : ends_waiting (deeds_of set h) c ≡ 0 =
+          before.none_yet (unended_before (deeds_of set h) (deed_by seat (Tick now) (effect_of set (deeds_of set h) (Tick now))) c unended) open_input in
           rw (is, was) refl;
     })
 
-end_step : (set : Setting) (h : List Entry) (seat c : ℕ) → Allowed set (told set h) (record { seat = seat; kind = EndIn }) → Bounded (told set h) c
-    → StepFew (told set h) (deed_by seat EndIn (effect_of set (told set h) EndIn)) c
+end_step : (set : Setting) (h : List Entry) (seat c : ℕ) → Allowed set (deeds_of set h) (record { seat = seat; kind = EndIn }) → Bounded (deeds_of set h) c
+    → StepFew (deeds_of set h) (deed_by seat EndIn (effect_of set (deeds_of set h) EndIn)) c
 end_step set h seat c fits before =
-    each_step set h seat c EndIn (is_live (told set h)) (Ended Unavailable) fits before refl
+    each_step set h seat c EndIn (is_live (deeds_of set h)) (Ended Unavailable) fits before refl
     (λ o live is below.
-    let none : ends_waiting (told set h) c ≡ 0 = before.none_yet (not-true _ live) fits.input in
+    let none : ends_waiting (deeds_of set h) c ≡ 0 = before.none_yet (not-true _ live) fits.input in
     record {
       alone = λ s. absurd (false≢true s);
       some = λ s. absurd (false≢true s);
@@ -439,12 +438,12 @@ end_step set h seat c fits before =
       none_yet = λ unended open_input. absurd (true≢false open_input);
     })
 
-close_step : (set : Setting) (h : List Entry) (seat c channel : ℕ) → Allowed set (told set h) (record { seat = seat; kind = Close channel }) → Bounded (told set h) c
-    → StepFew (told set h) (deed_by seat (Close channel) (effect_of set (told set h) (Close channel))) c
+close_step : (set : Setting) (h : List Entry) (seat c channel : ℕ) → Allowed set (deeds_of set h) (record { seat = seat; kind = Close channel }) → Bounded (deeds_of set h) c
+    → StepFew (deeds_of set h) (deed_by seat (Close channel) (effect_of set (deeds_of set h) (Close channel))) c
 close_step set h seat c channel fits before =
-    each_step set h seat c (Close channel) (is_live_on (told set h) channel) (Ended Aborted) fits before refl
+    each_step set h seat c (Close channel) (is_live_on (deeds_of set h) channel) (Ended Aborted) fits before refl
     (λ o live is below.
-    let ds : List Deed = told set h in
+    let ds : List Deed = deeds_of set h in
     let found = get_some (calls ds) c below in
     let ends : of_call c (each_from 0 (is_live_on ds channel) Aborted (calls ds)) ≡ Aborted ∷ [] = gets_end o live is in
     let drops : drops_of (deed_by seat (Close channel) (effect_of set ds (Close channel))) c ≡ true =
@@ -458,57 +457,57 @@ close_step set h seat c channel fits before =
     })
   where
     -- the same calls are given an end and its event
-    gets_end : (o : Opening) → is_live_on (told set h) channel c o ≡ true
-        → of_call c (each_from 0 (is_live_on (told set h) channel) (Ended Aborted) (calls (told set h))) ≡ Ended Aborted ∷ []
-        → of_call c (each_from 0 (is_live_on (told set h) channel) Aborted (calls (told set h))) ≡ Aborted ∷ []
-    gets_end o live is = at (below_or_not c (call_count (told set h)))
+    gets_end : (o : Opening) → is_live_on (deeds_of set h) channel c o ≡ true
+        → of_call c (each_from 0 (is_live_on (deeds_of set h) channel) (Ended Aborted) (calls (deeds_of set h))) ≡ Ended Aborted ∷ []
+        → of_call c (each_from 0 (is_live_on (deeds_of set h) channel) Aborted (calls (deeds_of set h))) ≡ Aborted ∷ []
+    gets_end o live is = at (below_or_not c (call_count (deeds_of set h)))
       where
-        at : (c < call_count (told set h)) ⊎ (call_count (told set h) ≤ c) → of_call c (each_from 0 (is_live_on (told set h) channel) Aborted (calls (told set h))) ≡ Aborted ∷ []
-        at (inr past) = absurd (nothing (sym (none_past (is_live_on (told set h) channel) (Ended Aborted) (calls (told set h)) 0 c (omega (arith, past))) ∙ is))
+        at : (c < call_count (deeds_of set h)) ⊎ (call_count (deeds_of set h) ≤ c) → of_call c (each_from 0 (is_live_on (deeds_of set h) channel) Aborted (calls (deeds_of set h))) ≡ Aborted ∷ []
+        at (inr past) = absurd (nothing (sym (none_past (is_live_on (deeds_of set h) channel) (Ended Aborted) (calls (deeds_of set h)) 0 c (omega (arith, past))) ∙ is))
           where
             nothing : {A : Type 0} → [] ≡ Ended Aborted ∷ [] → A
             nothing none = absurd cc
         at (inl below) =
-            let found = get_some (calls (told set h)) c below in
-            by found.0 (is_live_on (told set h) channel c found.0) refl
-            (one_put (is_live_on (told set h) channel) (Ended Aborted) (calls (told set h)) 0 c c found.0 found.1 (omega arith))
-            (one_put (is_live_on (told set h) channel) Aborted (calls (told set h)) 0 c c found.0 found.1 (omega arith))
+            let found = get_some (calls (deeds_of set h)) c below in
+            by found.0 (is_live_on (deeds_of set h) channel c found.0) refl
+            (one_put (is_live_on (deeds_of set h) channel) (Ended Aborted) (calls (deeds_of set h)) 0 c c found.0 found.1 (omega arith))
+            (one_put (is_live_on (deeds_of set h) channel) Aborted (calls (deeds_of set h)) 0 c c found.0 found.1 (omega arith))
           where
-            by : (x : Opening) (b : Bool) → is_live_on (told set h) channel c x ≡ b
-                → of_call c (each_from 0 (is_live_on (told set h) channel) (Ended Aborted) (calls (told set h))) ≡ (if is_live_on (told set h) channel c x then Ended Aborted ∷ [] else [])
-                → of_call c (each_from 0 (is_live_on (told set h) channel) Aborted (calls (told set h))) ≡ (if is_live_on (told set h) channel c x then Aborted ∷ [] else [])
-                → of_call c (each_from 0 (is_live_on (told set h) channel) Aborted (calls (told set h))) ≡ Aborted ∷ []
+            by : (x : Opening) (b : Bool) → is_live_on (deeds_of set h) channel c x ≡ b
+                → of_call c (each_from 0 (is_live_on (deeds_of set h) channel) (Ended Aborted) (calls (deeds_of set h))) ≡ (if is_live_on (deeds_of set h) channel c x then Ended Aborted ∷ [] else [])
+                → of_call c (each_from 0 (is_live_on (deeds_of set h) channel) Aborted (calls (deeds_of set h))) ≡ (if is_live_on (deeds_of set h) channel c x then Aborted ∷ [] else [])
+                → of_call c (each_from 0 (is_live_on (deeds_of set h) channel) Aborted (calls (deeds_of set h))) ≡ Aborted ∷ []
             by x true tested events ends = ends ∙ ap (λ b. if b then Aborted ∷ [] else []) tested
             by x false tested events ends = absurd (nothing (sym is ∙ (events ∙ ap (λ b. if b then Ended Aborted ∷ [] else []) tested)))
               where
                 nothing : {A : Type 0} → Ended Aborted ∷ [] ≡ [] → A
                 nothing none = absurd cc
 
-step_few : (set : Setting) (h : List Entry) (seat c : ℕ) (kind : EntryKind) → Allowed set (told set h) (record { seat = seat; kind = kind }) → Bounded (told set h) c
-    → StepFew (told set h) (deed_by seat kind (effect_of set (told set h) kind)) c
+step_few : (set : Setting) (h : List Entry) (seat c : ℕ) (kind : EntryKind) → Allowed set (deeds_of set h) (record { seat = seat; kind = kind }) → Bounded (deeds_of set h) c
+    → StepFew (deeds_of set h) (deed_by seat kind (effect_of set (deeds_of set h) kind)) c
 step_few set h seat c (Arrive p) fits before = arrive_step set h seat c p fits before
-step_few set h seat c (Invoke p m) fits before = few_none set (told set h) seat (Invoke p m) c fits before (ap (of_call c) (invoke-none c (told set h) p m (method_named set p.name)))
-step_few set h seat c (Say k out) fits before = few_none set (told set h) seat (Say k out) c fits before (ap (of_call c) (with_call-none (call_at (told set h) k) _))
-step_few set h seat c (Done k) fits before = few_none set (told set h) seat (Done k) c fits before (ap (of_call c) (with_call-none (call_at (told set h) k) _))
-step_few set h seat c (Start k) fits before = few_none set (told set h) seat (Start k) c fits before refl
-step_few set h seat c (Finish k a) fits before = few_none set (told set h) seat (Finish k a) c fits before (ap (of_call c) (finish-puts set (told set h) k a (call_at (told set h) k)))
-step_few set h seat c (Replace k m) fits before = few_none set (told set h) seat (Replace k m) c fits before refl
-step_few set h seat c (Cancel k) fits before = few_none set (told set h) seat (Cancel k) c fits before (ap (of_call c) (cancel-puts set (told set h) k (call_at (told set h) k)))
+step_few set h seat c (Invoke p m) fits before = few_none set (deeds_of set h) seat (Invoke p m) c fits before (ap (of_call c) (invoke-none c (deeds_of set h) p m (method_named set p.name)))
+step_few set h seat c (Say k out) fits before = few_none set (deeds_of set h) seat (Say k out) c fits before (ap (of_call c) (with_call-none (call_at (deeds_of set h) k) _))
+step_few set h seat c (Done k) fits before = few_none set (deeds_of set h) seat (Done k) c fits before (ap (of_call c) (with_call-none (call_at (deeds_of set h) k) _))
+step_few set h seat c (Start k) fits before = few_none set (deeds_of set h) seat (Start k) c fits before refl
+step_few set h seat c (Finish k a) fits before = few_none set (deeds_of set h) seat (Finish k a) c fits before (ap (of_call c) (finish-puts set (deeds_of set h) k a (call_at (deeds_of set h) k)))
+step_few set h seat c (Replace k m) fits before = few_none set (deeds_of set h) seat (Replace k m) c fits before refl
+step_few set h seat c (Cancel k) fits before = few_none set (deeds_of set h) seat (Cancel k) c fits before (ap (of_call c) (cancel-puts set (deeds_of set h) k (call_at (deeds_of set h) k)))
 step_few set h seat c (Tick now) fits before = tick_step set h seat c now fits before
-step_few set h seat c Flush fits before = few_none set (told set h) seat Flush c fits before refl
+step_few set h seat c Flush fits before = few_none set (deeds_of set h) seat Flush c fits before refl
 step_few set h seat c EndIn fits before = end_step set h seat c fits before
-step_few set h seat c (Halt why) fits before = few_none set (told set h) seat (Halt why) c fits before refl
+step_few set h seat c (Halt why) fits before = few_none set (deeds_of set h) seat (Halt why) c fits before refl
 step_few set h seat c (Close channel) fits before = close_step set h seat c channel fits before
 
-bounded : (set : Setting) (h : List Entry) (c : ℕ) → AllowedAll set h → Bounded (told set h) c
+bounded : (set : Setting) (h : List Entry) (c : ℕ) → AllowedAll set h → Bounded (deeds_of set h) c
 bounded set [] c all = record { put = omega arith; messages = omega arith; ends = omega arith; none_yet = λ unended open_input. refl }
 bounded set (e ∷ h) c all =
     let before = bounded set h c all.0 in
-    few_step (told set h) (deed_by e.seat e.kind (effect_of set (told set h) e.kind)) c before
-    (step_few set h e.seat c e.kind (allowed set (told set h) e all.1) before)
+    few_step (deeds_of set h) (deed_by e.seat e.kind (effect_of set (deeds_of set h) e.kind)) c before
+    (step_few set h e.seat c e.kind (allowed set (deeds_of set h) e all.1) before)
 
 -- at most 64 events other than Ended, and one Ended, wait for a call
-pub few_wait : (set : Setting) (h : List Entry) (c : ℕ) → AllowedAll set h → FewWait (told set h) c
+pub few_wait : (set : Setting) (h : List Entry) (c : ℕ) → AllowedAll set h → FewWait (deeds_of set h) c
 few_wait set h c all = let all_few = bounded set h c all in record { messages = all_few.messages; ends = all_few.ends }
 
 split_count : (p : Waiting → Bool) (ws : List Waiting) → length ws ≡ count_by (λ w. not (p w)) ws + count_by p ws
@@ -529,8 +528,8 @@ split_count p (w ∷ ws) =
         omega (arith, a, b, rest)
 
 -- so 65 at most
-pub few_waiting : (set : Setting) (h : List Entry) (c : ℕ) → AllowedAll set h → length (waiting_of (told set h) c) ≤ 65
+pub few_waiting : (set : Setting) (h : List Entry) (c : ℕ) → AllowedAll set h → length (waiting_of (deeds_of set h) c) ≤ 65
 few_waiting set h c all =
     let few = few_wait set h c all in
-    let parts : length (waiting_of (told set h) c) ≡ messages_waiting (told set h) c + ends_waiting (told set h) c = split_count (λ w. is_ended w.event) (waiting_of (told set h) c) in
+    let parts : length (waiting_of (deeds_of set h) c) ≡ messages_waiting (deeds_of set h) c + ends_waiting (deeds_of set h) c = split_count (λ w. is_ended w.event) (waiting_of (deeds_of set h) c) in
     omega (arith, parts, few.messages, few.ends)

@@ -5,7 +5,7 @@ use Rattle.rpc_packet.specs.declared.call_name.CallName.{CallName}
 use Rattle.rpc_journal.specs.declared.entry.EntryKind.{EntryKind}
 use Rattle.rpc_journal.specs.declared.entry.EntryKind.TheVariants.{Start, Finish, Cancel, Replace}
 use Rattle.rpc_journal.specs.Effect.{Opening, Deed}
-use Rattle.rpc_journal.specs.Marks.{is_empty}
+use Rattle.rpc_journal.specs.Kinds.{is_empty}
 
 -- of a list of pairs, what stands with this number
 abbrev pub of_call : {A : Type 0} → ℕ → List (ℕ × A) → List A

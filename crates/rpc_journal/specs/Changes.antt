@@ -29,7 +29,7 @@ use Rattle.rpc_journal.specs.Effect.{Deed}
 use Rattle.rpc_journal.specs.Calls.{call_count, end_of, has_end, is_cancelled, is_replaced, runner_of}
 use Rattle.rpc_journal.specs.Queues.{waiting_of}
 use Rattle.rpc_journal.specs.Items.{flush_count, halt_reason, items_sent}
-use Rattle.rpc_journal.specs.Marks.{is_empty}
+use Rattle.rpc_journal.specs.Kinds.{is_empty}
 use Rattle.rpc_journal.specs.Entries.{arrive_row, close_effect}
 use Rattle.rpc_journal.specs.History.{history, entry_by, adding}
 use Rattle.rpc_journal.specs.Choice.{IsFirstReady, NoneReady, SomeReady}

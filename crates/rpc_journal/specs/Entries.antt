@@ -27,8 +27,8 @@ use Rattle.rpc_journal.specs.Effect.{Effect, Opening, Deed}
 use Rattle.rpc_journal.specs.Calls.{calls, call_count, call_at, has_end, is_cancelled, runner_of}
 use Rattle.rpc_journal.specs.Queues.{waiting_of, taken_event, is_ended, is_tick}
 use Rattle.rpc_journal.specs.Items.{is_done}
-use Rattle.rpc_journal.specs.Marks.{is_server, is_unary, is_okay, streams_out}
-use Rattle.rpc_journal.specs.Rows.{Row, method_named, no_effect, both, says_item, status_packet, sends}
+use Rattle.rpc_journal.specs.Kinds.{is_server, is_unary, is_okay, streams_out}
+use Rattle.rpc_journal.specs.Rows.{Row, method_named, no_effect, both_effects, says_item, status_packet, packet_item}
 use Rattle.rpc_journal.specs.ServerTable.{server_row}
 use Rattle.rpc_journal.specs.ClientTable.{client_row}
 
@@ -41,12 +41,12 @@ unfoldable pub arrive_row : Setting → List Deed → Packet → Row
 arrive_row set ds p = row_by set.role set ds p
 
 -- a store action of call c
-abbrev pub keeps : ℕ → Out → Item
-keeps c out = record { call = Some c; act = Keep out }
+abbrev pub store_item : ℕ → Out → Item
+store_item c out = record { call = Some c; act = Keep out }
 
 -- all works of call c are left
-abbrev pub leaves : ℕ → Item
-leaves c = record { call = Some c; act = LeaveCall }
+abbrev pub leave_item : ℕ → Item
+leave_item c = record { call = Some c; act = LeaveCall }
 
 abbrev pub stream_type : Role → PacketType
 stream_type Server = ServerStream
@@ -57,25 +57,25 @@ error_type Server = ServerError
 error_type Client = ClientError
 
 -- a message of call c, whose packet's type is by role
-abbrev pub message : Role → ℕ → CallName → List ℕ → Item
-message role c name payload =
-    sends c (record { ptype = stream_type role; name = name; payload = payload; status = 0 })
+abbrev pub message_item : Role → ℕ → CallName → List ℕ → Item
+message_item role c name payload =
+    packet_item c (record { ptype = stream_type role; name = name; payload = payload; status = 0 })
 
 -- Invoke: a new client call, and its REQUEST goes out
 abbrev pub invoke_effect : List Deed → Packet → Memo → Option MethodRef → Effect
 invoke_effect ds p m None = no_effect
 invoke_effect ds p m (Some method) =
-    record no_effect { opens = Some (record { name = p.name; method = method; given = Some m }); says = sends (call_count ds) p ∷ [] }
+    record no_effect { opens = Some (record { name = p.name; method = method; given = Some m }); says = packet_item (call_count ds) p ∷ [] }
 
 -- Say: a message or a store action goes out
 abbrev pub out_item : Role → ℕ → CallName → Out → Item
-out_item role c name (Message payload) = message role c name payload
-out_item role c name out = keeps c out
+out_item role c name (Message payload) = message_item role c name payload
+out_item role c name out = store_item c out
 
 -- an item of an answer, where its messages go out or don't
 abbrev pub answer_item : Role → ℕ → CallName → Bool → Out → List Item
-answer_item role c name says (Message payload) = if says then message role c name payload ∷ [] else []
-answer_item role c name says out = keeps c out ∷ []
+answer_item role c name says (Message payload) = if says then message_item role c name payload ∷ [] else []
+answer_item role c name says out = store_item c out ∷ []
 
 -- at a server the end of an answer ends c with a RESPONSE, and c's waiting events go
 abbrev pub server_end : ℕ → CallName → End → Effect
@@ -83,7 +83,7 @@ server_end c name end =
     record no_effect {
       ends = (c, end.status) ∷ [];
       drops = c ∷ [];
-      says = sends c (record { ptype = Response; name = name; payload = end.payload; status = status_number end.status }) ∷ [];
+      says = packet_item c (record { ptype = Response; name = name; payload = end.payload; status = status_number end.status }) ∷ [];
     }
 
 -- at a client an end with OK completes the stream of c, where it has one that isn't complete; another ends c with a
@@ -91,8 +91,8 @@ server_end c name end =
 abbrev pub client_end : ℕ → CallName → Kind → Bool → End → Effect
 client_end c name kind done end =
     if is_okay end.status
-    then (if is_unary kind || done then no_effect else says_item (sends c (status_packet Completion name Okay)))
-    else record no_effect { ends = (c, end.status) ∷ []; drops = c ∷ []; says = sends c (status_packet ClientError name end.status) ∷ [] }
+    then (if is_unary kind || done then no_effect else says_item (packet_item c (status_packet Completion name Okay)))
+    else record no_effect { ends = (c, end.status) ∷ []; drops = c ∷ []; says = packet_item c (status_packet ClientError name end.status) ∷ [] }
 
 abbrev pub end_effect : Role → ℕ → CallName → Kind → Bool → Option End → Effect
 end_effect role c name kind done None = no_effect
@@ -108,7 +108,7 @@ messages_go role kind heard done = heard && streams_out role kind && (is_server 
 -- and the event wasn't Ended
 abbrev pub answered : Role → ℕ → Opening → Bool → Bool → Answer → Effect
 answered role c o heard done a =
-    both
+    both_effects
     (record no_effect { says = flat_map (answer_item role c o.name (messages_go role o.method.kind heard done)) a.items })
     (if heard then end_effect role c o.name o.method.kind done a.end else no_effect)
 
@@ -124,7 +124,7 @@ is_heard ds c = not (has_end ds c) && not (was_ended (taken_event ds c))
 abbrev pub finish_effect : Setting → List Deed → ℕ → Answer → Option Opening → Effect
 finish_effect set ds c a None = no_effect
 finish_effect set ds c a (Some o) =
-    if is_cancelled ds c then says_item (leaves c) else answered set.role c o (is_heard ds c) (is_done ds c) a
+    if is_cancelled ds c then says_item (leave_item c) else answered set.role c o (is_heard ds c) (is_done ds c) a
 
 -- Cancel: c's waiting events go; without an end it ends with CANCELLED and the peer is told; without a run its works
 -- are left
@@ -135,8 +135,8 @@ cancel_effect set ds c (Some o) =
       drops = c ∷ [];
       ends = if has_end ds c then [] else (c, Cancelled) ∷ [];
       says =
-          (if has_end ds c then [] else sends c (status_packet (error_type set.role) o.name Cancelled) ∷ [])
-          ++ (if is_some (runner_of ds c) then [] else leaves c ∷ []);
+          (if has_end ds c then [] else packet_item c (status_packet (error_type set.role) o.name Cancelled) ∷ [])
+          ++ (if is_some (runner_of ds c) then [] else leave_item c ∷ []);
     }
 
 -- what is made of each of the calls from number c on that pass the test, by rising number
@@ -169,7 +169,7 @@ close_effect role ds channel =
       ends = each_from 0 (is_live_on ds channel) Aborted (calls ds);
       drops = map (λ x. x.0) (each_from 0 (is_live_on ds channel) Aborted (calls ds));
       puts = each_from 0 (is_live_on ds channel) (Ended Aborted) (calls ds);
-      says = made_from 0 (is_live_on ds channel) (λ c o. sends c (status_packet (error_type role) o.name Aborted)) (calls ds);
+      says = made_from 0 (is_live_on ds channel) (λ c o. packet_item c (status_packet (error_type role) o.name Aborted)) (calls ds);
     }
 
 abbrev pub with_call : Option Opening → (Opening → Effect) → Effect
@@ -181,7 +181,7 @@ abbrev pub effect_of : Setting → List Deed → EntryKind → Effect
 effect_of set ds (Arrive p) = (arrive_row set ds p).does
 effect_of set ds (Invoke p m) = invoke_effect ds p m (method_named set p.name)
 effect_of set ds (Say c out) = with_call (call_at ds c) (λ o. says_item (out_item set.role c o.name out))
-effect_of set ds (Done c) = with_call (call_at ds c) (λ o. says_item (sends c (status_packet Completion o.name Okay)))
+effect_of set ds (Done c) = with_call (call_at ds c) (λ o. says_item (packet_item c (status_packet Completion o.name Okay)))
 effect_of set ds (Start c) = no_effect
 effect_of set ds (Finish c a) = finish_effect set ds c a (call_at ds c)
 effect_of set ds (Replace c m) = no_effect

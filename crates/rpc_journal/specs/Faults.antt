@@ -2,14 +2,14 @@
 use Rattle.std.specs.Prelude.{◌≡◌, ℕ, List, take, slice_get, Some, None}
 use Rattle.rpc_ids.specs.declared.method.MethodRef.{MethodRef}
 use Rattle.rpc_ids.specs.declared.method.Role.{Role}
-use Rattle.rpc_journal.specs.declared.call_states.CallStates.{CallStates}
+use Rattle.rpc_journal.specs.declared.table.call_states.CallStates.{CallStates}
 use Rattle.rpc_journal.specs.declared.entry.Entry.{Entry}
 use Rattle.rpc_journal.specs.declared.fault.Fault.{Fault}
 use Rattle.rpc_journal.specs.declared.setting.Setting.{Setting}
 use Rattle.rpc_journal.specs.Effect.{Deed}
 use Rattle.rpc_journal.specs.History.{history}
 use Rattle.rpc_journal.specs.Lawful.{IsLawful, broken}
-use Rattle.rpc_journal.specs.Tells.{Tells}
+use Rattle.rpc_journal.specs.table.Agrees.{Agrees}
 
 -- a setting of this role, with these channels and methods, whatever its seed
 pub record IsSettingOf (set : Setting) (side : Role) (ids : List ℕ) (methods : List MethodRef) : Type 0 where
@@ -29,5 +29,5 @@ pub record IsAllowedNext (t : CallStates) (e : Entry) (side : Role) (ids : List 
   pub set : Setting
   pub past : List Deed
   pub setting : IsSettingOf set side ids methods
-  pub tells : Tells past t
+  pub agrees : Agrees past t
   pub allowed : broken set past e ≡ None

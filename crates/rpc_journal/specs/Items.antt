@@ -14,7 +14,7 @@ use Rattle.rpc_journal.specs.declared.item.Act.TheVariants.{Send}
 use Rattle.rpc_journal.specs.Effect.{Deed}
 use Rattle.rpc_journal.specs.Calls.{runner_of, is_cancelled}
 use Rattle.rpc_journal.specs.Queues.{waiting_of}
-use Rattle.rpc_journal.specs.Marks.{is_empty, or_else}
+use Rattle.rpc_journal.specs.Kinds.{is_empty, or_else}
 
 abbrev pub arrival_of : EntryKind → List Packet
 arrival_of (Arrive p) = p ∷ []

@@ -25,10 +25,10 @@ use Rattle.rpc_journal.specs.Calls.{call_count, call_at, has_end, is_cancelled, 
 use Rattle.rpc_journal.specs.Queues.{is_ended, messages_waiting, taken_event}
 use Rattle.rpc_journal.specs.Items.{flush_count, halt_reason, input_ended, is_done, is_for, is_ready, items_sent}
 use Rattle.rpc_journal.specs.States.{state_before_run}
-use Rattle.rpc_journal.specs.Marks.{is_server, is_unary, streams_out}
+use Rattle.rpc_journal.specs.Kinds.{is_server, is_unary, streams_out}
 use Rattle.rpc_journal.specs.Rows.{channels_in, method_named}
 use Rattle.rpc_journal.specs.Entries.{arrive_row}
-use Rattle.rpc_journal.specs.History.{told}
+use Rattle.rpc_journal.specs.History.{deeds_of}
 
 -- the role is sent packets of this type
 abbrev pub hears : Role → PacketType → Bool
@@ -158,7 +158,7 @@ broken set ds e =
 -- of entries that stand the newest first: each is allowed after those before it
 abbrev pub AllowedAll : Setting → List Entry → Type 0
 AllowedAll set [] = Unit {0}
-AllowedAll set (e ∷ h) = AllowedAll set h × (broken set (told set h) e ≡ None)
+AllowedAll set (e ∷ h) = AllowedAll set h × (broken set (deeds_of set h) e ≡ None)
 
 -- the answer of a Finish is the one that the rule of the handler's type gives for its state before the run
 abbrev pub IsAnsweredByRule : HandlerRule → Setting → List Deed → EntryKind → Type 0
@@ -170,7 +170,7 @@ IsAnsweredByRule rule set ds _ = Unit {0}
 -- of entries that stand the newest first: each answer is by the rule
 abbrev pub AnsweredAll : HandlerRule → Setting → List Entry → Type 0
 AnsweredAll rule set [] = Unit {0}
-AnsweredAll rule set (e ∷ h) = AnsweredAll rule set h × IsAnsweredByRule rule set (told set h) e.kind
+AnsweredAll rule set (e ∷ h) = AnsweredAll rule set h × IsAnsweredByRule rule set (deeds_of set h) e.kind
 
 -- of entries in order: each is allowed after those before it
 pub record IsLawful (set : Setting) (h : List Entry) : Type 0 where

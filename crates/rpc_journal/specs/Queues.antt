@@ -22,12 +22,16 @@ is_tick _ = false
 abbrev pub drops_of : Deed → ℕ → Bool
 drops_of d c = list_any (λ x. x == c) d.does.drops
 
+-- these events, put by the entry at this place
+abbrev pub put_at : ℕ → List Event → List Waiting
+put_at at events = map (λ event. record { at = at; event = event }) events
+
 -- the events put to c by the last entry that drops c's waiting events and by all later ones
 abbrev pub puts_since : List Deed → ℕ → List Waiting
 puts_since [] c = []
 puts_since (d ∷ ds) c =
     (if drops_of d c then [] else puts_since ds c)
-    ++ map (λ event. record { at = length ds; event = event }) (of_call c d.does.puts)
+    ++ put_at (length ds) (of_call c d.does.puts)
 
 -- how many Starts of c are later than that entry
 abbrev pub starts_since : List Deed → ℕ → ℕ

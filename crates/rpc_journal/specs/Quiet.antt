@@ -4,7 +4,7 @@ use Rattle.rpc_journal.specs.Effect.{Deed}
 use Rattle.rpc_journal.specs.Calls.{call_count, is_cancelled, runner_of}
 use Rattle.rpc_journal.specs.Queues.{waiting_of}
 use Rattle.rpc_journal.specs.Items.{items_sent, flush_count, input_ended}
-use Rattle.rpc_journal.specs.Marks.{is_empty}
+use Rattle.rpc_journal.specs.Kinds.{is_empty}
 
 -- c is cancelled and has no run
 abbrev pub is_quiet : List Deed → ℕ → Bool

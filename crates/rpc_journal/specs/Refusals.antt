@@ -19,7 +19,7 @@ use Rattle.rpc_journal.specs.Effect.{Deed}
 use Rattle.rpc_journal.specs.Calls.{call_count, call_at, end_of, is_cancelled, live_call}
 use Rattle.rpc_journal.specs.Items.{is_done, is_ready}
 use Rattle.rpc_journal.specs.Lawful.{full_queue, has_stream, is_unary_call}
-use Rattle.rpc_journal.specs.Marks.{is_server, or_else}
+use Rattle.rpc_journal.specs.Kinds.{is_server, or_else}
 use Rattle.rpc_journal.specs.Rows.{channels_in, method_named}
 use Rattle.rpc_journal.specs.History.{history}
 

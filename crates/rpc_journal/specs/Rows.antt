@@ -18,7 +18,7 @@ use Rattle.rpc_journal.specs.declared.item.Item.{Item}
 use Rattle.rpc_journal.specs.declared.setting.Setting.{Setting}
 use Rattle.rpc_journal.specs.Effect.{Effect, Deed}
 use Rattle.rpc_journal.specs.Items.{is_for}
-use Rattle.rpc_journal.specs.Marks.{or_else}
+use Rattle.rpc_journal.specs.Kinds.{or_else}
 
 -- a row of a table: what the packet does, and what its arrival answers
 pub record Row : Type 0 where
@@ -46,8 +46,8 @@ abbrev pub no_effect : Effect
 no_effect = record { opens = None; ends = []; drops = []; puts = []; says = [] }
 
 -- one thing, and then another
-abbrev pub both : Effect → Effect → Effect
-both a b =
+abbrev pub both_effects : Effect → Effect → Effect
+both_effects a b =
     record { opens = or_else a.opens b.opens; ends = a.ends ++ b.ends; drops = a.drops ++ b.drops; puts = a.puts ++ b.puts; says = a.says ++ b.says }
 
 -- c ends, and Ended waits behind its other events
@@ -75,22 +75,22 @@ abbrev pub status_packet : PacketType → CallName → Status → Packet
 status_packet ptype name s = record { ptype = ptype; name = name; payload = []; status = status_number s }
 
 -- a packet of call c
-abbrev pub sends : ℕ → Packet → Item
-sends c p = record { call = Some c; act = Send p }
+abbrev pub packet_item : ℕ → Packet → Item
+packet_item c p = record { call = Some c; act = Send p }
 
-abbrev pub dropped : Row
-dropped = record { does = no_effect; answer = Dropped }
+abbrev pub dropped_row : Row
+dropped_row = record { does = no_effect; answer = Dropped }
 
 -- a reply, with the name of the packet and of no call
-abbrev pub replied : PacketType → Packet → Status → Row
-replied ptype p s =
+abbrev pub replied_row : PacketType → Packet → Status → Row
+replied_row ptype p s =
     record { does = says_item (record { call = None; act = Send (status_packet ptype p.name s) }); answer = Answered }
 
-abbrev pub queued : ℕ → Event → Row
-queued c event = record { does = puts_event c event; answer = Queued c }
+abbrev pub queued_row : ℕ → Event → Row
+queued_row c event = record { does = puts_event c event; answer = Queued c }
 
-abbrev pub closed : ℕ → Effect → Row
-closed c effect = record { does = effect; answer = Closed c }
+abbrev pub closed_row : ℕ → Effect → Row
+closed_row c effect = record { does = effect; answer = Closed c }
 
-abbrev pub opened : ℕ → Effect → Row
-opened c effect = record { does = effect; answer = Opened c }
+abbrev pub opened_row : ℕ → Effect → Row
+opened_row c effect = record { does = effect; answer = Opened c }

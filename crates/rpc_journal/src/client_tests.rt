@@ -1,6 +1,7 @@
 //! What a client makes of packets, and journals of a client, judged.
 
 use super::*;
+use crate::table::{CallState, CallStates, Move, move_at};
 use crate::test_world::{World, arrive, entry, fault, flush, packet, start};
 use bytes::Bytes;
 use link_io::Why;

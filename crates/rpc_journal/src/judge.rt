@@ -1,4 +1,4 @@
-//! Which rule an entry breaks, by what a plain table tells of the entries before it.
+//! Which rule an entry breaks, by a plain table that agrees with the entries before it.
 ghost use Rattle.std.specs.Prelude.{◌≡◌, ◌<◌, List, is_some};
 ghost use Rattle.rpc_handlers.specs.Limits.{is_long_out, is_long_end as ends_long, is_past_limits as passes_limits};
 ghost use Rattle.rpc_journal.specs.declared.setting.Setting.{Setting};
@@ -8,13 +8,12 @@ ghost use Rattle.rpc_journal.specs.Lawful.{broken as first_broken, call_named as
 ghost use Rattle.std.specs.List.{list_any};
 ghost use Rattle.rpc_journal.specs.Items.{is_for};
 ghost use Rattle.rpc_journal.specs.Faults.{IsSettingOf};
-ghost use Rattle.rpc_journal.specs.Tells.{Tells};
+ghost use Rattle.rpc_journal.specs.table.Agrees.{Agrees};
 
-use crate::arrival_move::move_at;
-use crate::call_states::CallStates;
 use crate::entry::{Entry, EntryKind};
 use crate::fault::Broken;
 use crate::kinds::is_server;
+use crate::table::{CallStates, move_at};
 use link_io::Why;
 use rpc_channel::Channels;
 use rpc_handlers::{Answer, End, MAX_ANSWER_ITEMS, MAX_PAYLOAD, Out};
@@ -30,7 +29,7 @@ pub fn broken_rule(
     channels: &Channels,
     registry: &Registry,
 ) -> Option<Broken>
-    ensures { (set : Setting) (ds : List Deed) → IsSettingOf set role channels.now registry.now → Tells ds states.now → result ≡ first_broken set ds entry.now }
+    ensures { (set : Setting) (ds : List Deed) → IsSettingOf set role channels.now registry.now → Agrees ds states.now → result ≡ first_broken set ds entry.now }
 {
     if is_wrong_seat(entry.seat, &entry.kind) {
         return Some(Broken::Seat);
@@ -90,7 +89,7 @@ fn call_named(kind: &EntryKind) -> Option<u32>
 }
 
 fn is_unknown(states: &CallStates, kind: &EntryKind) -> bool
-    ensures { (ds : List Deed) → Tells ds states.now → result ≡ unknown_among (call_count ds) (named_call kind.now) }
+    ensures { (ds : List Deed) → Agrees ds states.now → result ≡ unknown_among (call_count ds) (named_call kind.now) }
 {
     match call_named(kind) {
         Some(c) => states.calls.len() <= c as usize,
@@ -99,7 +98,7 @@ fn is_unknown(states: &CallStates, kind: &EntryKind) -> bool
 }
 
 fn starts_unready(states: &CallStates, kind: &EntryKind) -> bool
-    ensures { (ds : List Deed) → Tells ds states.now → result ≡ is_unready ds kind.now }
+    ensures { (ds : List Deed) → Agrees ds states.now → result ≡ is_unready ds kind.now }
 {
     match kind {
         EntryKind::Start(c) => !states.is_ready(*c),
@@ -108,7 +107,7 @@ fn starts_unready(states: &CallStates, kind: &EntryKind) -> bool
 }
 
 fn finishes_unrun(states: &CallStates, seat: u32, kind: &EntryKind) -> bool
-    ensures { (ds : List Deed) → Tells ds states.now → result ≡ is_unrun ds seat kind.now }
+    ensures { (ds : List Deed) → Agrees ds states.now → result ≡ is_unrun ds seat kind.now }
 {
     match kind {
         EntryKind::Finish(c, _) => !is_seat(states.runner(*c), seat),
@@ -126,7 +125,7 @@ fn is_seat(runner: Option<u32>, seat: u32) -> bool
 }
 
 fn flushes_nothing(states: &CallStates, kind: &EntryKind) -> bool
-    ensures { (ds : List Deed) → Tells ds states.now → result ≡ has_nothing ds kind.now }
+    ensures { (ds : List Deed) → Agrees ds states.now → result ≡ has_nothing ds kind.now }
 {
     match kind {
         EntryKind::Flush => states.unflushed == 0 || states.halted.is_some(),
@@ -141,7 +140,7 @@ fn is_refused(
     channels: &Channels,
     registry: &Registry,
 ) -> bool
-    ensures { (set : Setting) (ds : List Deed) → IsSettingOf set role channels.now registry.now → Tells ds states.now → result ≡ refuses set ds kind.now }
+    ensures { (set : Setting) (ds : List Deed) → IsSettingOf set role channels.now registry.now → Agrees ds states.now → result ≡ refuses set ds kind.now }
 {
     match kind {
         EntryKind::Arrive(p) => is_refused_packet(states, p, role, channels, registry),
@@ -173,7 +172,7 @@ fn is_refused_packet(
     channels: &Channels,
     registry: &Registry,
 ) -> bool
-    ensures { (set : Setting) (ds : List Deed) → IsSettingOf set role channels.now registry.now → Tells ds states.now → result ≡ refuses set ds (EntryKind.Arrive p.now) }
+    ensures { (set : Setting) (ds : List Deed) → IsSettingOf set role channels.now registry.now → Agrees ds states.now → result ≡ refuses set ds (EntryKind.Arrive p.now) }
 {
     if !hears(role, p.ptype) || has_zero(p.name) {
         return true;
@@ -189,7 +188,7 @@ fn is_refused_invoke(
     channels: &Channels,
     registry: &Registry,
 ) -> bool
-    ensures { (set : Setting) (ds : List Deed) → IsSettingOf set role channels.now registry.now → Tells ds states.now → result ≡ refuses_invoke set ds p.now }
+    ensures { (set : Setting) (ds : List Deed) → IsSettingOf set role channels.now registry.now → Agrees ds states.now → result ≡ refuses_invoke set ds p.now }
 {
     is_server(role)
         || !is_request(p.ptype)
@@ -211,7 +210,7 @@ fn is_request(ptype: PacketType) -> bool
 }
 
 fn is_refused_done(states: &CallStates, role: Role, call: u32) -> bool
-    ensures { (set : Setting) (ds : List Deed) → set.role ≡ role → Tells ds states.now → result ≡ refuses set ds (EntryKind.Done call) }
+    ensures { (set : Setting) (ds : List Deed) → set.role ≡ role → Agrees ds states.now → result ≡ refuses set ds (EntryKind.Done call) }
 {
     is_server(role) || states.has_end(call) || states.is_unary(call) || states.is_done(call)
 }
@@ -257,7 +256,7 @@ fn has_zero(name: CallName) -> bool
 }
 
 fn is_refused_say(states: &CallStates, role: Role, call: u32, out: &Out) -> bool
-    ensures { (set : Setting) (ds : List Deed) → set.role ≡ role → Tells ds states.now → result ≡ refuses_say set ds call out.now }
+    ensures { (set : Setting) (ds : List Deed) → set.role ≡ role → Agrees ds states.now → result ≡ refuses_say set ds call out.now }
 {
     match out {
         Out::Say(payload) => {

@@ -1,8 +1,8 @@
-//! Tests on roles and kinds of methods.
+//! Tests on roles, kinds of methods and statuses.
 ghost use Rattle.std.specs.Prelude.{◌≡◌};
-ghost use Rattle.rpc_journal.specs.Marks.{is_server, is_unary, streams_down, streams_out, streams_up};
+ghost use Rattle.rpc_journal.specs.Kinds.{is_okay, is_server, is_unary, streams_down, streams_out, streams_up};
 
-use rpc_ids::{Kind, Role};
+use rpc_ids::{Kind, Role, Status};
 
 /// Whether this is the end that answers calls.
 pub fn is_server(role: Role) -> bool
@@ -51,5 +51,15 @@ pub fn streams_out(role: Role, kind: Kind) -> bool
     match role {
         Role::Server => streams_down(kind),
         Role::Client => streams_up(kind),
+    }
+}
+
+/// Whether the status is `OK`.
+pub fn is_okay(status: Status) -> bool
+    ensures { result ≡ is_okay status }
+{
+    match status {
+        Status::Okay => true,
+        _ => false,
     }
 }

@@ -3,17 +3,15 @@ ghost use Rattle.std.specs.Prelude.{◌≡◌, ◌+◌, ◌<◌, List, length, I
 ghost use Rattle.rpc_journal.specs.declared.setting.Setting.{Setting};
 ghost use Rattle.rpc_journal.specs.Effect.{Deed};
 ghost use Rattle.rpc_journal.specs.Faults.{IsAllowedNext, IsFirstFault, IsSettingOf};
-ghost use Rattle.rpc_journal.specs.History.{tell};
+ghost use Rattle.rpc_journal.specs.History.{deeds_with};
 ghost use Rattle.rpc_journal.specs.Lawful.{IsLawful, broken};
-ghost use Rattle.rpc_journal.specs.Tells.{Tells};
+ghost use Rattle.rpc_journal.specs.table.Agrees.{Agrees};
 
-use crate::arrival_move::move_at;
-use crate::call_state::CallState;
-use crate::call_states::CallStates;
 use crate::entry::{Entry, EntryKind};
 use crate::fault::Fault;
 use crate::journal::Journal;
 use crate::judge::broken_rule;
+use crate::table::{CallState, CallStates, move_at};
 use rpc_channel::Channels;
 use rpc_handlers::MAX_ANSWER_ITEMS;
 use rpc_ids::{Registry, Role};
@@ -49,7 +47,7 @@ pub fn check(
     Ok(None)
 }
 
-/// Lets a table that tells of a history tell of it with one more entry, which an endpoint of this role with these
+/// Lets a table that agrees with a history agree with it and one more entry, which an endpoint of this role with these
 /// channels and methods allows. The entry is at this place.
 pub fn follow(
     states: &mut CallStates,
@@ -61,7 +59,7 @@ pub fn follow(
     registry: &Registry,
 ) -> Result<(), AllocError>
     requires { IsAllowedNext states.old entry.now role channels.now registry.now }
-    ensures { OnOk result ((set : Setting) (ds : List Deed) → IsSettingOf set role channels.now registry.now → at ≡ length ds → broken set ds entry.now ≡ None → Tells ds states.old → Tells (tell set ds entry.now) states.new) }
+    ensures { OnOk result ((set : Setting) (ds : List Deed) → IsSettingOf set role channels.now registry.now → at ≡ length ds → broken set ds entry.now ≡ None → Agrees ds states.old → Agrees (deeds_with set ds entry.now) states.new) }
 {
     match &entry.kind {
         EntryKind::Arrive(p) => {

@@ -7,7 +7,7 @@ use Rattle.rpc_journal.specs.Effect.{Deed}
 use Rattle.rpc_journal.specs.Faults.{IsFirstFault, IsSettingOf}
 use Rattle.rpc_journal.specs.History.{history}
 use Rattle.rpc_journal.specs.Lawful.{IsLawful}
-use Rattle.rpc_journal.specs.Tells.{Tells}
+use Rattle.rpc_journal.specs.table.Agrees.{Agrees}
 use Rattle.rpc_journal.proofs.VerdictLemmas.{faulty, history_next, its_place, lawful_next, take_all}
 use Rattle.rpc_journal.proofs.verdict.check.Goals as goal
 
@@ -17,7 +17,7 @@ returns-in-Some-clause-fault c = λ set is.
       entry = c.unwrap-entry.result.now;
       there = sym c.get.ensures ∙ ap option_copied c.unwrap-entry.ensures;
       before = c.loop-at.invariant.lawful set is;
-      breaks = sym (c.in-Some.ensures set (history set (take c.loop-at.at c.args.journal.now.entries)) is (c.loop-at.invariant.tells set is));
+      breaks = sym (c.in-Some.ensures set (history set (take c.loop-at.at c.args.journal.now.entries)) is (c.loop-at.invariant.agrees set is));
     }
 
 pub returns-in-Some-clause-lawful : goal.returns-in-Some-clause-lawful
@@ -27,7 +27,7 @@ returns-in-Some-clause-lawful c = λ set is.
       entry = c.unwrap-entry.result.now;
       there = sym c.get.ensures ∙ ap option_copied c.unwrap-entry.ensures;
       before = c.loop-at.invariant.lawful set is;
-      breaks = sym (c.in-Some.ensures set (history set (take c.loop-at.at c.args.journal.now.entries)) is (c.loop-at.invariant.tells set is));
+      breaks = sym (c.in-Some.ensures set (history set (take c.loop-at.at c.args.journal.now.entries)) is (c.loop-at.invariant.agrees set is));
     } in
     ((λ h. absurd (true≢false h)), (λ lawful. absurd (faulty set c.args.journal.now.entries _ first lawful)))
 
@@ -40,8 +40,8 @@ follow-requires c =
       set = set;
       past = past;
       setting = is;
-      tells = c.loop-at.invariant.tells set is;
-      allowed = sym (c.in_default.ensures set past is (c.loop-at.invariant.tells set is));
+      agrees = c.loop-at.invariant.agrees set is;
+      allowed = sym (c.in_default.ensures set past is (c.loop-at.invariant.agrees set is));
     }
 
 pub loop-at-preserved : goal.loop-at-preserved
@@ -52,13 +52,13 @@ loop-at-preserved c =
       count = c.loop-at.invariant.count;
       lawful = λ set is.
           lawful_next set c.args.journal.now.entries c.loop-at.at c.unwrap-entry.result.now there (c.loop-at.invariant.lawful set is)
-          (sym (c.in_default.ensures set _ is (c.loop-at.invariant.tells set is)));
-      tells = λ set is.
-          subst (λ ds. Tells ds c.follow.new.states) (sym (history_next set c.args.journal.now.entries c.loop-at.at c.unwrap-entry.result.now there))
+          (sym (c.in_default.ensures set _ is (c.loop-at.invariant.agrees set is)));
+      agrees = λ set is.
+          subst (λ ds. Agrees ds c.follow.new.states) (sym (history_next set c.args.journal.now.entries c.loop-at.at c.unwrap-entry.result.now there))
           (c.in_ok-follow.ensures set (history set (take c.loop-at.at c.args.journal.now.entries)) is
           (its_place set c.args.journal.now.entries c.loop-at.at (omega (arith, c.loop-at.invariant.count)))
-          (sym (c.in_default.ensures set _ is (c.loop-at.invariant.tells set is)))
-          (c.loop-at.invariant.tells set is));
+          (sym (c.in_default.ensures set _ is (c.loop-at.invariant.agrees set is)))
+          (c.loop-at.invariant.agrees set is));
     }
 
 pub returns-clause-lawful : goal.returns-clause-lawful

@@ -4,12 +4,12 @@ use Rattle.rpc_journal.specs.declared.setting.Setting.{Setting}
 use Rattle.rpc_journal.specs.Faults.{IsSettingOf}
 use Rattle.rpc_journal.specs.History.{history}
 use Rattle.rpc_journal.specs.Lawful.{IsLawful}
-use Rattle.rpc_journal.specs.Tells.{Tells}
+use Rattle.rpc_journal.specs.table.Agrees.{Agrees}
 use Rattle.rpc_journal.proofs.verdict.check.Given as goal
 
 abbrev pub invariant-loop-at : goal.invariant-loop-at
 invariant-loop-at l = record {
   count : l.count ≡ length l.journal.entries;
   lawful : (set : Setting) → IsSettingOf set l.role l.channels l.registry → IsLawful set (take l.at l.journal.entries);
-  tells : (set : Setting) → IsSettingOf set l.role l.channels l.registry → Tells (history set (take l.at l.journal.entries)) l.states;
+  agrees : (set : Setting) → IsSettingOf set l.role l.channels l.registry → Agrees (history set (take l.at l.journal.entries)) l.states;
 }

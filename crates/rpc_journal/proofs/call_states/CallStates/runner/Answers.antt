@@ -1,9 +1,0 @@
-use Rattle.std.proofs.Common.{Some, None, sym}
-use Rattle.rpc_journal.proofs.KnownStates.{run_known}
-use Rattle.rpc_journal.proofs.call_states.CallStates.runner.Goals as goal
-
-pub returns-in-Some : goal.returns-in-Some
-returns-in-Some c = λ ds tells. sym (run_known ds _ c.args.call (Some c.in-Some.state.now) tells.calls (sym c.in-Some.ensures))
-
-pub returns-in-None : goal.returns-in-None
-returns-in-None c = λ ds tells. sym (run_known ds _ c.args.call None tells.calls (sym c.in-None.ensures))
