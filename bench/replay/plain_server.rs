@@ -4,6 +4,7 @@
 //! plain_server report|raw < recording          serves a recorded stream
 //! plain_server load N SEED                      serves a stream made from a number, and prints its four lines
 //! plain_server recording echo N | load N SEED   writes such a stream
+//! plain_server recording open N                 writes one that leaves N calls of Chat open
 use std::collections::HashMap;
 use std::io::{self, Read, Write};
 
@@ -463,6 +464,15 @@ fn echo_recording(n: u32) -> Vec<u8> {
     out
 }
 
+fn open_recording(n: u32) -> Vec<u8> {
+    let crc = Crc::new();
+    let mut out = Vec::new();
+    for i in 0..n {
+        put_frame(&crc, &mut out, &demo_packet(REQUEST, "Chat", i + 1, &[]));
+    }
+    out
+}
+
 fn load_recording(n: u32, seed: u64) -> Vec<u8> {
     let crc = Crc::new();
     let mut out = Vec::new();
@@ -495,6 +505,7 @@ fn main() -> io::Result<()> {
     let mut server = Server::new();
     let out = match words[..] {
         ["recording", "echo", n] => echo_recording(n.parse().unwrap()),
+        ["recording", "open", n] => open_recording(n.parse().unwrap()),
         ["recording", "load", n, seed] => load_recording(n.parse().unwrap(), seed.parse().unwrap()),
         ["load", n, seed] => {
             server.feed(&load_recording(n.parse().unwrap(), seed.parse().unwrap()));

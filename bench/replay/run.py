@@ -3,14 +3,14 @@
 
 Builds bench/replay/plain_server.rs with rustc, and the program crates/pw_main with rt (proved, by LLVM).
 
-run.py            the measured table: load, a recording of 100,000 Echo calls, and how load grows
+run.py            the measured table: load, recordings of 100,000 Echo calls and of calls left open, and how both grow
 run.py compare N  N recordings with damage, repeated names and all packet types; the two must write the same
 """
 import os
 import random
+import resource
 import subprocess
 import sys
-import time
 import zlib
 
 HERE = os.path.dirname(os.path.abspath(__file__))
@@ -34,12 +34,18 @@ def written(command, recording=b""):
     return subprocess.run(command, input=recording, check=True, capture_output=True).stdout
 
 
+# The processor time of the commands that have ended, so that other work on the machine counts for little.
+def spent():
+    usage = resource.getrusage(resource.RUSAGE_CHILDREN)
+    return usage.ru_utime + usage.ru_stime
+
+
 def seconds(command, recording=b""):
     times = []
-    for _ in range(3):
-        start = time.monotonic()
+    for _ in range(5):
+        start = spent()
         out = written(command, recording)
-        times.append(time.monotonic() - start)
+        times.append(spent() - start)
         if times[-1] > 10:
             break
     return min(times), out
@@ -55,14 +61,19 @@ def measured(what, ours, plain, recording=b""):
 
 
 def table(program, plain):
-    print(f"{os.cpu_count()} processors, seconds, best of 3 (of 1 where a run takes more than 10)")
+    print(f"{os.cpu_count()} processors, seconds of processor time, best of 5 (of 1 where a run takes more than 10)")
     print("| what | this program | plain Rust | ratio |")
     print("|---|---|---|---|")
     echo = written([plain, "recording", "echo", "100000"])
     measured("`replay raw`, 100,000 Echo calls", [program, "replay", "raw"], [plain, "raw"], echo)
+    spans = []
+    for n in ("10000", "30000"):
+        left_open = written([plain, "recording", "open", n])
+        spans.append(measured(f"`replay raw`, {n} calls of Chat left open", [program, "replay", "raw"], [plain, "raw"], left_open))
     times = []
     for n in ("7500", "15000", "30000"):
         times.append(measured(f"`load {n} 7`", [program, "load", n, "7"], [plain, "load", n, "7"]))
+    print(f"three times as many calls left open take {spans[1] / spans[0]:.2f} times as long")
     print(f"load grows by {times[1] / times[0]:.2f} and {times[2] / times[1]:.2f} where its calls double")
 
 

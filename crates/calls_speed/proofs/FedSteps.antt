@@ -11,10 +11,10 @@ use Rattle.rpc_journal.specs.declared.entry.EntryKind.{EntryKind}
 use Rattle.rpc_journal.specs.declared.entry.EntryKind.TheVariants.{Arrive, Start, Finish, Flush}
 use Rattle.rpc_journal.specs.declared.item.Item.{Item}
 use Rattle.rpc_journal.specs.Changes.{ArriveDid, StartDid, FinishDid, FlushDid}
-use Rattle.rpc_journal.specs.History.{history, tell, entry_by, adding}
+use Rattle.rpc_journal.specs.History.{history, deeds_with, entry_by, adding}
 use Rattle.rpc_journal.specs.Items.{input_ended, is_end_in}
 use Rattle.rpc_journal.specs.Runs.{Run, IsRunning}
-use Rattle.rpc_journal.specs.Table.{Table}
+use Rattle.rpc_journal.specs.CallTable.{Table}
 use Rattle.rpc_journal.proofs.ChangeLemmas.{begun_runs}
 use Rattle.rpc_journal.proofs.Push.{history-push}
 use Rattle.calls_speed.specs.Fed.{IsFed, bare_seed}
@@ -32,7 +32,7 @@ fed_same t u same none fed = record {
 fed_after : (t u : Table) (seat : ℕ) (kind : EntryKind) → u.setting ≡ t.setting → u.entries ≡ adding t.entries seat kind
     → is_end_in kind ≡ false → IsFed t → IsFed u
 fed_after t u seat kind same adds goes_on fed =
-    let later : history u.setting u.entries ≡ tell t.setting (history t.setting t.entries) (entry_by seat kind) =
+    let later : history u.setting u.entries ≡ deeds_with t.setting (history t.setting t.entries) (entry_by seat kind) =
     ap (λ s. history s u.entries) same ∙ ap (history t.setting) adds ∙ history-push t.setting t.entries (entry_by seat kind) in
     record {
       role = ap (λ s. s.role) same ∙ fed.role;

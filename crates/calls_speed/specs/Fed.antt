@@ -4,7 +4,7 @@ use Rattle.demo_services.specs.Transfer.{demo_seed}
 use Rattle.rpc_handlers.specs.declared.event.Memo.{Memo}
 use Rattle.rpc_ids.specs.declared.method.Role.TheVariants.{Server}
 use Rattle.rpc_journal.specs.Conditions.{IsInputOpen}
-use Rattle.rpc_journal.specs.Table.{Table}
+use Rattle.rpc_journal.specs.CallTable.{Table}
 
 -- the seed of a maker with an empty shelf
 abbrev pub bare_seed : Memo

@@ -1,5 +1,5 @@
 -- A table over arrivals.
-use Rattle.std.proofs.Common.{◌≡◌, ◌≢◌, ◌⊎◌, inl, inr, ℕ, ◌+◌, ◌<◌, ◌≤◌, ◌^◌, Bool, true, false, not, ◌||◌, List, [], ◌∷◌, ◌++◌, length, slice_get, Option, Some, None, Ok, is_some, if◌then◌else◌, refl, ap, sym, ◌∙◌, subst, arith, eq-eqb, ne_eqb, length-append}
+use Rattle.std.proofs.Common.{◌≡◌, ◌≢◌, ◌⊎◌, inl, inr, ℕ, ◌+◌, ◌<◌, ◌≤◌, ◌^◌, true, false, List, [], ◌∷◌, ◌++◌, length, slice_get, Option, Some, None, Ok, refl, ap, sym, ◌∙◌, subst, arith, eq-eqb, ne_eqb, length-append}
 use Rattle.std.proofs.lemmas.Bool.{false≢true}
 use Rattle.std.proofs.lemmas.List.{append-nil}
 use Rattle.std.specs.VecDeque.{deque_capacity}
@@ -10,8 +10,8 @@ use Rattle.rpc_handlers.specs.declared.event.Event.{Event}
 use Rattle.rpc_handlers.specs.declared.event.Memo.{Memo}
 use Rattle.rpc_handlers.specs.HandlerRule.{HandlerRule}
 use Rattle.rpc_journal.specs.declared.answers.Arrived.{Arrived}
-use Rattle.rpc_journal.specs.declared.call_state.CallState.{CallState}
-use Rattle.rpc_journal.specs.declared.call_states.CallStates.{CallStates}
+use Rattle.rpc_journal.specs.declared.table.call_state.CallState.{CallState}
+use Rattle.rpc_journal.specs.declared.table.call_states.CallStates.{CallStates}
 use Rattle.rpc_journal.specs.declared.entry.EntryKind.TheVariants.{Arrive}
 use Rattle.rpc_journal.specs.declared.item.Item.{Item}
 use Rattle.rpc_journal.specs.declared.setting.Setting.{Setting}
@@ -19,24 +19,24 @@ use Rattle.rpc_journal.specs.ChangeLaws.{KeepsLegal}
 use Rattle.rpc_journal.specs.Changes.{ArriveDid}
 use Rattle.rpc_journal.specs.Conditions.{IsInputOpen}
 use Rattle.rpc_journal.specs.Effect.{Effect, Deed}
-use Rattle.rpc_journal.specs.History.{history, adding}
+use Rattle.rpc_journal.specs.History.{history, adding, deed_by}
 use Rattle.rpc_journal.specs.Lawful.{IsLegal}
 use Rattle.rpc_journal.specs.Recorded.{Recorded}
-use Rattle.rpc_journal.specs.Rows.{Row, no_effect, ends_and_clears, puts_event, replied, dropped, closed, queued}
-use Rattle.rpc_journal.specs.Touch.{Touch, Touches, untouched, closing, putting, put_at, deed_by}
+use Rattle.rpc_journal.specs.Rows.{Row, no_effect, ends_and_clears, puts_event, replied_row, dropped_row, closed_row, queued_row}
+use Rattle.rpc_journal.specs.table.Touch.{Touch, Touches, untouched, closing, putting}
+use Rattle.rpc_journal.specs.Queues.{put_at}
 use Rattle.rpc_journal.proofs.PlaceLemmas.{get_some}
-use Rattle.rpc_journal.proofs.StepLemmas.{same_or_not}
-use Rattle.rpc_journal.proofs.TableLemmas.{ended_is, some_same}
+use Rattle.rpc_journal.proofs.table.StepLemmas.{same_or_not}
+use Rattle.rpc_journal.proofs.table.TableLemmas.{ended_is}
 use Rattle.rpc_journal.proofs.VerdictLemmas.{history_length}
 use Rattle.std.proofs.lemmas.Option.{slice_get_within}
-use Rattle.rpc_journal.proofs.DeedLemmas.{close_touches, put_touches}
+use Rattle.rpc_journal.proofs.table.DeedLemmas.{close_touches, put_touches}
 use Rattle.rpc_journal.proofs.LegalLemmas.{keeps_legal}
 use Rattle.rpc_calls.specs.Arrivals.{CanTake, IsLiveCall, Took}
-use Rattle.rpc_calls.specs.Marks.{one_if}
 use Rattle.rpc_calls.specs.Places.{ChangesAt}
 use Rattle.rpc_calls.specs.Room.{uncancelled, running, items_owed, HasPlaces}
 use Rattle.rpc_calls.specs.TableHolds.{StandsFor, HasAllRoom, IsTable}
-use Rattle.rpc_journal.specs.Turns.{Turns}
+use Rattle.rpc_journal.specs.table.Turns.{Turns}
 use Rattle.rpc_calls.proofs.CalmSteps.{none_of, table_after}
 use Rattle.rpc_calls.proofs.CallSteps.{IsCallEntry, stands_none}
 use Rattle.rpc_calls.proofs.FlushSteps.{waits_one}
@@ -52,7 +52,7 @@ drop_touches : (seat : ℕ) (p : Packet) (c : ℕ) → Touches (deed_by seat (Ar
 drop_touches seat p c = record { starts = refl; finishes = refl; cancels = refl; completes = refl; ends = refl; clears = refl; puts = refl; alone = λ h. absurd (false≢true h) }
 
 -- a reply of no call
-reply_touches : (seat : ℕ) (ptype : PacketType) (p : Packet) (s : Status) (c : ℕ) → Touches (deed_by seat (Arrive p) (replied ptype p s).does) c untouched
+reply_touches : (seat : ℕ) (ptype : PacketType) (p : Packet) (s : Status) (c : ℕ) → Touches (deed_by seat (Arrive p) (replied_row ptype p s).does) c untouched
 reply_touches seat ptype p s c = record { starts = refl; finishes = refl; cancels = refl; completes = refl; ends = refl; clears = refl; puts = refl; alone = λ h. absurd (false≢true h) }
 
 close_one : (seat c : ℕ) (p : Packet) (s : Status) → TouchesOne (deed_by seat (Arrive p) (ends_and_clears c s)) c (closing s)
@@ -97,13 +97,13 @@ module _ {H : Type 0} (now : H → Memo) (can_act : H → Type 0) (rule : Handle
       }
 
   pub arrives_dropped : (recorded after : Recorded) (seat : ℕ) (p : Packet) (states : CallStates) (handlers : List (Option H)) (items items' : List Item) (capacity capacity' spare : ℕ)
-      → IsTable now can_act rule set recorded states handlers items capacity → CanTake set recorded.entries seat p dropped → items' ≡ items
+      → IsTable now can_act rule set recorded states handlers items capacity → CanTake set recorded.entries seat p dropped_row → items' ≡ items
       → after.entries ≡ adding recorded.entries seat (Arrive p) → after.spare + 1 ≡ spare
       → length items + items_owed states.calls.items + 0 ≤ capacity'
       → length items + items_owed states.calls.items + 0 + (uncancelled states.calls.items + running states.calls.items + 2) + 1 ≤ spare
-      → Arrives recorded after seat p dropped.answer states handlers items' capacity'
+      → Arrives recorded after seat p dropped_row.answer states handlers items' capacity'
   arrives_dropped recorded after seat p states handlers items items' capacity capacity' spare is can same adds spent places records =
-      table_arrived recorded after seat p dropped states handlers items' capacity' is.legal can adds
+      table_arrived recorded after seat p dropped_row states handlers items' capacity' is.legal can adds
       (stands_none now can_act rule set (history set recorded.entries) (deed_by seat (Arrive p) no_effect) states states handlers items items' is.stands
       (arrive_entry seat p no_effect) (drop_touches seat p) refl refl
       (record { says = same ∙ sym (append-nil items); unflushed = counted; input = refl; halt = refl; closed = refl }) refl (λ k. refl))
@@ -114,20 +114,20 @@ module _ {H : Type 0} (now : H → Memo) (can_act : H → Type 0) (rule : Handle
       counted = sym (waits_one now can_act rule set recorded states handlers items capacity is) ∙ ap length (sym same)
 
   pub arrives_replied : (recorded after : Recorded) (seat : ℕ) (ptype : PacketType) (p : Packet) (s : Status) (states later : CallStates) (handlers : List (Option H)) (items items' : List Item) (capacity capacity' spare : ℕ)
-      → IsTable now can_act rule set recorded states handlers items capacity → CanTake set recorded.entries seat p (replied ptype p s)
-      → items' ≡ items ++ (replied ptype p s).does.says → later.calls.items ≡ states.calls.items → later.unflushed ≡ length items'
+      → IsTable now can_act rule set recorded states handlers items capacity → CanTake set recorded.entries seat p (replied_row ptype p s)
+      → items' ≡ items ++ (replied_row ptype p s).does.says → later.calls.items ≡ states.calls.items → later.unflushed ≡ length items'
       → later.input_ended ≡ states.input_ended → later.halted ≡ states.halted → later.newest ≡ states.newest → later.closed.items ≡ states.closed.items
       → after.entries ≡ adding recorded.entries seat (Arrive p) → after.spare + 1 ≡ spare
       → length items + items_owed states.calls.items + 1 ≤ capacity'
       → length items + items_owed states.calls.items + 1 + (uncancelled states.calls.items + running states.calls.items + 2) + 1 ≤ spare
-      → Arrives recorded after seat p (replied ptype p s).answer later handlers items' capacity'
+      → Arrives recorded after seat p (replied_row ptype p s).answer later handlers items' capacity'
   arrives_replied recorded after seat ptype p s states later handlers items items' capacity capacity' spare is can says same counted input halt newest chans adds spent places records =
-      table_arrived recorded after seat p (replied ptype p s) later handlers items' capacity' is.legal can adds
-      (stands_none now can_act rule set (history set recorded.entries) (deed_by seat (Arrive p) (replied ptype p s).does) states later handlers items items' is.stands
-      (arrive_entry seat p (replied ptype p s).does) (reply_touches seat ptype p s) refl same
+      table_arrived recorded after seat p (replied_row ptype p s) later handlers items' capacity' is.legal can adds
+      (stands_none now can_act rule set (history set recorded.entries) (deed_by seat (Arrive p) (replied_row ptype p s).does) states later handlers items items' is.stands
+      (arrive_entry seat p (replied_row ptype p s).does) (reply_touches seat ptype p s) refl same
       (record { says = says; unflushed = counted; input = input; halt = halt; closed = chans }) newest (λ k. refl))
       (room_grown states later items items' 1 after.spare capacity' (ap uncancelled same) (ap running same)
-      (ap length says ∙ length-append items (replied ptype p s).does.says)
+      (ap length says ∙ length-append items (replied_row ptype p s).does.says)
       (subst (λ b. HasPlaces later.calls.items b) (sym input) (subst (λ cs. HasPlaces cs states.input_ended) (sym same) is.room.places))
       (subst (λ cs. length cs < 2 ^ 32) (sym same) is.room.few) places
       (subst (λ n. length items + items_owed states.calls.items + 1 + (uncancelled states.calls.items + running states.calls.items + 2) + 1 ≤ n) (sym spent) records))
@@ -222,33 +222,33 @@ module _ {H : Type 0} (now : H → Memo) (can_act : H → Type 0) (rule : Handle
   pub live_status : (ds : List Deed) (states : CallStates) (handlers : List (Option H)) (items : List Item) (c : ℕ) (r : CallState)
       → StandsFor now can_act rule set ds states handlers items → IsLiveCall ds c → slice_get states.calls.items c ≡ Some r → r.status ≡ None
   live_status ds states handlers items c r stands live is =
-      none_of r.status (sym (ended_is ds c r (stands.tells.calls.each c r is)) ∙ live.live)
+      none_of r.status (sym (ended_is ds c r (stands.agrees.calls.each c r is)) ∙ live.live)
 
   pub live_place : (recorded : Recorded) (states : CallStates) (handlers : List (Option H)) (items : List Item) (capacity seat c : ℕ) (r : CallState)
       → IsTable now can_act rule set recorded states handlers items capacity → IsInputOpen set recorded.entries seat → IsLiveCall (history set recorded.entries) c
       → slice_get states.calls.items c ≡ Some r → 0 < deque_capacity r.waiting
   live_place recorded states handlers items capacity seat c r is input live there =
-      omega (arith, is.room.places.free c r there (live_status (history set recorded.entries) states handlers items c r is.stands live there) (is.stands.tells.input ∙ input.not_ended))
+      omega (arith, is.room.places.free c r there (live_status (history set recorded.entries) states handlers items c r is.stands live there) (is.stands.agrees.input ∙ input.not_ended))
 
   pub arrives_closed : (recorded after : Recorded) (seat c at : ℕ) (p : Packet) (s : Status) (states later : CallStates) (handlers : List (Option H)) (items items' : List Item) (capacity capacity' spare : ℕ)
-      → IsTable now can_act rule set recorded states handlers items capacity → CanTake set recorded.entries seat p (closed c (ends_and_clears c s))
+      → IsTable now can_act rule set recorded states handlers items capacity → CanTake set recorded.entries seat p (closed_row c (ends_and_clears c s))
       → IsLiveCall (history set recorded.entries) c → at ≡ length recorded.entries
       → ChangesAt c (Turns at (closing s)) states.calls.items later.calls.items
       → later.unflushed ≡ states.unflushed → later.input_ended ≡ states.input_ended → later.halted ≡ states.halted → later.newest ≡ states.newest → later.closed.items ≡ states.closed.items → items' ≡ items
       → after.entries ≡ adding recorded.entries seat (Arrive p) → after.spare + 1 ≡ spare
       → length items + items_owed states.calls.items + 0 ≤ capacity'
       → length items + items_owed states.calls.items + 0 + (uncancelled states.calls.items + running states.calls.items + 2) + 1 ≤ spare
-      → Arrives now can_act rule set recorded after seat p (closed c (ends_and_clears c s)).answer later handlers items' capacity'
+      → Arrives now can_act rule set recorded after seat p (closed_row c (ends_and_clears c s)).answer later handlers items' capacity'
   arrives_closed recorded after seat c at p s states later handlers items items' capacity capacity' spare is can live place changes unflushed input halt newest chans same adds spent places records =
-      let row = get_some states.calls.items c (omega (arith, live.below, is.stands.tells.calls.many)) in
+      let row = get_some states.calls.items c (omega (arith, live.below, is.stands.agrees.calls.many)) in
       let unended = live_status (history set recorded.entries) states handlers items c row.0 is.stands live row.1 in
       let turned = subst (λ n. ChangesAt c (Turns n (closing s)) states.calls.items later.calls.items) (place ∙ sym (history_length set recorded.entries)) changes in
-      arrives_silent now can_act rule set recorded after seat c p (closing s) (closed c (ends_and_clears c s)) states later handlers items items' row.0 capacity capacity' spare is can
+      arrives_silent now can_act rule set recorded after seat c p (closing s) (closed_row c (ends_and_clears c s)) states later handlers items items' row.0 capacity capacity' spare is can
       (close_one seat c p s) refl row.1 (record { unstarted = refl; unfinished = refl; put_open = λ h. unended }) refl turned unflushed input halt newest chans
       (places_closed at c s states later row.0 row.1 changes input is.room.places) same adds spent places records
 
   pub arrives_put : (recorded after : Recorded) (seat c at : ℕ) (p : Packet) (event : Event) (states later : CallStates) (handlers : List (Option H)) (items items' : List Item) (capacity capacity' spare : ℕ)
-      → IsTable now can_act rule set recorded states handlers items capacity → CanTake set recorded.entries seat p (queued c event)
+      → IsTable now can_act rule set recorded states handlers items capacity → CanTake set recorded.entries seat p (queued_row c event)
       → IsLiveCall (history set recorded.entries) c → at ≡ length recorded.entries
       → ((r : CallState) → slice_get states.calls.items c ≡ Some r → length r.waiting.items + 2 ≤ deque_capacity r.waiting)
       → ChangesAt c (Turns at (putting event)) states.calls.items later.calls.items
@@ -256,11 +256,11 @@ module _ {H : Type 0} (now : H → Memo) (can_act : H → Type 0) (rule : Handle
       → after.entries ≡ adding recorded.entries seat (Arrive p) → after.spare + 1 ≡ spare
       → length items + items_owed states.calls.items + 0 ≤ capacity'
       → length items + items_owed states.calls.items + 0 + (uncancelled states.calls.items + running states.calls.items + 2) + 1 ≤ spare
-      → Arrives now can_act rule set recorded after seat p (queued c event).answer later handlers items' capacity'
+      → Arrives now can_act rule set recorded after seat p (queued_row c event).answer later handlers items' capacity'
   arrives_put recorded after seat c at p event states later handlers items items' capacity capacity' spare is can live place two changes unflushed input halt newest chans same adds spent places records =
-      let row = get_some states.calls.items c (omega (arith, live.below, is.stands.tells.calls.many)) in
+      let row = get_some states.calls.items c (omega (arith, live.below, is.stands.agrees.calls.many)) in
       let unended = live_status (history set recorded.entries) states handlers items c row.0 is.stands live row.1 in
       let turned = subst (λ n. ChangesAt c (Turns n (putting event)) states.calls.items later.calls.items) (place ∙ sym (history_length set recorded.entries)) changes in
-      arrives_silent now can_act rule set recorded after seat c p (putting event) (queued c event) states later handlers items items' row.0 capacity capacity' spare is can
+      arrives_silent now can_act rule set recorded after seat c p (putting event) (queued_row c event) states later handlers items items' row.0 capacity capacity' spare is can
       (put_one seat c p event) refl row.1 (record { unstarted = refl; unfinished = refl; put_open = λ h. unended }) refl turned unflushed input halt newest chans
       (places_put at c event states later row.0 row.1 (two row.0 row.1) changes input is.room.places) same adds spent places records

@@ -8,8 +8,8 @@ use Rattle.rpc_ids.specs.declared.status.Status.TheVariants.{Cancelled}
 use Rattle.rpc_packet.specs.declared.call_name.CallName.{CallName}
 use Rattle.rpc_handlers.specs.declared.event.Memo.{Memo}
 use Rattle.rpc_handlers.specs.HandlerRule.{HandlerRule}
-use Rattle.rpc_journal.specs.declared.call_state.CallState.{CallState}
-use Rattle.rpc_journal.specs.declared.call_states.CallStates.{CallStates}
+use Rattle.rpc_journal.specs.declared.table.call_state.CallState.{CallState}
+use Rattle.rpc_journal.specs.declared.table.call_states.CallStates.{CallStates}
 use Rattle.rpc_journal.specs.declared.entry.EntryKind.TheVariants.{Cancel}
 use Rattle.rpc_journal.specs.declared.item.Item.{Item}
 use Rattle.rpc_journal.specs.declared.setting.Setting.{Setting}
@@ -19,22 +19,22 @@ use Rattle.rpc_journal.specs.Changes.{CancelDid, cancel_answer}
 use Rattle.rpc_journal.specs.Conditions.{IsCall}
 use Rattle.rpc_journal.specs.Effect.{Effect, Deed}
 use Rattle.rpc_journal.specs.Entries.{cancel_effect}
-use Rattle.rpc_journal.specs.History.{history, tell, entry_by, adding}
-use Rattle.rpc_journal.specs.Marks.{or_else}
+use Rattle.rpc_journal.specs.History.{history, deeds_with, entry_by, adding, deed_by}
+use Rattle.rpc_journal.specs.Kinds.{or_else}
 use Rattle.rpc_journal.specs.Recorded.{Recorded}
-use Rattle.rpc_journal.specs.Tells.{TellsOf, TellsCalls}
-use Rattle.rpc_journal.specs.Touch.{cancelling, deed_by}
-use Rattle.rpc_journal.proofs.FinishLemmas.{cancel_one}
+use Rattle.rpc_journal.specs.table.Agrees.{AgreesOn, AgreesOnCalls}
+use Rattle.rpc_journal.specs.table.Touch.{cancelling}
+use Rattle.rpc_journal.proofs.table.FinishLemmas.{cancel_one}
 use Rattle.rpc_journal.proofs.LegalLemmas.{keeps_legal}
-use Rattle.rpc_journal.proofs.PlaceLemmas.{get_some}
-use Rattle.rpc_journal.proofs.TableLemmas.{ended_is, opening_is, some_same}
+use Rattle.rpc_journal.proofs.PlaceLemmas.{get_some, some_same}
+use Rattle.rpc_journal.proofs.table.TableLemmas.{ended_is, opening_is}
 use Rattle.rpc_calls.specs.CancelItems.{cancel_items}
 use Rattle.rpc_calls.specs.Marks.{one_if}
 use Rattle.rpc_calls.specs.Handlers.{is_over, Keeps}
 use Rattle.rpc_calls.specs.Places.{ChangesAt}
 use Rattle.rpc_calls.specs.Room.{uncancelled, running, HasRoom, HasPlaces}
 use Rattle.rpc_calls.specs.TableHolds.{StandsFor, HasAllRoom, IsTable}
-use Rattle.rpc_journal.specs.Turns.{Turns}
+use Rattle.rpc_journal.specs.table.Turns.{Turns}
 use Rattle.rpc_calls.proofs.CallSteps.{IsCallEntry, stands_one}
 use Rattle.rpc_calls.proofs.CalmSteps.{table_after, unopened}
 use Rattle.rpc_calls.proofs.FinishSteps.{touches_one}
@@ -43,11 +43,11 @@ use Rattle.rpc_calls.proofs.PlaceChanges.{count-has}
 use Rattle.rpc_calls.proofs.StepLemmas.{keeps_calm, over_is}
 
 -- what a Cancel adds
-cancel_says : (set : Setting) (ds : List Deed) (c : ℕ) (r : CallState) → TellsOf ds c r
+cancel_says : (set : Setting) (ds : List Deed) (c : ℕ) (r : CallState) → AgreesOn ds c r
     → (cancel_effect set ds c (call_at ds c)).says ≡ cancel_items set.role c r.name (is_some r.status) (is_some r.run)
-cancel_says set ds c r tells =
-    let opening = opening_is ds c r tells in
-    rw (opening.1, ended_is ds c r tells, tells.run) (ap (λ n. cancel_items set.role c n (is_some r.status) (is_some r.run)) opening.2)
+cancel_says set ds c r agrees =
+    let opening = opening_is ds c r agrees in
+    rw (opening.1, ended_is ds c r agrees, agrees.run) (ap (λ n. cancel_items set.role c n (is_some r.status) (is_some r.run)) opening.2)
 
 two_items : (role : Role) (c : ℕ) (name : CallName) (ended runs : Bool) → length (cancel_items role c name ended runs) ≤ 2
 two_items role c name true true = omega arith
@@ -95,12 +95,12 @@ module _ {H : Type 0} (now : H → Memo) (can_act : H → Type 0) (rule : Handle
   pub stands_cancelled : (ds : List Deed) (seat c : ℕ) (states after : CallStates) (handlers later : List (Option H)) (items items' : List Item) (r : CallState) (runs : Bool)
       → StandsFor now can_act rule set ds states handlers items → slice_get states.calls.items c ≡ Some r → runs ≡ is_some r.run
       → CancelsCall set.role c runs states after handlers later items items'
-      → StandsFor now can_act rule set (tell set ds (entry_by seat (Cancel c))) after later items'
+      → StandsFor now can_act rule set (deeds_with set ds (entry_by seat (Cancel c))) after later items'
   stands_cancelled ds seat c states after handlers later items items' r runs stands is ran cancels =
       let d : Deed = deed_by seat (Cancel c) (cancel_effect set ds c (call_at ds c)) in
-      let tells = stands.tells.calls.each c r is in
+      let agrees = stands.agrees.calls.each c r is in
       let there : c < length states.calls.items = slice_get_within states.calls.items c r is in
-      let one = touches_one d c (cancelling r.status) (cancel_one set ds seat c r tells) in
+      let one = touches_one d c (cancelling r.status) (cancel_one set ds seat c r agrees) in
       let changes : ChangesAt c (Turns (length ds) (cancelling r.status)) states.calls.items after.calls.items = record {
         many = (cancels.change (length ds)).many;
         others = (cancels.change (length ds)).others;
@@ -108,7 +108,7 @@ module _ {H : Type 0} (now : H → Memo) (can_act : H → Type 0) (rule : Handle
       } in
       stands_one now can_act rule set ds d c (cancelling r.status) states after handlers later items items' stands (cancel_entry seat c _) one changes there
       (record {
-        says = cancels.says r is ∙ ap (λ xs. items ++ xs) (sym (cancel_says set ds c r tells));
+        says = cancels.says r is ∙ ap (λ xs. items ++ xs) (sym (cancel_says set ds c r agrees));
         unflushed = cancels.unflushed;
         input = cancels.input;
         halt = cancels.halt;
@@ -117,15 +117,15 @@ module _ {H : Type 0} (now : H → Memo) (can_act : H → Type 0) (rule : Handle
       cancels.newest
       (λ k apart. refl) cancels.many cancels.others
       (λ calls slot' slot_is.
-      let slot = get_some handlers c (omega (arith, there, stands.tells.calls.many, stands.keeps.many)) in
+      let slot = get_some handlers c (omega (arith, there, stands.agrees.calls.many, stands.keeps.many)) in
       let it = get_some after.calls.items c (omega (arith, there, changes.many)) in
       let turns = changes.here r it.0 is it.1 in
       let same : (if runs then slot.0 else None) ≡ slot' = some_same _ slot' (sym (cancels.kept slot.0 slot.1) ∙ slot_is) in
       let over : is_over (d ∷ ds) c ≡ true = over_is (d ∷ ds) c it.0 (calls.each c it.0 it.1) ∙ rw (turns.is.cancelled) refl in
-      let calm = keeps_calm now can_act rule set ds d c (cancelling r.status) r it.0 slot.0 tells (calls.each c it.0 it.1) one.here turns.is
+      let calm = keeps_calm now can_act rule set ds d c (cancelling r.status) r it.0 slot.0 agrees (calls.each c it.0 it.1) one.here turns.is
       (record { unstarted = refl; unfinished = refl; put_open = λ h. absurd (true≢false h) }) refl (unopened ds d c one.unopened) (stands.keeps.each c slot.0 slot.1) in
       subst (λ s. Keeps now can_act rule set (d ∷ ds) c (runner_of (d ∷ ds) c) s) same
-      (at r.run tells.run runs ran slot.0 over calm))
+      (at r.run agrees.run runs ran slot.0 over calm))
     where
       at : (run : Option ℕ) → runner_of ds c ≡ run → (b : Bool) → b ≡ is_some run → (slot : Option H)
           → is_over (deed_by seat (Cancel c) (cancel_effect set ds c (call_at ds c)) ∷ ds) c ≡ true
@@ -144,12 +144,12 @@ module _ {H : Type 0} (now : H → Memo) (can_act : H → Type 0) (rule : Handle
       → IsTable now can_act rule set after later left items' capacity'
   table_cancelled recorded after seat c states later handlers left items items' runs capacity capacity' is call uncut ran cancels same adds spent =
       let ds : List Deed = history set recorded.entries in
-      let row = get_some states.calls.items c (omega (arith, call.below, is.stands.tells.calls.many)) in
+      let row = get_some states.calls.items c (omega (arith, call.below, is.stands.agrees.calls.many)) in
       let there : c < length states.calls.items = slice_get_within states.calls.items c row.0 row.1 in
       let it = get_some later.calls.items c (omega (arith, there, (cancels.change 0).many)) in
       let turns = (cancels.change 0).here row.0 it.0 row.1 it.1 in
-      let tells = is.stands.tells.calls.each c row.0 row.1 in
-      let fresh : row.0.cancelled ≡ false = sym tells.cancelled ∙ uncut in
+      let agrees = is.stands.agrees.calls.each c row.0 row.1 in
+      let fresh : row.0.cancelled ≡ false = sym agrees.cancelled ∙ uncut in
       let counts = counts_one _ states.calls.items later.calls.items c row.0 it.0 (cancels.change 0) row.1 it.1 in
       let was : one_if (not row.0.cancelled) ≡ 1 = ap (λ b. one_if (not b)) fresh in
       let cut : one_if (not it.0.cancelled) ≡ 0 = ap (λ b. one_if (not b)) turns.is.cancelled in
@@ -179,8 +179,8 @@ cancel_room states items c r spare capacity room is fresh =
     let one : 1 ≤ uncancelled states.calls.items = count-has (λ y. not y.cancelled) states.calls.items c r is (ap not fresh) in
     (omega (arith, room.room.items_fit, one), omega (arith, room.room.entries_fit, one))
 
-pub cut_room : (ds : List Deed) (states : CallStates) (items : List Item) (c spare capacity : ℕ) → TellsCalls ds states.calls.items → HasAllRoom states items spare capacity
+pub cut_room : (ds : List Deed) (states : CallStates) (items : List Item) (c spare capacity : ℕ) → AgreesOnCalls ds states.calls.items → HasAllRoom states items spare capacity
     → c < call_count ds → is_cancelled ds c ≡ false → (length items + 2 ≤ capacity) × (1 ≤ spare)
-cut_room ds states items c spare capacity tells room below uncut =
-    let row = get_some states.calls.items c (omega (arith, below, tells.many)) in
-    cancel_room states items c row.0 spare capacity room row.1 (sym (tells.each c row.0 row.1).cancelled ∙ uncut)
+cut_room ds states items c spare capacity agrees room below uncut =
+    let row = get_some states.calls.items c (omega (arith, below, agrees.many)) in
+    cancel_room states items c row.0 spare capacity room row.1 (sym (agrees.each c row.0 row.1).cancelled ∙ uncut)

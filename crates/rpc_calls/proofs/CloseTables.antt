@@ -1,5 +1,5 @@
 -- A table over the Close of a channel.
-use Rattle.std.proofs.Common.{◌≡◌, ℕ, zero, suc, ◌+◌, ◌<◌, ◌≤◌, Bool, true, false, not, List, [], ◌∷◌, ◌++◌, length, drop, slice_get, count_by, Option, Some, None, Ok, is_some, if◌then◌else◌, refl, ap, sym, ◌∙◌, subst, arith, append_assoc, length-append}
+use Rattle.std.proofs.Common.{◌≡◌, ℕ, zero, suc, ◌+◌, ◌<◌, ◌≤◌, Bool, true, false, not, List, [], ◌∷◌, ◌++◌, length, drop, slice_get, Option, Some, None, Ok, is_some, if◌then◌else◌, refl, ap, sym, ◌∙◌, subst, arith, append_assoc, length-append}
 use Rattle.std.proofs.lemmas.List.{append-nil}
 use Rattle.std.proofs.lemmas.Option.{slice_get_within}
 use Rattle.std.specs.VecDeque.{deque_capacity}
@@ -7,26 +7,26 @@ use Rattle.rpc_ids.specs.declared.method.Role.{Role}
 use Rattle.rpc_ids.specs.declared.status.Status.TheVariants.{Aborted}
 use Rattle.rpc_handlers.specs.declared.event.Memo.{Memo}
 use Rattle.rpc_handlers.specs.HandlerRule.{HandlerRule}
-use Rattle.rpc_journal.specs.declared.call_state.CallState.{CallState}
-use Rattle.rpc_journal.specs.declared.call_states.CallStates.{CallStates}
+use Rattle.rpc_journal.specs.declared.table.call_state.CallState.{CallState}
+use Rattle.rpc_journal.specs.declared.table.call_states.CallStates.{CallStates}
 use Rattle.rpc_journal.specs.declared.entry.EntryKind.TheVariants.{Close}
 use Rattle.rpc_journal.specs.declared.item.Item.{Item}
-use Rattle.rpc_journal.specs.declared.notice.Notice.TheVariants.{ChannelClosed}
+use Rattle.rpc_journal.specs.declared.table.notice.Notice.TheVariants.{ChannelClosed}
 use Rattle.rpc_journal.specs.declared.setting.Setting.{Setting}
 use Rattle.rpc_journal.specs.ChangeLaws.{KeepsLegal}
 use Rattle.rpc_journal.specs.Changes.{CloseDid}
-use Rattle.rpc_journal.specs.Closing.{closing_items, live_on}
+use Rattle.rpc_journal.specs.table.Closing.{closing_items, live_on}
 use Rattle.rpc_journal.specs.Effect.{Deed}
 use Rattle.rpc_journal.specs.Entries.{close_effect, error_type}
 use Rattle.rpc_journal.specs.History.{history, adding}
 use Rattle.rpc_journal.specs.Items.{flush_count, items_sent}
 use Rattle.rpc_journal.specs.Recorded.{Recorded}
 use Rattle.rpc_journal.specs.Refusals.{close_refusal}
-use Rattle.rpc_journal.specs.Rows.{sends, status_packet}
-use Rattle.rpc_journal.specs.Tells.{HasRoomFor, IsToldAll}
-use Rattle.rpc_journal.specs.Touch.{IsTouched, closing, is_told, telling, untouched}
-use Rattle.rpc_journal.specs.Turns.{IsTold}
-use Rattle.rpc_journal.proofs.CloseLemmas.{close_ends, close_says, closing_length, table_closed}
+use Rattle.rpc_journal.specs.Rows.{packet_item, status_packet}
+use Rattle.rpc_journal.specs.table.Agrees.{HasRoomFor, IsToldAll}
+use Rattle.rpc_journal.specs.table.Touch.{IsTouched, closing, is_told, telling, untouched}
+use Rattle.rpc_journal.specs.table.Turns.{IsTold}
+use Rattle.rpc_journal.proofs.table.CloseLemmas.{close_ends, close_says, closing_length, table_closed}
 use Rattle.rpc_journal.proofs.LegalLemmas.{keeps_legal}
 use Rattle.rpc_journal.proofs.PlaceLemmas.{get_some}
 use Rattle.rpc_journal.proofs.VerdictLemmas.{history_length}
@@ -79,11 +79,11 @@ pub record SaidSoFar (role : Role) (channel c capacity : ℕ) (states : List Cal
   pub room : length items + live_on channel (drop c states) ≤ capacity
 
 pub say_next : (role : Role) (channel c capacity capacity' : ℕ) (states : List CallState) (r : CallState) (items items' whole : List Item) → slice_get states c ≡ Some r
-    → items' ≡ items ++ (if is_told (ChannelClosed channel) r then sends c (status_packet (error_type role) r.name Aborted) ∷ [] else [])
+    → items' ≡ items ++ (if is_told (ChannelClosed channel) r then packet_item c (status_packet (error_type role) r.name Aborted) ∷ [] else [])
     → capacity' ≡ capacity → SaidSoFar role channel c capacity states items whole → SaidSoFar role channel (c + 1) capacity' states items' whole
 say_next role channel c capacity capacity' states r items items' whole there more same so_far =
     let from : drop c states ≡ r ∷ drop (c + 1) states = drop_from states c r there in
-    let item : Item = sends c (status_packet (error_type role) r.name Aborted) in
+    let item : Item = packet_item c (status_packet (error_type role) r.name Aborted) in
     let counted : live_on channel (drop c states) ≡ one_if (is_told (ChannelClosed channel) r) + live_on channel (drop (c + 1) states) =
     ap (live_on channel) from ∙ count-cons (is_told (ChannelClosed channel)) r (drop (c + 1) states) in
     record {
@@ -151,17 +151,17 @@ module _ {H : Type 0} (now : H → Memo) (can_act : H → Type 0) (rule : Handle
       omega (arith, ap length says, length-append items (closing_items set.role channel 0 states.calls.items), closing_length set.role channel 0 states.calls.items, many) in
       let more : later.unflushed ≡ states.unflushed + live_on channel states.calls.items =
       omega (arith, counted, grown, many, waits_one now can_act rule set recorded states handlers items capacity is) in
-      let within : flush_count ds ≤ length (items_sent ds) = omega (arith, is.stands.tells.items) in
+      let within : flush_count ds ≤ length (items_sent ds) = omega (arith, is.stands.agrees.items) in
       let did : CloseDid set seat channel (Ok n) recorded.entries after.entries =
-      record { unrefused = unrefused; answer = many ∙ sym (close_ends set.role ds channel states.calls.items is.stands.tells.calls); adds = adds; cause = tt; kept = tt } in
+      record { unrefused = unrefused; answer = many ∙ sym (close_ends set.role ds channel states.calls.items is.stands.agrees.calls); adds = adds; cause = tt; kept = tt } in
       let laws : KeepsLegal H (Unit {0}) = keeps_legal in
       record {
         table = table_after now can_act rule set recorded after seat (Close channel) later handlers items' capacity' adds
             (laws.close_channel rule set seat channel (Ok n) recorded.entries after.entries is.legal did)
             (record {
-              tells = table_closed set ds seat channel states later is.stands.tells told newest chans more input halt;
+              agrees = table_closed set ds seat channel states later is.stands.agrees told newest chans more input halt;
               keeps = notice_keeps now can_act rule set ds seat (ChannelClosed channel) handlers is.stands.keeps;
-              queue = says ∙ ap (λ xs. items ++ xs) (sym (close_says set.role ds channel states.calls.items is.stands.tells.calls))
+              queue = says ∙ ap (λ xs. items ++ xs) (sym (close_says set.role ds channel states.calls.items is.stands.agrees.calls))
                   ∙ queue_grows items (items_sent ds) (close_effect set.role ds channel).says (flush_count ds) within is.stands.queue;
             })
             (room_grown states later items items' n after.spare capacity'

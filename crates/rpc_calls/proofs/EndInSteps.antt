@@ -6,30 +6,30 @@ use Rattle.std.proofs.lemmas.Option.{slice_get_within}
 use Rattle.rpc_channel.specs.Rising.{has_id}
 use Rattle.rpc_handlers.specs.declared.event.Memo.{Memo}
 use Rattle.rpc_handlers.specs.HandlerRule.{HandlerRule}
-use Rattle.rpc_journal.specs.declared.call_states.CallStates.{CallStates}
+use Rattle.rpc_journal.specs.declared.table.call_states.CallStates.{CallStates}
 use Rattle.rpc_journal.specs.declared.entry.EntryKind.TheVariants.{EndIn}
 use Rattle.rpc_journal.specs.declared.item.Item.{Item}
-use Rattle.rpc_journal.specs.declared.notice.Notice.TheVariants.{InputEnded}
+use Rattle.rpc_journal.specs.declared.table.notice.Notice.TheVariants.{InputEnded}
 use Rattle.rpc_journal.specs.declared.setting.Setting.{Setting}
 use Rattle.rpc_journal.specs.Calls.{calls}
 use Rattle.rpc_journal.specs.ChangeLaws.{KeepsLegal}
 use Rattle.rpc_journal.specs.Changes.{EndInDid}
 use Rattle.rpc_journal.specs.Conditions.{IsInputOpen}
 use Rattle.rpc_journal.specs.Effect.{Deed}
-use Rattle.rpc_journal.specs.History.{history, tell, entry_by, adding}
+use Rattle.rpc_journal.specs.History.{history, deeds_with, entry_by, adding}
 use Rattle.rpc_journal.specs.Items.{flush_count, items_sent}
 use Rattle.rpc_journal.specs.Recorded.{Recorded}
-use Rattle.rpc_journal.specs.Tells.{IsToldAll, Tells}
-use Rattle.rpc_journal.specs.Touch.{IsTouched, telling}
-use Rattle.rpc_journal.proofs.NewestLemmas.{newest_kept}
-use Rattle.rpc_journal.proofs.NoticeLemmas.{step_told}
+use Rattle.rpc_journal.specs.table.Agrees.{IsToldAll, Agrees}
+use Rattle.rpc_journal.specs.table.Touch.{IsTouched, telling}
+use Rattle.rpc_journal.proofs.table.NewestLemmas.{newest_kept}
+use Rattle.rpc_journal.proofs.table.NoticeLemmas.{step_told}
 use Rattle.rpc_journal.proofs.PlaceLemmas.{get_some}
 use Rattle.rpc_journal.proofs.VerdictLemmas.{history_length}
 use Rattle.rpc_journal.proofs.LegalLemmas.{keeps_legal}
 use Rattle.rpc_calls.specs.Room.{uncancelled, running, HasRoom}
 use Rattle.rpc_calls.specs.Places.{ChangesAll}
 use Rattle.rpc_calls.specs.TableHolds.{IsTable}
-use Rattle.rpc_journal.specs.Turns.{IsTold}
+use Rattle.rpc_journal.specs.table.Turns.{IsTold}
 use Rattle.rpc_calls.proofs.CalmSteps.{table_after}
 use Rattle.rpc_calls.proofs.NoticeSteps.{notice_deed, notice_keeps, same_counts}
 
@@ -42,32 +42,32 @@ module _ {H : Type 0} (now : H → Memo) (can_act : H → Type 0) (rule : Handle
       → IsTable now can_act rule set after later handlers items capacity
   table_ended recorded after seat at states later handlers items capacity is input place changes unflushed shut kept newest chans adds spent =
       let ds : List Deed = history set recorded.entries in
-      let old = is.stands.tells.calls in
+      let old = is.stands.agrees.calls in
       let told : IsToldAll (length ds) InputEnded states.calls.items later.calls.items =
       record {
         many = changes.many;
         each = λ k r x was later_is. subst (λ n. IsTouched n (telling InputEnded r) r x) (place ∙ sym (history_length set recorded.entries)) (changes.each k r x was later_is).is;
       } in
-      let tells : Tells (tell set ds (entry_by seat EndIn)) later =
+      let agrees : Agrees (deeds_with set ds (entry_by seat EndIn)) later =
       record {
         calls = step_told set.role ds seat EndIn InputEnded states.calls.items later.calls.items (record { start = λ k. refl; finish = λ k. refl; cancel = λ k. refl }) old told;
-        newest = newest_kept ds (notice_deed set.role ds seat InputEnded) states.newest later.newest is.stands.tells.newest refl newest;
-        items = omega (arith, unflushed, is.stands.tells.items, length-append (items_sent ds) []);
+        newest = newest_kept ds (notice_deed set.role ds seat InputEnded) states.newest later.newest is.stands.agrees.newest refl newest;
+        items = omega (arith, unflushed, is.stands.agrees.items, length-append (items_sent ds) []);
         input = shut;
-        closed = λ x. ap (λ xs. has_id xs x) chans ∙ is.stands.tells.closed x;
-        halt = kept ∙ is.stands.tells.halt;
+        closed = λ x. ap (λ xs. has_id xs x) chans ∙ is.stands.agrees.closed x;
+        halt = kept ∙ is.stands.agrees.halt;
       } in
       let sent : items_sent (notice_deed set.role ds seat InputEnded ∷ ds) ≡ items_sent ds = append-nil (items_sent ds) in
       let many : length later.calls.items ≡ length states.calls.items =
-      tells.calls.many ∙ ap length (append-nil (calls ds)) ∙ sym old.many in
+      agrees.calls.many ∙ ap length (append-nil (calls ds)) ∙ sym old.many in
       let going : uncancelled later.calls.items ≡ uncancelled states.calls.items =
       same_counts (λ r. not r.cancelled) states.calls.items later.calls.items many
-      (λ k x y x_is y_is. ap not (sym (tells.calls.each k y y_is).cancelled ∙ (old.each k x x_is).cancelled)) in
+      (λ k x y x_is y_is. ap not (sym (agrees.calls.each k y y_is).cancelled ∙ (old.each k x x_is).cancelled)) in
       let busy : running later.calls.items ≡ running states.calls.items =
       same_counts (λ r. is_some r.run) states.calls.items later.calls.items many
-      (λ k x y x_is y_is. ap is_some (sym (tells.calls.each k y y_is).run ∙ (old.each k x x_is).run)) in
-      let open_now : states.input_ended ≡ false = is.stands.tells.input ∙ input.not_ended in
-      let halted : is_some later.halted ≡ is_some states.halted = ap is_some (tells.halt ∙ sym is.stands.tells.halt) in
+      (λ k x y x_is y_is. ap is_some (sym (agrees.calls.each k y y_is).run ∙ (old.each k x x_is).run)) in
+      let open_now : states.input_ended ≡ false = is.stands.agrees.input ∙ input.not_ended in
+      let halted : is_some later.halted ≡ is_some states.halted = ap is_some (agrees.halt ∙ sym is.stands.agrees.halt) in
       let did : EndInDid seat recorded.entries after.entries = record { adds = adds } in
       let laws : KeepsLegal H (Unit {0}) = keeps_legal in
       let before : HasRoom states.calls.items (length items) false (is_some states.halted) recorded.spare capacity =
@@ -75,7 +75,7 @@ module _ {H : Type 0} (now : H → Memo) (can_act : H → Type 0) (rule : Handle
       table_after now can_act rule set recorded after seat EndIn later handlers items capacity adds
       (laws.end_in rule set seat recorded.entries after.entries is.legal input did)
       (record {
-        tells = tells;
+        agrees = agrees;
         keeps = notice_keeps now can_act rule set ds seat InputEnded handlers is.stands.keeps;
         queue = is.stands.queue ∙ ap (drop (flush_count ds)) (sym sent);
       })
@@ -96,7 +96,7 @@ module _ {H : Type 0} (now : H → Memo) (can_act : H → Type 0) (rule : Handle
   pub end_room : (recorded : Recorded) (seat : ℕ) (states : CallStates) (handlers : List (Option H)) (items : List Item) (capacity : ℕ)
       → IsTable now can_act rule set recorded states handlers items capacity → IsInputOpen set recorded.entries seat → 1 ≤ recorded.spare
   end_room recorded seat states handlers items capacity is input =
-      let open_now : states.input_ended ≡ false = is.stands.tells.input ∙ input.not_ended in
+      let open_now : states.input_ended ≡ false = is.stands.agrees.input ∙ input.not_ended in
       let before : HasRoom states.calls.items (length items) false (is_some states.halted) recorded.spare capacity =
       subst (λ b. HasRoom states.calls.items (length items) b (is_some states.halted) recorded.spare capacity) open_now is.room.room in
       omega (arith, before.entries_fit)

@@ -17,32 +17,32 @@ use Rattle.rpc_handlers.specs.declared.answer.Out.TheVariants.{Say, Begin, Appen
 use Rattle.rpc_handlers.specs.declared.event.Event.{Event}
 use Rattle.rpc_handlers.specs.declared.event.Memo.{Memo}
 use Rattle.rpc_handlers.specs.HandlerRule.{HandlerRule}
-use Rattle.rpc_journal.specs.declared.call_state.CallState.{CallState}
-use Rattle.rpc_journal.specs.declared.call_states.CallStates.{CallStates}
+use Rattle.rpc_journal.specs.declared.table.call_state.CallState.{CallState}
+use Rattle.rpc_journal.specs.declared.table.call_states.CallStates.{CallStates}
 use Rattle.rpc_journal.specs.declared.item.Item.{Item}
 use Rattle.rpc_journal.specs.declared.setting.Setting.{Setting}
 use Rattle.rpc_journal.specs.Calls.{call_at, has_end, is_cancelled, is_replaced}
 use Rattle.rpc_journal.specs.Changes.{is_spent}
 use Rattle.rpc_journal.specs.Effect.{Deed, Opening}
-use Rattle.rpc_journal.specs.Entries.{answer_item, answered, end_effect, finish_effect, leaves, messages_go}
-use Rattle.rpc_journal.specs.Marks.{is_empty, is_okay, is_unary, or_else}
+use Rattle.rpc_journal.specs.Entries.{answer_item, answered, end_effect, finish_effect, leave_item, messages_go}
+use Rattle.rpc_journal.specs.Kinds.{is_empty, is_okay, is_unary, or_else}
 use Rattle.rpc_journal.specs.Queues.{taken_event, waiting_of}
-use Rattle.rpc_journal.specs.Rows.{no_effect, says_item, sends, status_packet}
+use Rattle.rpc_journal.specs.Rows.{no_effect, says_item, packet_item, status_packet}
 use Rattle.rpc_journal.specs.States.{state_before_run}
 use Rattle.rpc_journal.specs.declared.waiting.Waiting.{Waiting}
-use Rattle.rpc_journal.specs.Tells.{TellsOf}
-use Rattle.rpc_journal.specs.Touch.{Touch, end_by, finishing_so, hears_answer}
-use Rattle.rpc_journal.proofs.FinishLemmas.{heard_is}
+use Rattle.rpc_journal.specs.table.Agrees.{AgreesOn}
+use Rattle.rpc_journal.specs.table.Touch.{Touch, end_by, finishing_so, hears_answer, end_given}
+use Rattle.rpc_journal.proofs.table.FinishLemmas.{heard_is}
 use Rattle.rpc_journal.proofs.PlaceLemmas.{get_some}
-use Rattle.rpc_journal.proofs.TableLemmas.{opening_is}
-use Rattle.rpc_journal.proofs.TableSteps as steps
-use Rattle.rpc_calls.specs.AnswerItems.{answer_items, end_given, items_by}
+use Rattle.rpc_journal.proofs.table.TableLemmas.{opening_is}
+use Rattle.rpc_journal.proofs.table.TableSteps as steps
+use Rattle.rpc_calls.specs.AnswerItems.{answer_items, items_by}
 use Rattle.rpc_calls.specs.Marks.{one_if}
 use Rattle.rpc_calls.specs.Handlers.{is_over, over_state, Keeps}
 use Rattle.rpc_calls.specs.Places.{ChangesAt}
 use Rattle.rpc_calls.specs.Room.{uncancelled, running, HasRoom, HasPlaces}
 use Rattle.rpc_calls.specs.TableHolds.{HasAllRoom}
-use Rattle.rpc_journal.specs.Turns.{Turns}
+use Rattle.rpc_journal.specs.table.Turns.{Turns}
 use Rattle.rpc_calls.proofs.KeepLemmas.{keeps_returned, keeps_newer}
 use Rattle.rpc_calls.proofs.OneStep.{TouchesOne, counts_one, places_one}
 use Rattle.rpc_calls.proofs.PlaceChanges.{count-has}
@@ -58,17 +58,17 @@ touches_one d c t one = record {
 }
 
 says_of : (role : Role) (c : ℕ) (o : Opening) (cut heard done : Bool) (a : Answer)
-    → (if cut then says_item (leaves c) else answered role c o heard done a).says ≡ items_by role c o.name o.method.kind cut heard done a.items a.end
+    → (if cut then says_item (leave_item c) else answered role c o heard done a).says ≡ items_by role c o.name o.method.kind cut heard done a.items a.end
 says_of role c o true heard done a = refl
 says_of role c o false false done a = refl
 says_of role c o false true done a = refl
 
 -- what the Finish of a call adds
-pub finish_says : (set : Setting) (ds : List Deed) (c : ℕ) (r : CallState) (a : Answer) → TellsOf ds c r
+pub finish_says : (set : Setting) (ds : List Deed) (c : ℕ) (r : CallState) (a : Answer) → AgreesOn ds c r
     → (finish_effect set ds c a (call_at ds c)).says ≡ answer_items set.role c r a.items a.end
-finish_says set ds c r a tells =
-    let opening = opening_is ds c r tells in
-    rw (opening.1, tells.cancelled, heard_is ds c r tells, tells.done)
+finish_says set ds c r a agrees =
+    let opening = opening_is ds c r agrees in
+    rw (opening.1, agrees.cancelled, heard_is ds c r agrees, agrees.done)
     (says_of set.role c opening.0 r.cancelled (hears_answer r) r.done a
     ∙ ap (λ n. items_by set.role c n opening.0.method.kind r.cancelled (hears_answer r) r.done a.items a.end) opening.2
     ∙ ap (λ (m : MethodRef). items_by set.role c r.name m.kind r.cancelled (hears_answer r) r.done a.items a.end) opening.3)
@@ -88,8 +88,8 @@ few_outs role c name says (out ∷ outs) =
 
 -- of a client's end that is OK or not, where its stream is shut or not
 client_few : (c : ℕ) (name : CallName) (end : End) (okay shut : Bool)
-    → length (if okay then (if shut then no_effect else says_item (sends c (status_packet Completion name Okay)))
-    else record no_effect { ends = (c, end.status) ∷ []; drops = c ∷ []; says = sends c (status_packet ClientError name end.status) ∷ [] }).says ≤ 1
+    → length (if okay then (if shut then no_effect else says_item (packet_item c (status_packet Completion name Okay)))
+    else record no_effect { ends = (c, end.status) ∷ []; drops = c ∷ []; says = packet_item c (status_packet ClientError name end.status) ∷ [] }).says ≤ 1
 client_few c name end true true = omega arith
 client_few c name end true false = omega arith
 client_few c name end false shut = omega arith
@@ -137,11 +137,11 @@ or_swap false true false = refl
 or_swap false false true = refl
 or_swap false false false = refl
 
-pub spent_is : (before after : List Deed) (c : ℕ) (kept : Bool) (x : CallState) → TellsOf after c x → is_replaced before c ≡ kept
+pub spent_is : (before after : List Deed) (c : ℕ) (kept : Bool) (x : CallState) → AgreesOn after c x → is_replaced before c ≡ kept
     → is_spent before after c ≡ (over_state x || kept)
-spent_is before after c kept x tells replaced =
+spent_is before after c kept x agrees replaced =
     or_swap (is_cancelled after c) (is_replaced before c) (has_end after c && is_empty (waiting_of after c))
-    ∙ (rw replaced (ap (λ b. b || kept) (over_is after c x tells)))
+    ∙ (rw replaced (ap (λ b. b || kept) (over_is after c x agrees)))
 
 over_waits : (b : Bool) (n : ℕ) (ws : List Waiting) → length ((if b then [] else ws) ++ []) ≤ length ws
 over_waits true n ws = omega arith

@@ -12,8 +12,8 @@ use Rattle.rpc_handlers.specs.declared.event.Memo.{Memo}
 use Rattle.std.specs.List.{list_any}
 use Rattle.rpc_handlers.specs.Limits.{is_long_out, is_long_end}
 use Rattle.rpc_handlers.specs.HandlerRule.{HandlerRule}
-use Rattle.rpc_journal.specs.declared.call_state.CallState.{CallState}
-use Rattle.rpc_journal.specs.declared.call_states.CallStates.{CallStates}
+use Rattle.rpc_journal.specs.declared.table.call_state.CallState.{CallState}
+use Rattle.rpc_journal.specs.declared.table.call_states.CallStates.{CallStates}
 use Rattle.rpc_journal.specs.declared.entry.EntryKind.TheVariants.{Finish}
 use Rattle.rpc_journal.specs.declared.item.Item.{Item}
 use Rattle.rpc_journal.specs.declared.setting.Setting.{Setting}
@@ -22,38 +22,36 @@ use Rattle.rpc_journal.specs.ChangeLaws.{KeepsLegal}
 use Rattle.rpc_journal.specs.Changes.{FinishDid, is_spent}
 use Rattle.rpc_journal.specs.Effect.{Deed}
 use Rattle.rpc_journal.specs.Entries.{finish_effect}
-use Rattle.rpc_journal.specs.History.{history, tell, entry_by, adding}
+use Rattle.rpc_journal.specs.History.{history, deeds_with, entry_by, adding}
 use Rattle.rpc_journal.specs.Items.{flush_count, items_sent}
 use Rattle.rpc_journal.specs.Queues.{taken_event}
 use Rattle.rpc_journal.specs.Recorded.{Recorded}
 use Rattle.rpc_journal.specs.Runs.{Run, IsRunning, IsAnswerOf}
 use Rattle.rpc_journal.specs.States.{state_before_run}
-use Rattle.rpc_journal.specs.Tells.{TellsOf}
-use Rattle.rpc_journal.specs.Touch.{finishing_so, hears_answer}
-use Rattle.rpc_journal.specs.Touch as touch
-use Rattle.rpc_journal.proofs.FinishLemmas.{finish_so, finish_touches}
+use Rattle.rpc_journal.specs.table.Agrees.{AgreesOn}
+use Rattle.rpc_journal.specs.table.Touch.{finishing_so, hears_answer, completes_given, end_given, items_given}
+use Rattle.rpc_journal.proofs.table.FinishLemmas.{finish_so, finish_touches}
 use Rattle.rpc_journal.proofs.KnownLemmas.{run_known}
 use Rattle.rpc_journal.proofs.LegalLemmas.{keeps_legal}
-use Rattle.rpc_journal.proofs.NewestLemmas.{newest_kept}
-use Rattle.rpc_journal.proofs.PlaceLemmas.{get_some}
+use Rattle.rpc_journal.proofs.table.NewestLemmas.{newest_kept}
+use Rattle.rpc_journal.proofs.PlaceLemmas.{get_some, some_same}
 use Rattle.rpc_journal.proofs.Push.{history-push}
-use Rattle.rpc_journal.proofs.TableLemmas.{some_same}
-use Rattle.rpc_calls.specs.AnswerItems.{answer_items, completes_given, end_given}
+use Rattle.rpc_calls.specs.AnswerItems.{answer_items}
 use Rattle.rpc_calls.specs.Handlers.{over_state, Keeps}
 use Rattle.rpc_calls.specs.Places.{ChangesAt}
 use Rattle.rpc_calls.specs.TableHolds.{StandsFor, IsTable}
-use Rattle.rpc_journal.specs.Turns.{Turns}
+use Rattle.rpc_journal.specs.table.Turns.{Turns}
 use Rattle.rpc_calls.proofs.CalmSteps.{table_after, queue_grows}
 use Rattle.rpc_calls.proofs.FinishSteps.{touches_one, finish_says, few_items, spent_is, room_finished, run_room, keeps_finished}
 use Rattle.rpc_calls.proofs.KeepLemmas.{replaced_is}
-use Rattle.rpc_calls.proofs.OneStep.{TouchesOne, tells_one, keeps_one}
+use Rattle.rpc_calls.proofs.OneStep.{TouchesOne, agrees_one, keeps_one}
 use Rattle.rpc_calls.proofs.StateLemmas.{FinishesHandler}
 use Rattle.rpc_calls.proofs.StepLemmas.{over_is}
 
-finish_one : (set : Setting) (ds : List Deed) (seat c : ℕ) (a : Answer) (r : CallState) → TellsOf ds c r
+finish_one : (set : Setting) (ds : List Deed) (seat c : ℕ) (a : Answer) (r : CallState) → AgreesOn ds c r
     → TouchesOne (record { entry = entry_by seat (Finish c a); does = finish_effect set ds c a (call_at ds c) }) c (finishing_so (end_given set.role r a.end) (completes_given set.role r a.end))
-finish_one set ds seat c a r tells =
-    touches_one _ c _ (finish_touches seat c a (touch.end_given set.role r a) (touch.completes_given set.role r a) (touch.items_given set.role r a) (finish_effect set ds c a (call_at ds c)) (finish_so set.role set ds c r a tells refl))
+finish_one set ds seat c a r agrees =
+    touches_one _ c _ (finish_touches seat c a (end_given set.role r a.end) (completes_given set.role r a.end) (items_given set.role r a) (finish_effect set ds c a (call_at ds c)) (finish_so set.role set ds c r a agrees refl))
 
 -- the states and items of a table change as the Finish says
 pub record EndsRun (role : Role) (c : ℕ) (outs : List Out) (end : Option End) (states after : CallStates) (items items' : List Item) : Type 0 where
@@ -86,18 +84,18 @@ module _ {H : Type 0} (now : H → Memo) (can_act : H → Type 0) (rule : Handle
       → runner_of ds c ≡ Some seat → taken_event ds c ≡ Some event → (IsTrue rule.ruled → state_before_run rule set ds c ≡ Some m)
       → can_act h → (IsTrue rule.ruled → now h ≡ rule.next m event) → EndsRun set.role c a.items a.end states after items items' → over ≡ over_state x
       → PutsBack c h over handlers later result
-      → StandsFor now can_act rule set (tell set ds (entry_by seat (Finish c a))) after later items'
+      → StandsFor now can_act rule set (deeds_with set ds (entry_by seat (Finish c a))) after later items'
   stands_finished ds seat c a event m h states after handlers later items items' r x over result stands is its runs took had able moved ends same puts =
       let d : Deed = record { entry = entry_by seat (Finish c a); does = finish_effect set ds c a (call_at ds c) } in
-      let tells = stands.tells.calls.each c r is in
-      let one = finish_one set ds seat c a r tells in
+      let agrees = stands.agrees.calls.each c r is in
+      let one = finish_one set ds seat c a r agrees in
       let changes = ends.change (length ds) r is in
       let there : c < length states.calls.items = slice_get_within _ _ _ is in
-      let calls = tells_one ds d states.calls.items after.calls.items c _ stands.tells.calls one changes there in
+      let calls = agrees_one ds d states.calls.items after.calls.items c _ stands.agrees.calls one changes there in
       let own : (c == c) ≡ true = eq-eqb c c refl in
       let says : items_sent (d ∷ ds) ≡ items_sent ds ++ answer_items set.role c r a.items a.end =
-      ap (λ xs. items_sent ds ++ xs) (finish_says set ds c r a tells) in
-      let within : flush_count ds ≤ length (items_sent ds) = omega (arith, stands.tells.items) in
+      ap (λ xs. items_sent ds ++ xs) (finish_says set ds c r a agrees) in
+      let within : flush_count ds ≤ length (items_sent ds) = omega (arith, stands.agrees.items) in
       let queue : items' ≡ drop (flush_count ds) (items_sent (d ∷ ds)) =
       ends.says r is ∙ queue_grows items (items_sent ds) _ (flush_count ds) within stands.queue ∙ ap (drop (flush_count ds)) (sym says) in
       let more : length (items_sent ds) ≤ length (items_sent (d ∷ ds)) =
@@ -105,18 +103,18 @@ module _ {H : Type 0} (now : H → Memo) (can_act : H → Type 0) (rule : Handle
       let finishes : FinishesHandler ds d c = record { start = refl; finish = own; replace = refl; opens = ap (λ o. is_some o && (call_count ds == c)) one.unopened } in
       let idle : runner_of (d ∷ ds) c ≡ None = rw own refl in
       record {
-        tells = record {
+        agrees = record {
           calls = calls;
-          newest = newest_kept ds d states.newest after.newest stands.tells.newest one.unopened ends.newest;
+          newest = newest_kept ds d states.newest after.newest stands.agrees.newest one.unopened ends.newest;
           items = omega (arith, ends.unflushed, ap length queue, length-drop (flush_count ds) (items_sent (d ∷ ds)), within, more);
-          input = ends.input ∙ stands.tells.input;
-          closed = λ x. ap (λ xs. has_id xs x) ends.closed ∙ stands.tells.closed x;
-          halt = ends.halt ∙ stands.tells.halt;
+          input = ends.input ∙ stands.agrees.input;
+          closed = λ x. ap (λ xs. has_id xs x) ends.closed ∙ stands.agrees.closed x;
+          halt = ends.halt ∙ stands.agrees.halt;
         };
-        keeps = keeps_one now can_act rule set ds d states.calls.items after.calls.items c _ handlers later stands.tells.calls calls one changes (λ k apart. refl)
+        keeps = keeps_one now can_act rule set ds d states.calls.items after.calls.items c _ handlers later stands.agrees.calls calls one changes (λ k apart. refl)
             stands.keeps puts.many puts.others
             (λ slot' there'.
-            let slot = get_some handlers c (omega (arith, there, stands.tells.calls.many, stands.keeps.many)) in
+            let slot = get_some handlers c (omega (arith, there, stands.agrees.calls.many, stands.keeps.many)) in
             let same' : (if over || is_some slot.0 then slot.0 else Some h) ≡ slot' = some_same _ slot' (sym (puts.kept slot.0 slot.1) ∙ there') in
             let before = subst (λ o. Keeps now can_act rule set ds c o slot.0) runs (stands.keeps.each c slot.0 slot.1) in
             subst (λ s. Keeps now can_act rule set (d ∷ ds) c (runner_of (d ∷ ds) c) s) same'
@@ -140,20 +138,20 @@ module _ {H : Type 0} (now : H → Memo) (can_act : H → Type 0) (rule : Handle
       let ds : List Deed = history set recorded.entries in
       let c : ℕ = run.call in
       let below = run_known set (reverse recorded.entries) c run.seat is.legal.lawful.allowed on.unfinished in
-      let row = get_some states.calls.items c (omega (arith, below, is.stands.tells.calls.many)) in
+      let row = get_some states.calls.items c (omega (arith, below, is.stands.agrees.calls.many)) in
       let changes = ends.change (length ds) row.0 row.1 in
       let it = get_some later.calls.items c (omega (arith, slice_get_within states.calls.items c row.0 row.1, changes.many)) in
-      let tells = is.stands.tells.calls.each c row.0 row.1 in
-      let runs : row.0.run ≡ Some run.seat = sym tells.run ∙ on.unfinished in
+      let agrees = is.stands.agrees.calls.each c row.0 row.1 in
+      let runs : row.0.run ≡ Some run.seat = sym agrees.run ∙ on.unfinished in
       let stands = stands_finished ds run.seat c a run.event run.state h states later handlers left items items' row.0 it.0 over result is.stands row.1 it.1 on.unfinished on.took on.had able moved ends (overs it.0 it.1) puts in
-      let grown : history set after.entries ≡ tell set ds (entry_by run.seat (Finish c a)) = ap (history set) adds ∙ history-push set recorded.entries (entry_by run.seat (Finish c a)) in
+      let grown : history set after.entries ≡ deeds_with set ds (entry_by run.seat (Finish c a)) = ap (history set) adds ∙ history-push set recorded.entries (entry_by run.seat (Finish c a)) in
       let slot = get_some handlers c (omega (arith, below, is.stands.keeps.many)) in
       let replaced = replaced_is now can_act rule set ds c run.seat slot.0 (subst (λ o. Keeps now can_act rule set ds c o slot.0) on.unfinished (is.stands.keeps.each c slot.0 slot.1)) in
       let did : FinishDid set run a h result recorded.entries after.entries = record {
         adds = adds;
         gives_back = puts.back slot.0 slot.1 ∙ ap (λ b. b || is_some slot.0) (overs it.0 it.1)
             ∙ sym (subst (λ es. is_spent ds es c ≡ (over_state it.0 || is_some slot.0)) (sym grown)
-            (spent_is ds _ c (is_some slot.0) it.0 (stands.tells.calls.each c it.0 it.1) replaced));
+            (spent_is ds _ c (is_some slot.0) it.0 (stands.agrees.calls.each c it.0 it.1) replaced));
         the_one = puts.it;
       } in
       let laws : KeepsLegal H (Unit {0}) = keeps_legal in
@@ -205,7 +203,7 @@ module _ {H : Type 0} (now : H → Memo) (can_act : H → Type 0) (rule : Handle
       → (length items + length outs < capacity) × (1 ≤ recorded.spare)
   finish_room recorded run a outs states handlers items capacity is on answers same =
       let below = run_known set (reverse recorded.entries) run.call run.seat is.legal.lawful.allowed on.unfinished in
-      let row = get_some states.calls.items run.call (omega (arith, below, is.stands.tells.calls.many)) in
-      let runs : row.0.run ≡ Some run.seat = sym (is.stands.tells.calls.each run.call row.0 row.1).run ∙ on.unfinished in
+      let row = get_some states.calls.items run.call (omega (arith, below, is.stands.agrees.calls.many)) in
+      let runs : row.0.run ≡ Some run.seat = sym (is.stands.agrees.calls.each run.call row.0 row.1).run ∙ on.unfinished in
       let room = run_room states items run.call run.seat row.0 recorded.spare capacity is.room row.1 runs in
       (omega (arith, room.0, ap length same, short (length a.items) (list_any is_long_out a.items) (is_long_end a.end) answers.limits), room.1)

@@ -4,21 +4,21 @@ use Rattle.std.proofs.lemmas.Bool.{false≢true}
 use Rattle.std.proofs.lemmas.List.{append-nil}
 use Rattle.rpc_handlers.specs.declared.event.Memo.{Memo}
 use Rattle.rpc_handlers.specs.HandlerRule.{HandlerRule}
-use Rattle.rpc_journal.specs.declared.call_states.CallStates.{CallStates}
+use Rattle.rpc_journal.specs.declared.table.call_states.CallStates.{CallStates}
 use Rattle.rpc_journal.specs.declared.entry.EntryKind.TheVariants.{Flush}
 use Rattle.rpc_journal.specs.declared.item.Item.{Item}
 use Rattle.rpc_journal.specs.declared.setting.Setting.{Setting}
 use Rattle.rpc_journal.specs.ChangeLaws.{KeepsLegal}
 use Rattle.rpc_journal.specs.Changes.{FlushDid, NothingToFlush}
 use Rattle.rpc_journal.specs.Effect.{Deed}
-use Rattle.rpc_journal.specs.History.{history, tell, entry_by, adding}
+use Rattle.rpc_journal.specs.History.{history, deeds_with, entry_by, adding}
 use Rattle.rpc_journal.specs.Items.{flush_count, items_sent}
 use Rattle.rpc_journal.specs.Recorded.{Recorded}
 use Rattle.rpc_journal.specs.Rows.{no_effect}
-use Rattle.rpc_journal.specs.Touch.{Touches, untouched}
+use Rattle.rpc_journal.specs.table.Touch.{Touches, untouched}
 use Rattle.rpc_journal.proofs.LegalLemmas.{keeps_legal}
 use Rattle.rpc_calls.specs.TableHolds.{StandsFor, HasAllRoom, IsTable}
-use Rattle.rpc_calls.proofs.StepLemmas.{tells_calm}
+use Rattle.rpc_calls.proofs.StepLemmas.{agrees_calm}
 use Rattle.rpc_calls.proofs.CalmSteps.{TouchesCalmly, untouching, keeps_all_calm, table_after, none_of}
 
 -- the front of what is left
@@ -55,26 +55,26 @@ module _ {H : Type 0} (now : H → Memo) (can_act : H → Type 0) (rule : Handle
 
   pub halted_waits : (ds : List Deed) (states : CallStates) (handlers : List (Option H)) (items : List Item) → StandsFor now can_act rule set ds states handlers items
       → is_some states.halted ≡ true → NothingToFlush ds
-  halted_waits ds states handlers items stands is = inr (sym (ap is_some stands.tells.halt) ∙ is)
+  halted_waits ds states handlers items stands is = inr (sym (ap is_some stands.agrees.halt) ∙ is)
 
   stands_flushed : (ds : List Deed) (seat : ℕ) (states : CallStates) (handlers : List (Option H)) (item : Item) (rest : List Item) (left : ℕ)
       → StandsFor now can_act rule set ds states handlers (item ∷ rest) → left + 1 ≡ states.unflushed
-      → StandsFor now can_act rule set (tell set ds (entry_by seat Flush)) (record states { unflushed = left }) handlers rest
+      → StandsFor now can_act rule set (deeds_with set ds (entry_by seat Flush)) (record states { unflushed = left }) handlers rest
   unfolding flush_deed
   stands_flushed ds seat states handlers item rest left stands less =
       let d : Deed = flush_deed seat in
-      let calls = tells_calm ds d states.calls.items stands.tells.calls (flush_touches seat) refl in
+      let calls = agrees_calm ds d states.calls.items stands.agrees.calls (flush_touches seat) refl in
       let sent : items_sent (d ∷ ds) ≡ items_sent ds = append-nil (items_sent ds) in
       record {
-        tells = record {
+        agrees = record {
           calls = calls;
-          newest = stands.tells.newest;
-          closed = stands.tells.closed;
-          items = omega (arith, stands.tells.items, less, ap length sent);
-          input = stands.tells.input;
-          halt = stands.tells.halt;
+          newest = stands.agrees.newest;
+          closed = stands.agrees.closed;
+          items = omega (arith, stands.agrees.items, less, ap length sent);
+          input = stands.agrees.input;
+          halt = stands.agrees.halt;
         };
-        keeps = keeps_all_calm now can_act rule set ds d states.calls.items states.calls.items handlers stands.tells.calls calls refl
+        keeps = keeps_all_calm now can_act rule set ds d states.calls.items states.calls.items handlers stands.agrees.calls calls refl
             (λ c r x is later. let same : r ≡ x = cc in subst (TouchesCalmly ds d c r) same (untouching ds d c r (flush_touches seat c)))
             (λ c. refl) refl stands.keeps;
         queue = behind (flush_count ds) (items_sent ds) item rest stands.queue ∙ ap (drop (flush_count ds + 1)) (sym sent);
@@ -93,7 +93,7 @@ module _ {H : Type 0} (now : H → Memo) (can_act : H → Type 0) (rule : Handle
       → after.entries ≡ adding recorded.entries seat Flush → FlushDid set seat (Some item) recorded.entries after.entries
   flush_did recorded after seat states handlers item rest capacity is unset adds = record {
     front = front_of (flush_count (history set recorded.entries)) (items_sent (history set recorded.entries)) item rest is.stands.queue;
-    unhalted = sym is.stands.tells.halt ∙ none_of states.halted unset;
+    unhalted = sym is.stands.agrees.halt ∙ none_of states.halted unset;
     adds = adds;
     none = tt;
     kept = tt;
@@ -118,7 +118,7 @@ module _ {H : Type 0} (now : H → Memo) (can_act : H → Type 0) (rule : Handle
       → IsTable now can_act rule set recorded states handlers items capacity → length items ≡ states.unflushed
   waits_one recorded states handlers items capacity is =
       let ds : List Deed = history set recorded.entries in
-      omega (arith, ap length is.stands.queue, length-drop (flush_count ds) (items_sent ds), is.stands.tells.items)
+      omega (arith, ap length is.stands.queue, length-drop (flush_count ds) (items_sent ds), is.stands.agrees.items)
 
   front_table : (recorded : Recorded) (states : CallStates) (handlers : List (Option H)) (items : List Item) (item : Item) (rest : List Item) (capacity : ℕ)
       → IsTable now can_act rule set recorded states handlers items capacity → items ≡ item ∷ rest

@@ -1,65 +1,182 @@
 -- The list of the calls for which an event waits, where one comes or goes.
-use Rattle.std.proofs.Common.{◌≡◌, ◌==◌, ℕ, suc, ◌+◌, ◌<◌, ◌≤◌, Bool, true, false, List, [], ◌∷◌, ◌++◌, length, slice_get, get_or, Some, None, refl, ap, sym, ◌∙◌, arith, cond, eq-eqb, ne_eqb, length-append}
-use Rattle.std.specs.List.{position, position_or_len, swap_remove}
-use Rattle.std.specs.Prelude.{nat_lt}
-use Rattle.std.proofs.lemmas.Bool.{false≢true, eqb-true, ltb-false}
-use Rattle.std.proofs.lemmas.List.Quantifiers.{position-Some}
-use Rattle.std.proofs.lemmas.List.Sums.{fails_before_first, sum_by-swap_remove}
-use Rattle.std.proofs.lemmas.Option.{get_or_from_slice_get, slice_get_within}
-use Rattle.rpc_calls.specs.Listed.{Relists, times}
-use Rattle.rpc_calls.specs.Marks.{one_if}
-use Rattle.rpc_calls.proofs.PlaceChanges.{count-cons, count-push}
+use Rattle.std.proofs.Common.{◌≡◌, ◌≢◌, ◌==◌, ◌⊎◌, inl, inr, ℕ, zero, suc, ◌+◌, ◌-◌, ◌<◌, ◌≤◌, Bool, true, false, ◌&&◌, ◌||◌, List, [], ◌∷◌, length, get_or, Option, Some, None, Result, Ok, Err, OnOk, OnErr, refl, ap, sym, ◌∙◌, subst, arith}
+use Rattle.std.specs.List.{Contains, insert, remove}
+use Rattle.std.specs.Prelude.{nat_lt, nat_le}
+use Rattle.std.proofs.lemmas.Bool.{true≢false, and_parts, eqb-true, eqb-false, eq-eqb, ltb-true, ltb-false, lt-ltb, le-ltb, leb-true, leb-false, le-leb}
+use Rattle.std.proofs.lemmas.List.{get_or_default}
+use Rattle.std.proofs.lemmas.List.Edits.{length-insert, get_or-insert_below, get_or-insert_at, get_or-insert_above, length-remove, get_or-remove_below, get_or-remove_above}
+use Rattle.std.proofs.lemmas.List.Elements.{Contains-append_cases, Contains-append_right}
+use Rattle.std.proofs.lemmas.List.Sorted.{IsPermutation-insert, IsPermutation-remove, Contains-permutation}
+use Rattle.rpc_journal.proofs.PlaceLemmas.{below_or_not}
+use Rattle.rpc_calls.specs.declared.waiting_calls.WaitingCall.{WaitingCall}
+use Rattle.rpc_calls.specs.Listed.{FirstOfCall, Goes, InOrder, PlaceInOrder, Precedes, Relists, goes_first, waits_since}
 
--- a number in the list has its place there
-pub listed_at : (c : ℕ) (xs : List ℕ) → 1 ≤ times c xs → (i : ℕ) × (slice_get xs i ≡ Some c)
-listed_at c [] some = absurd (omega (arith, some))
-listed_at c (n ∷ xs) some = at (n == c) refl (listed_at c xs)
+-- a call that goes first precedes the other, and else the other precedes it
+pub first_precedes : (c p k q : ℕ) → goes_first c p k q ≡ true → Precedes c p k q
+first_precedes c p k q first = at (nat_lt p q) refl first
   where
-    at : (b : Bool) → (n == c) ≡ b → (1 ≤ times c xs → (i : ℕ) × (slice_get xs i ≡ Some c)) → (i : ℕ) × (slice_get (n ∷ xs) i ≡ Some c)
-    at true same later = (0, ap Some (eqb-true n c same))
-    at false apart later =
-        let rest = later (omega (arith, some, count-cons (λ (m : ℕ). m == c) n xs, ap one_if apart)) in
-        (suc rest.0, rest.1)
+    at : (b : Bool) → nat_lt p q ≡ b → (b || ((p == q) && nat_le c k)) ≡ true → Precedes c p k q
+    at true sooner h = inl (ltb-true p q sooner)
+    at false later h = let both = and_parts (p == q) (nat_le c k) h in inr (eqb-true p q both.0, leb-true c k both.1)
 
-past_all : (a b : ℕ) → cond (nat_lt a b) (Some a) None ≡ None → b ≤ a
-past_all a b is = at (nat_lt a b) refl is
+pub last_follows : (c p k q : ℕ) → goes_first c p k q ≡ false → Precedes k q c p
+last_follows c p k q last = at (nat_lt p q) refl (p == q) refl last
   where
-    at : (q : Bool) → nat_lt a b ≡ q → cond q (Some a) None ≡ None → b ≤ a
-    at true within none = absurd cc
-    at false past none = ltb-false a b past
+    at : (b : Bool) → nat_lt p q ≡ b → (e : Bool) → (p == q) ≡ e → (b || (e && nat_le c k)) ≡ false → Precedes k q c p
+    at true sooner e is h = absurd (true≢false h)
+    at false later true same h = inr (sym (eqb-true p q same), omega (arith, leb-false c k h))
+    at false later false apart h = inl (omega (arith, ltb-false p q later, eqb-false p q apart))
 
--- so a search finds it
-pub found : (c : ℕ) (xs : List ℕ) → position (λ n. n == c) xs ≡ None → 1 ≤ times c xs → ⊥
-found c xs none some =
-    let it = listed_at c xs some in
-    let within : it.0 < length xs = slice_get_within xs it.0 c it.1 in
-    let all = past_all (position_or_len (λ n. n == c) xs) (length xs) none in
-    let fails = fails_before_first (λ n. n == c) xs it.0 c (omega (arith, within, all)) in
-    let read : get_or xs it.0 c ≡ c = get_or_from_slice_get xs it.0 c c it.1 in
-    false≢true (sym fails ∙ ap (λ n. n == c) read ∙ eq-eqb c c refl)
+pub precedes_both : (c p k q n r : ℕ) → Precedes c p k q → Precedes k q n r → Precedes c p n r
+precedes_both c p k q n r (inl h) (inl j) = inl (omega (arith, h, j))
+precedes_both c p k q n r (inl h) (inr j) = inl (omega (arith, h, j.0))
+precedes_both c p k q n r (inr h) (inl j) = inl (omega (arith, h.0, j))
+precedes_both c p k q n r (inr h) (inr j) = inr (h.0 ∙ j.0, omega (arith, h.1, j.1))
+
+-- and one that precedes the other goes first
+pub precedes_first : (c p k q : ℕ) → Precedes c p k q → goes_first c p k q ≡ true
+precedes_first c p k q (inl h) = rw (lt-ltb p q h) refl
+precedes_first c p k q (inr h) = rw (le-ltb p q (omega (arith, h.0)), eq-eqb p q h.0, le-leb c k h.1) refl
+
+-- a call that goes before a later one of the list goes before all behind that one
+pub in_order_parts : (xs : List WaitingCall) (c p : ℕ) → InOrder xs → (i j : ℕ) (d : WaitingCall) → i ≤ j → j < length xs
+    → goes_first (get_or xs j d).call (get_or xs j d).since c p ≡ true → goes_first (get_or xs i d).call (get_or xs i d).since c p ≡ true
+in_order_parts xs c p order i j d le within first =
+    let v = get_or xs i d in
+    let w = get_or xs j d in
+    precedes_first v.call v.since c p
+    (precedes_both v.call v.since w.call w.since c p (order i j d le within) (first_precedes w.call w.since c p first))
+
+-- two elements that are these two stand as they do
+goes_as : (v w a b : WaitingCall) → v ≡ a → w ≡ b → Goes a b → Goes v w
+goes_as v w a b first second goes = subst (λ x. Goes x w) (sym first) (subst (Goes a) (sym second) goes)
+
+-- where an element of a list with one more stands
+abbrev StandsAt : List WaitingCall → ℕ → WaitingCall → ℕ → WaitingCall → Type 0
+StandsAt xs at w k d =
+    ((k < at) × (get_or (insert xs at w) k d ≡ get_or xs k d))
+    ⊎ (((k ≡ at) × (get_or (insert xs at w) k d ≡ w)) ⊎ ((m : ℕ) × (k ≡ m + 1) × (at ≤ m) × (get_or (insert xs at w) k d ≡ get_or xs m d)))
+
+stands_at : (xs : List WaitingCall) (at : ℕ) (w : WaitingCall) (k : ℕ) (d : WaitingCall) → at ≤ length xs → StandsAt xs at w k d
+stands_at xs at w k d within = by k (below_or_not k at)
+  where
+    above : (m : ℕ) → at ≤ m → StandsAt xs at w (m + 1) d
+    above m past = inr (inr (m, refl, past, get_or-insert_above xs at w d m past within))
+
+    behind : (k : ℕ) → at ≤ k → (k < suc at) ⊎ (suc at ≤ k) → StandsAt xs at w k d
+    behind k past (inl near) =
+        let same : k ≡ at = omega (arith, past, near) in
+        inr (inl (same, ap (λ n. get_or (insert xs at w) n d) same ∙ get_or-insert_at xs at w d within))
+    behind k past (inr far) = subst (λ n. StandsAt xs at w n d) (omega (arith, far)) (above (k - 1) (omega (arith, far)))
+
+    by : (k : ℕ) → (k < at) ⊎ (at ≤ k) → StandsAt xs at w k d
+    by k (inl below) = inl (below, get_or-insert_below xs at w d k below within)
+    by k (inr past) = behind k past (below_or_not k (suc at))
+
+-- one more call comes to its place
+pub order_inserted : (xs : List WaitingCall) (c p at : ℕ) → InOrder xs → PlaceInOrder p c xs at → InOrder (insert xs at (waits_since c p))
+order_inserted xs c p at order place = λ i j d le within. by i j d le (omega (arith, within, length-insert xs at w place.within))
+    (stands_at xs at w i d place.within) (stands_at xs at w j d place.within)
+  where
+    w : WaitingCall
+    w = waits_since c p
+
+    by : (i j : ℕ) (d : WaitingCall) → i ≤ j → j < length xs + 1 → StandsAt xs at w i d → StandsAt xs at w j d
+        → Goes (get_or (insert xs at w) i d) (get_or (insert xs at w) j d)
+    by i j d le within (inl f) (inl s) = goes_as _ _ _ _ f.1 s.1 (order i j d le (omega (arith, s.0, place.within)))
+    by i j d le within (inl f) (inr (inl s)) = goes_as _ _ _ _ f.1 s.1 (place.before i d f.0)
+    by i j d le within (inl f) (inr (inr s)) = goes_as _ _ _ _ f.1 s.3 (order i s.0 d (omega (arith, f.0, s.2)) (omega (arith, within, s.1)))
+    by i j d le within (inr (inl f)) (inl s) = absurd (omega (arith, le, f.0, s.0))
+    by i j d le within (inr (inl f)) (inr (inl s)) = goes_as _ _ _ _ f.1 s.1 (inr (refl, omega arith))
+    by i j d le within (inr (inl f)) (inr (inr s)) = goes_as _ _ _ _ f.1 s.3 (place.behind s.0 d s.2 (omega (arith, within, s.1)))
+    by i j d le within (inr (inr f)) (inl s) = absurd (omega (arith, le, f.1, f.2, s.0))
+    by i j d le within (inr (inr f)) (inr (inl s)) = absurd (omega (arith, le, f.1, f.2, s.0))
+    by i j d le within (inr (inr f)) (inr (inr s)) = goes_as _ _ _ _ f.3 s.3 (order f.0 s.0 d (omega (arith, le, f.1, s.1)) (omega (arith, within, s.1)))
+
+-- where an element of a list with one less stood
+abbrev StoodAt : List WaitingCall → ℕ → ℕ → WaitingCall → Type 0
+StoodAt xs at k d =
+    ((k < at) × (get_or (remove xs at) k d ≡ get_or xs k d)) ⊎ ((at ≤ k) × (get_or (remove xs at) k d ≡ get_or xs (k + 1) d))
+
+stood_at : (xs : List WaitingCall) (at k : ℕ) (d : WaitingCall) → at < length xs → StoodAt xs at k d
+stood_at xs at k d within = by (below_or_not k at)
+  where
+    by : (k < at) ⊎ (at ≤ k) → StoodAt xs at k d
+    by (inl below) = inl (below, get_or-remove_below xs at d k below within)
+    by (inr past) = inr (past, get_or-remove_above xs at d k past within)
+
+order_removed : (xs : List WaitingCall) (at : ℕ) → InOrder xs → at < length xs → InOrder (remove xs at)
+order_removed xs at order there = λ i j d le within. by i j d le (omega (arith, within, length-remove xs at there)) (stood_at xs at i d there) (stood_at xs at j d there)
+  where
+    by : (i j : ℕ) (d : WaitingCall) → i ≤ j → j + 1 < length xs → StoodAt xs at i d → StoodAt xs at j d
+        → Goes (get_or (remove xs at) i d) (get_or (remove xs at) j d)
+    by i j d le within (inl f) (inl s) = goes_as _ _ _ _ f.1 s.1 (order i j d le (omega (arith, within)))
+    by i j d le within (inl f) (inr s) = goes_as _ _ _ _ f.1 s.1 (order i (j + 1) d (omega (arith, le)) within)
+    by i j d le within (inr f) (inl s) = absurd (omega (arith, le, f.0, s.0))
+    by i j d le within (inr f) (inr s) = goes_as _ _ _ _ f.1 s.1 (order (i + 1) (j + 1) d (omega (arith, le)) within)
+
+-- a call that stands in the list is found there
+pub found : (w : WaitingCall) (xs : List WaitingCall) → FirstOfCall w.call xs None → Contains xs w → ⊥
+found w xs none there =
+    true≢false (sym (eq-eqb (get_or xs there.0 w).call w.call (ap (λ (v : WaitingCall). v.call) there.2)) ∙ none there.0 w (omega arith) there.1)
 
 -- it is taken out
-pub taken_out : (c place d : ℕ) (xs after : List ℕ) → position (λ n. n == c) xs ≡ Some place → after ≡ swap_remove xs place d
-    → length after + 1 ≡ length xs → Relists c true false xs after
-taken_out c place d xs after is removed many = record {
-  here = λ h. absurd (false≢true h);
-  others = λ k apart.
-      let hit = position-Some (λ n. n == c) xs place d is in
-      let same : get_or xs place d ≡ c = eqb-true (get_or xs place d) c hit.1 in
-      let other : one_if (get_or xs place d == k) ≡ 0 = ap one_if (ap (λ n. n == k) same ∙ ne_eqb c k (λ h. apart (sym h))) in
-      let left = sum_by-swap_remove (λ n. cond (n == k) 1 0) xs place d hit.0 in
-      ap (times k) removed ∙ omega (arith, left, other);
-  many = omega (arith, many);
+pub taken_out : (w : WaitingCall) (at : ℕ) (xs after : List WaitingCall) → InOrder xs → FirstOfCall w.call xs (Some at) → after ≡ remove xs at
+    → Relists w.call (Some w.since) None xs after
+taken_out w at xs after order hit removed = record {
+  here = λ p h. absurd cc;
+  others = λ v apart there. subst (λ ys. Contains ys v) (sym removed) (left v apart (Contains-permutation xs (x ∷ remove xs at) v (IsPermutation-remove xs at x hit.0 same) there));
+  many = omega (arith, ap length removed, length-remove xs at hit.0);
+  order = subst InOrder (sym removed) (order_removed xs at order hit.0);
 }
+  where
+    x : WaitingCall
+    x = get_or xs at w
 
--- it comes last
-pub put_last : (c : ℕ) (xs after : List ℕ) → after ≡ xs ++ c ∷ [] → Relists c false true xs after
-put_last c xs after is = record {
-  here = λ h. omega (arith, ap (times c) is, count-push (λ (n : ℕ). n == c) xs c, ap one_if (eq-eqb c c refl));
-  others = λ k apart. ap (times k) is ∙ omega (arith, count-push (λ (n : ℕ). n == k) xs c, ap one_if (ne_eqb c k (λ h. apart (sym h))));
-  many = omega (arith, ap length is, length-append xs (c ∷ []));
+    same : x ≡ get_or xs at x
+    same = get_or_default xs at w x hit.0
+
+    left : (v : WaitingCall) → v.call ≢ w.call → Contains (x ∷ remove xs at) v → Contains (remove xs at) v
+    left v apart there = by (Contains-append_cases (x ∷ []) (remove xs at) v there)
+      where
+        its : x.call ≡ w.call
+        its = eqb-true x.call w.call (hit.1 w)
+
+        by : Contains (x ∷ []) v ⊎ Contains (remove xs at) v → Contains (remove xs at) v
+        by (inr in_rest) = in_rest
+        by (inl (zero, within, is)) = absurd (apart (ap (λ (y : WaitingCall). y.call) (sym is) ∙ its))
+        by (inl (suc k, within, is)) = absurd (omega (arith, within))
+
+-- it comes to its place
+pub put_in : (w : WaitingCall) (at : ℕ) (xs after : List WaitingCall) → InOrder xs → PlaceInOrder w.since w.call xs at → after ≡ insert xs at w
+    → Relists w.call None (Some w.since) xs after
+put_in w at xs after order place inserted = record {
+  here = λ p h. subst (λ ys. Contains ys (waits_since w.call p)) (sym inserted) (subst (λ n. Contains (insert xs at w) (waits_since w.call n)) (some_is w.since p h)
+      (Contains-permutation (w ∷ xs) (insert xs at w) w (IsPermutation-insert xs at w) (0, omega arith, refl)));
+  others = λ v apart there. subst (λ ys. Contains ys v) (sym inserted)
+      (Contains-permutation (w ∷ xs) (insert xs at w) v (IsPermutation-insert xs at w) (Contains-append_right (w ∷ []) xs v there));
+  many = omega (arith, ap length inserted, length-insert xs at w place.within);
+  order = subst InOrder (sym inserted) (order_inserted xs w.call w.since at order place);
+}
+  where
+    some_is : (p q : ℕ) → Some p ≡ Some q → p ≡ q
+    some_is p q h = cc
+
+-- it goes from one place to another
+pub put_back : (c p q : ℕ) (xs between after : List WaitingCall) → Relists c (Some p) None xs between → Relists c None (Some q) between after
+    → Relists c (Some p) (Some q) xs after
+put_back c p q xs between after first second = record {
+  here = second.here;
+  others = λ w apart there. second.others w apart (first.others w apart there);
+  many = omega (arith, first.many, second.many);
+  order = second.order;
 }
 
 -- the list stays as it is
-pub left_listed : (c : ℕ) (waits : Bool) (xs : List ℕ) → (waits ≡ true → 1 ≤ times c xs) → Relists c waits waits xs xs
-left_listed c waits xs there = record { here = there; others = λ k apart. refl; many = refl }
+pub left_listed : (c : ℕ) (was : Option ℕ) (xs : List WaitingCall) → InOrder xs → ((p : ℕ) → was ≡ Some p → Contains xs (waits_since c p)) → Relists c was was xs xs
+left_listed c was xs order there = record { here = there; others = λ w apart before. before; many = refl; order = order }
+
+-- what is never refused was done
+pub is_done : {A E : Type 0} (r : Result A E) (P Q : Type 0) → OnOk r P → OnErr r Q → (Q → ⊥) → P
+is_done (Ok a) P Q done refused never = done
+is_done (Err e) P Q done refused never = absurd (never refused)

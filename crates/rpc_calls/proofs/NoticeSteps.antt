@@ -10,21 +10,22 @@ use Rattle.rpc_handlers.specs.declared.event.Event.{Event}
 use Rattle.rpc_handlers.specs.declared.event.Event.TheVariants.{Ended, Tick as Ticked}
 use Rattle.rpc_handlers.specs.declared.event.Memo.{Memo}
 use Rattle.rpc_handlers.specs.HandlerRule.{HandlerRule}
-use Rattle.rpc_journal.specs.declared.call_state.CallState.{CallState}
+use Rattle.rpc_journal.specs.declared.table.call_state.CallState.{CallState}
 use Rattle.rpc_journal.specs.declared.entry.EntryKind.{EntryKind}
 use Rattle.rpc_journal.specs.declared.entry.EntryKind.TheVariants.{Close, EndIn, Tick}
-use Rattle.rpc_journal.specs.declared.notice.Notice.{Notice}
-use Rattle.rpc_journal.specs.declared.notice.Notice.TheVariants.{Time, InputEnded, ChannelClosed}
+use Rattle.rpc_journal.specs.declared.table.notice.Notice.{Notice}
+use Rattle.rpc_journal.specs.declared.table.notice.Notice.TheVariants.{Time, InputEnded, ChannelClosed}
 use Rattle.rpc_journal.specs.declared.setting.Setting.{Setting}
 use Rattle.rpc_journal.specs.Calls.{calls, of_call, has_end, is_cancelled, runner_of}
 use Rattle.rpc_journal.specs.Effect.{Opening, Deed}
 use Rattle.rpc_journal.specs.Entries.{each_from, is_live_on}
-use Rattle.rpc_journal.specs.Marks.{is_empty}
-use Rattle.rpc_journal.specs.Queues.{waiting_of, puts_since, starts_since}
-use Rattle.rpc_journal.specs.Touch.{IsTouched, deed_by, is_told, put_at, touch_told, untouched}
-use Rattle.rpc_journal.specs.Turns.{IsTold}
+use Rattle.rpc_journal.specs.Kinds.{is_empty}
+use Rattle.rpc_journal.specs.Queues.{waiting_of, puts_since, starts_since, put_at}
+use Rattle.rpc_journal.specs.table.Touch.{IsTouched, is_told, touch_told, untouched}
+use Rattle.rpc_journal.specs.History.{deed_by}
+use Rattle.rpc_journal.specs.table.Turns.{IsTold}
 use Rattle.rpc_journal.proofs.EachLemmas.{has_number}
-use Rattle.rpc_journal.proofs.NoticeLemmas.{notice_effect, notice_test}
+use Rattle.rpc_journal.proofs.table.NoticeLemmas.{notice_effect, notice_test}
 use Rattle.rpc_journal.proofs.PacketLemmas.{has_end-more}
 use Rattle.rpc_calls.specs.Marks.{one_if}
 use Rattle.rpc_calls.specs.Handlers.{is_over, Keeps, KeepsAll}

@@ -4,8 +4,8 @@ use Rattle.std.proofs.Math.Arith.{lt_of_le-ne}
 use Rattle.std.proofs.lemmas.Option.{slice_get_within}
 use Rattle.std.proofs.lemmas.Bool.{eqb-true}
 use Rattle.std.proofs.lemmas.List.Sums.{sum_by-cons}
-use Rattle.rpc_journal.proofs.StepLemmas.{get_set, get_other, same_or_not}
-use Rattle.rpc_journal.proofs.TableLemmas.{some_same}
+use Rattle.rpc_journal.proofs.table.StepLemmas.{get_set, get_other, same_or_not}
+use Rattle.rpc_journal.proofs.PlaceLemmas.{some_same}
 use Rattle.rpc_calls.specs.Marks.{one_if}
 use Rattle.rpc_calls.specs.Places.{ChangesAll, ChangesAt}
 

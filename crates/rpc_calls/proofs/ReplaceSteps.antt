@@ -4,8 +4,8 @@ use Rattle.std.proofs.lemmas.Bool.{false≢true}
 use Rattle.std.proofs.lemmas.List.{append-nil}
 use Rattle.rpc_handlers.specs.declared.event.Memo.{Memo}
 use Rattle.rpc_handlers.specs.HandlerRule.{HandlerRule}
-use Rattle.rpc_journal.specs.declared.call_state.CallState.{CallState}
-use Rattle.rpc_journal.specs.declared.call_states.CallStates.{CallStates}
+use Rattle.rpc_journal.specs.declared.table.call_state.CallState.{CallState}
+use Rattle.rpc_journal.specs.declared.table.call_states.CallStates.{CallStates}
 use Rattle.rpc_journal.specs.declared.entry.EntryKind.TheVariants.{Replace}
 use Rattle.rpc_journal.specs.declared.item.Item.{Item}
 use Rattle.rpc_journal.specs.declared.setting.Setting.{Setting}
@@ -13,19 +13,19 @@ use Rattle.rpc_journal.specs.Calls.{runner_of}
 use Rattle.rpc_journal.specs.ChangeLaws.{KeepsLegal}
 use Rattle.rpc_journal.specs.Changes.{ReplaceDid}
 use Rattle.rpc_journal.specs.Effect.{Deed}
-use Rattle.rpc_journal.specs.History.{history, adding}
+use Rattle.rpc_journal.specs.History.{history, adding, deed_by}
 use Rattle.rpc_journal.specs.Recorded.{Recorded}
 use Rattle.rpc_journal.specs.Refusals.{replace_refusal}
 use Rattle.rpc_journal.specs.Rows.{no_effect}
-use Rattle.rpc_journal.specs.Touch.{Touches, untouched, deed_by}
+use Rattle.rpc_journal.specs.table.Touch.{Touches, untouched}
 use Rattle.rpc_journal.proofs.LegalLemmas.{keeps_legal}
-use Rattle.rpc_journal.proofs.TableLemmas.{some_same}
-use Rattle.rpc_journal.proofs.TellLemmas.{is_untouched}
+use Rattle.rpc_journal.proofs.PlaceLemmas.{some_same}
+use Rattle.rpc_journal.proofs.table.AgreeLemmas.{is_untouched}
 use Rattle.rpc_calls.specs.Handlers.{Keeps}
 use Rattle.rpc_calls.specs.Places.{ChangesAt}
 use Rattle.rpc_calls.specs.Room.{uncancelled, running, items_owed}
 use Rattle.rpc_calls.specs.TableHolds.{IsTable}
-use Rattle.rpc_journal.specs.Turns.{Turns}
+use Rattle.rpc_journal.specs.table.Turns.{Turns}
 use Rattle.rpc_calls.proofs.TouchTables.{room_grown}
 use Rattle.rpc_calls.proofs.CallSteps.{stands_one}
 use Rattle.rpc_calls.proofs.CalmSteps.{table_after}

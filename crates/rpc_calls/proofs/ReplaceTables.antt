@@ -3,8 +3,8 @@ use Rattle.std.proofs.Common.{◌≡◌, ℕ, ◌<◌, Bool, true, false, not, n
 use Rattle.std.proofs.lemmas.Bool.{true≢false}
 use Rattle.rpc_handlers.specs.declared.event.Memo.{Memo}
 use Rattle.rpc_handlers.specs.HandlerRule.{HandlerRule}
-use Rattle.rpc_journal.specs.declared.call_state.CallState.{CallState}
-use Rattle.rpc_journal.specs.declared.call_states.CallStates.{CallStates}
+use Rattle.rpc_journal.specs.declared.table.call_state.CallState.{CallState}
+use Rattle.rpc_journal.specs.declared.table.call_states.CallStates.{CallStates}
 use Rattle.rpc_journal.specs.declared.entry.Entry.{Entry}
 use Rattle.rpc_journal.specs.declared.item.Item.{Item}
 use Rattle.rpc_journal.specs.declared.setting.Setting.{Setting}
@@ -12,9 +12,10 @@ use Rattle.rpc_journal.specs.Calls.{call_count, ends_of, has_end, is_cancelled, 
 use Rattle.rpc_journal.specs.Effect.{Deed}
 use Rattle.rpc_journal.specs.History.{history}
 use Rattle.rpc_journal.specs.Lawful.{IsLegal}
-use Rattle.rpc_journal.specs.Marks.{is_empty, or_else}
+use Rattle.rpc_journal.specs.Kinds.{is_empty, or_else}
 use Rattle.rpc_journal.specs.Recorded.{Recorded}
-use Rattle.rpc_journal.specs.Refusals.{refused_where, replace_refusal}
+use Rattle.rpc_journal.specs.Refusals.{replace_refusal}
+use Rattle.rpc_journal.proofs.LegalLemmas.{refused_where-none}
 use Rattle.rpc_journal.proofs.PlaceLemmas.{get_some}
 use Rattle.rpc_calls.specs.Handlers.{IsHandlerOf, Keeps, is_over}
 use Rattle.rpc_calls.specs.TableHolds.{IsTable}
@@ -37,10 +38,6 @@ first : {A : Type 0} (a b : Option A) → or_else a b ≡ None → a ≡ None
 first None b h = refl
 first (Some x) b h = absurd cc
 
-untrue : {E : Type 0} (b : Bool) (e : E) → refused_where b e ≡ None → b ≡ false
-untrue true e h = absurd cc
-untrue false e h = refl
-
 no_end : {A B : Type 0} (f : A → B) (xs : List A) → option_map f (slice_get xs 0) ≡ None → not (is_empty xs) ≡ false
 no_end f [] h = refl
 no_end f (x ∷ xs) h = absurd cc
@@ -48,7 +45,7 @@ no_end f (x ∷ xs) h = absurd cc
 pub replaceable : (set : Setting) (h : List Entry) (c : ℕ) → replace_refusal set h c ≡ None → IsReplaceable (history set h) c
 replaceable set h c unrefused =
     let rest = second _ _ unrefused in
-    record { there = below (call_count (history set h)) c (untrue _ _ (first _ _ rest)); live = no_end _ (ends_of (history set h) c) (second _ _ rest) }
+    record { there = below (call_count (history set h)) c (refused_where-none _ _ (first _ _ rest)); live = no_end _ (ends_of (history set h) c) (second _ _ rest) }
 
 -- a live call isn't over
 going : (rule : HandlerRule) (set : Setting) (h : List Entry) (c : ℕ) → IsLegal rule set h → has_end (history set h) c ≡ false → is_over (history set h) c ≡ false
@@ -73,9 +70,9 @@ module _ {H : Type 0} (now : H → Memo) (can_act : H → Type 0) (rule : Handle
   handler_back recorded states handlers items capacity c runs old is unrefused busy back =
       let ds : List Deed = history set recorded.entries in
       let it = replaceable set recorded.entries c unrefused in
-      let row = get_some states.calls.items c (omega (arith, it.there, is.stands.tells.calls.many)) in
+      let row = get_some states.calls.items c (omega (arith, it.there, is.stands.agrees.calls.many)) in
       let slot = get_some handlers c (omega (arith, it.there, is.stands.keeps.many)) in
-      let run = (is.stands.tells.calls.each c row.0 row.1).run in
+      let run = (is.stands.agrees.calls.each c row.0 row.1).run in
       given_back ds c (runner_of ds c) slot.0 old (going rule set recorded.entries c is.legal it.live) (is.stands.keeps.each c slot.0 slot.1)
       (back slot.0 slot.1 ∙ ap (λ b. if b then None else slot.0) (busy row.0 row.1 ∙ ap is_some (sym run)))
 
@@ -94,9 +91,9 @@ module _ {H : Type 0} (now : H → Memo) (can_act : H → Type 0) (rule : Handle
   handler_was recorded states handlers items capacity c runs old is unrefused busy back =
       let ds : List Deed = history set recorded.entries in
       let it = replaceable set recorded.entries c unrefused in
-      let row = get_some states.calls.items c (omega (arith, it.there, is.stands.tells.calls.many)) in
+      let row = get_some states.calls.items c (omega (arith, it.there, is.stands.agrees.calls.many)) in
       let slot = get_some handlers c (omega (arith, it.there, is.stands.keeps.many)) in
-      let run = (is.stands.tells.calls.each c row.0 row.1).run in
+      let run = (is.stands.agrees.calls.each c row.0 row.1).run in
       was_kept ds c (runner_of ds c) slot.0 old (is.stands.keeps.each c slot.0 slot.1)
       (back slot.0 slot.1 ∙ ap (λ b. if b then None else slot.0) (busy row.0 row.1 ∙ ap is_some (sym run)))
 

@@ -1,39 +1,38 @@
 -- What a table stands for, over a Start.
-use Rattle.std.proofs.Common.{◌≡◌, ◌≢◌, ◌⊎◌, ℕ, ◌+◌, ◌<◌, ◌≤◌, Bool, true, false, not, ◌&&◌, ◌||◌, ◌==◌, List, ◌∷◌, length, map, drop, slice_get, Option, Some, None, is_some, is_none, if◌then◌else◌, refl, ap, sym, ◌∙◌, subst, inl, inr, arith, eq-eqb, ne_eqb}
+use Rattle.std.proofs.Common.{◌≡◌, ◌≢◌, ◌⊎◌, ℕ, ◌+◌, ◌<◌, ◌≤◌, Bool, true, false, not, ◌&&◌, ◌||◌, ◌==◌, List, ◌∷◌, length, map, drop, slice_get, Option, Some, None, is_some, is_none, refl, ap, sym, ◌∙◌, subst, inl, inr, arith, eq-eqb, ne_eqb}
 use Rattle.std.proofs.lemmas.Bool.{true≢false, false≢true, and_parts, not-true}
 use Rattle.std.proofs.lemmas.List.{append-nil, length-drop}
 use Rattle.rpc_channel.specs.Rising.{has_id}
 use Rattle.rpc_handlers.specs.declared.event.Memo.{Memo}
 use Rattle.rpc_handlers.specs.HandlerRule.{HandlerRule}
-use Rattle.rpc_journal.specs.declared.call_state.CallState.{CallState}
-use Rattle.rpc_journal.specs.declared.call_states.CallStates.{CallStates}
+use Rattle.rpc_journal.specs.declared.table.call_state.CallState.{CallState}
+use Rattle.rpc_journal.specs.declared.table.call_states.CallStates.{CallStates}
 use Rattle.rpc_journal.specs.declared.entry.EntryKind.TheVariants.{Start}
 use Rattle.rpc_journal.specs.declared.item.Item.{Item}
 use Rattle.rpc_journal.specs.declared.setting.Setting.{Setting}
 use Rattle.rpc_journal.specs.declared.waiting.Waiting.{Waiting}
 use Rattle.rpc_journal.specs.Calls.{call_count, runner_of}
 use Rattle.rpc_journal.specs.Effect.{Deed}
-use Rattle.rpc_journal.specs.History.{tell, entry_by}
+use Rattle.rpc_journal.specs.History.{deeds_with, entry_by}
 use Rattle.rpc_journal.specs.Items.{flush_count, is_ready, items_sent}
-use Rattle.rpc_journal.specs.Marks.{is_empty}
+use Rattle.rpc_journal.specs.Kinds.{is_empty}
 use Rattle.rpc_journal.specs.Queues.{waiting_of}
 use Rattle.rpc_journal.specs.Rows.{no_effect}
-use Rattle.rpc_journal.specs.Tells.{TellsOf, TellsCalls}
-use Rattle.rpc_journal.specs.Touch.{starting}
-use Rattle.rpc_journal.proofs.KnownStates.{silent_waits}
-use Rattle.rpc_journal.proofs.NewestLemmas.{newest_kept}
-use Rattle.rpc_journal.proofs.PlaceLemmas.{below_or_not, get_some}
+use Rattle.rpc_journal.specs.table.Agrees.{AgreesOn, AgreesOnCalls}
+use Rattle.rpc_journal.specs.table.Touch.{starting}
+use Rattle.rpc_journal.proofs.table.KnownStates.{silent_waits}
+use Rattle.rpc_journal.proofs.table.NewestLemmas.{newest_kept}
+use Rattle.rpc_journal.proofs.PlaceLemmas.{below_or_not, get_some, some_same}
 use Rattle.rpc_journal.proofs.RunLemmas.{ready_idle, ready_uncancelled}
-use Rattle.rpc_journal.proofs.TableLemmas.{some_same}
 use Rattle.rpc_calls.specs.Marks.{one_if}
 use Rattle.rpc_calls.specs.Handlers.{is_over, IsHandlerOf, Keeps}
 use Rattle.rpc_calls.specs.Outside.{SameOutside}
 use Rattle.rpc_calls.specs.Places.{ChangesAt}
 use Rattle.rpc_calls.specs.Room.{uncancelled, running, items_owed, HasPlaces}
 use Rattle.rpc_calls.specs.TableHolds.{StandsFor, HasAllRoom}
-use Rattle.rpc_journal.specs.Turns.{Turns}
+use Rattle.rpc_journal.specs.table.Turns.{Turns}
 use Rattle.rpc_calls.proofs.KeepLemmas.{keeps_started, has_handler}
-use Rattle.rpc_calls.proofs.OneStep.{TouchesOne, tells_one, keeps_one, counts_one, places_one}
+use Rattle.rpc_calls.proofs.OneStep.{TouchesOne, agrees_one, keeps_one, counts_one, places_one}
 use Rattle.rpc_calls.proofs.StateLemmas.{StartsHandler}
 use Rattle.rpc_calls.proofs.TouchTables.{at_most_one}
 use Rattle.rpc_calls.proofs.StepLemmas.{over_is}
@@ -59,22 +58,22 @@ none_run : (o : Option ℕ) → is_none o ≡ true → o ≡ None
 none_run None is = refl
 none_run (Some s) is = absurd (false≢true is)
 
-pub ready_row : (ds : List Deed) (c : ℕ) (r : CallState) → is_ready ds c ≡ true → TellsOf ds c r → IsReadyRow r
-ready_row ds c r ready tells = record {
-  waits = ap is_empty (sym tells.waiting) ∙ not-true _ (and_parts _ _ (and_parts _ _ (and_parts _ _ (and_parts _ _ ready).0).0).0).0;
-  idle = sym tells.run ∙ none_run (runner_of ds c) (ready_idle ds c ready);
-  uncancelled = sym tells.cancelled ∙ ready_uncancelled ds c ready;
+pub ready_row : (ds : List Deed) (c : ℕ) (r : CallState) → is_ready ds c ≡ true → AgreesOn ds c r → IsReadyRow r
+ready_row ds c r ready agrees = record {
+  waits = ap is_empty (sym agrees.waiting) ∙ not-true _ (and_parts _ _ (and_parts _ _ (and_parts _ _ (and_parts _ _ ready).0).0).0).0;
+  idle = sym agrees.run ∙ none_run (runner_of ds c) (ready_idle ds c ready);
+  uncancelled = sym agrees.cancelled ∙ ready_uncancelled ds c ready;
 }
 
-pub ready_there : (ds : List Deed) (states : List CallState) (c : ℕ) → is_ready ds c ≡ true → TellsCalls ds states → c < length states
-ready_there ds states c ready tells = at (below_or_not c (call_count ds))
+pub ready_there : (ds : List Deed) (states : List CallState) (c : ℕ) → is_ready ds c ≡ true → AgreesOnCalls ds states → c < length states
+ready_there ds states c ready agrees = at (below_or_not c (call_count ds))
   where
     waits : is_empty (waiting_of ds c) ≡ false
     waits = not-true _ (and_parts _ _ (and_parts _ _ (and_parts _ _ (and_parts _ _ ready).0).0).0).0
 
     at : (c < call_count ds) ⊎ (call_count ds ≤ c) → c < length states
-    at (inl below) = omega (arith, below, tells.many)
-    at (inr past) = absurd (true≢false (sym (ap is_empty (silent_waits ds c (tells.beyond c past))) ∙ waits))
+    at (inl below) = omega (arith, below, agrees.many)
+    at (inr past) = absurd (true≢false (sym (ap is_empty (silent_waits ds c (agrees.beyond c past))) ∙ waits))
 
 going : (b s e : Bool) → b ≡ false → e ≡ false → (b || (s && e)) ≡ false
 going b true e is waits = rw (is, waits) refl
@@ -88,10 +87,10 @@ module _ {H : Type 0} (now : H → Memo) (can_act : H → Type 0) (rule : Handle
   pub ready_slot : (ds : List Deed) (states : CallStates) (handlers : List (Option H)) (items : List Item) (c : ℕ) (slot : Option H)
       → StandsFor now can_act rule set ds states handlers items → is_ready ds c ≡ true → slice_get handlers c ≡ Some slot → is_some slot ≡ true
   ready_slot ds states handlers items c slot stands ready is =
-      let row = get_some states.calls.items c (ready_there ds states.calls.items c ready stands.tells.calls) in
-      let tells = stands.tells.calls.each c row.0 row.1 in
-      let its = ready_row ds c row.0 ready tells in
-      let over : is_over ds c ≡ false = over_is ds c row.0 tells ∙ going row.0.cancelled (is_some row.0.status) (is_empty row.0.waiting.items) its.uncancelled its.waits in
+      let row = get_some states.calls.items c (ready_there ds states.calls.items c ready stands.agrees.calls) in
+      let agrees = stands.agrees.calls.each c row.0 row.1 in
+      let its = ready_row ds c row.0 ready agrees in
+      let over : is_over ds c ≡ false = over_is ds c row.0 agrees ∙ going row.0.cancelled (is_some row.0.status) (is_empty row.0.waiting.items) its.uncancelled its.waits in
       has_handler now can_act rule set ds c slot over
       (subst (λ o. Keeps now can_act rule set ds c o slot) (none_run (runner_of ds c) (ready_idle ds c ready)) (stands.keeps.each c slot is))
 
@@ -106,26 +105,26 @@ module _ {H : Type 0} (now : H → Memo) (can_act : H → Type 0) (rule : Handle
       → StandsFor now can_act rule set ds states handlers items → is_ready ds c ≡ true
       → ChangesAt c (Turns (length ds) (starting seat)) states.calls.items after.calls.items → SameOutside states after
       → length later ≡ length handlers → ((k : ℕ) → k ≢ c → slice_get later k ≡ slice_get handlers k) → slice_get later c ≡ Some None
-      → StandsFor now can_act rule set (tell set ds (entry_by seat (Start c))) after later items
+      → StandsFor now can_act rule set (deeds_with set ds (entry_by seat (Start c))) after later items
   unfolding start_deed
   stands_started ds seat c states after handlers later items stands ready changes same many others left =
       let d : Deed = start_deed seat c in
-      let there = ready_there ds states.calls.items c ready stands.tells.calls in
-      let calls = tells_one ds d states.calls.items after.calls.items c (starting seat) stands.tells.calls (start_touches seat c) changes there in
+      let there = ready_there ds states.calls.items c ready stands.agrees.calls in
+      let calls = agrees_one ds d states.calls.items after.calls.items c (starting seat) stands.agrees.calls (start_touches seat c) changes there in
       let sent : items_sent (d ∷ ds) ≡ items_sent ds = append-nil (items_sent ds) in
       let own : (c == c) ≡ true = eq-eqb c c refl in
       let starts : StartsHandler ds d c = record { start = own; finish = refl; replace = refl; opens = refl } in
       let runs : runner_of (d ∷ ds) c ≡ Some seat = rw own refl in
       record {
-        tells = record {
+        agrees = record {
           calls = calls;
-          newest = newest_kept ds d states.newest after.newest stands.tells.newest refl same.newest;
-          items = omega (arith, stands.tells.items, same.unflushed, ap length sent);
-          closed = λ x. ap (λ xs. has_id xs x) same.closed ∙ stands.tells.closed x;
-          input = same.input ∙ stands.tells.input;
-          halt = same.halt ∙ stands.tells.halt;
+          newest = newest_kept ds d states.newest after.newest stands.agrees.newest refl same.newest;
+          items = omega (arith, stands.agrees.items, same.unflushed, ap length sent);
+          closed = λ x. ap (λ xs. has_id xs x) same.closed ∙ stands.agrees.closed x;
+          input = same.input ∙ stands.agrees.input;
+          halt = same.halt ∙ stands.agrees.halt;
         };
-        keeps = keeps_one now can_act rule set ds d states.calls.items after.calls.items c (starting seat) handlers later stands.tells.calls calls
+        keeps = keeps_one now can_act rule set ds d states.calls.items after.calls.items c (starting seat) handlers later stands.agrees.calls calls
             (start_touches seat c) changes (λ k apart. refl) stands.keeps many others
             (λ slot is.
             let none : None ≡ slot = some_same None slot (sym left ∙ is) in

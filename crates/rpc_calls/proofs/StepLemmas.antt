@@ -1,22 +1,24 @@
 -- What a table stands for, as entries come that touch its calls.
 use Rattle.std.proofs.Common.{◌≡◌, ℕ, ◌≤◌, Bool, true, false, ◌&&◌, ◌||◌, List, [], ◌∷◌, ◌++◌, length, slice_get, Option, Some, None, is_some, if◌then◌else◌, refl, ap, sym, ◌∙◌, subst}
-use Rattle.std.proofs.lemmas.Bool.{true≢false, false≢true}
+use Rattle.std.proofs.lemmas.Bool.{false≢true}
 use Rattle.std.proofs.lemmas.List.{append-nil}
 use Rattle.rpc_ids.specs.declared.status.Status.{Status}
 use Rattle.rpc_handlers.specs.declared.event.Event.{Event}
 use Rattle.rpc_handlers.specs.declared.event.Memo.{Memo}
 use Rattle.rpc_handlers.specs.HandlerRule.{HandlerRule}
-use Rattle.rpc_journal.specs.declared.call_state.CallState.{CallState}
+use Rattle.rpc_journal.specs.declared.table.call_state.CallState.{CallState}
 use Rattle.rpc_journal.specs.declared.setting.Setting.{Setting}
 use Rattle.rpc_journal.specs.declared.waiting.Waiting.{Waiting}
-use Rattle.rpc_journal.specs.Calls.{calls, call_count, is_start_of, is_finish_of, is_replace_of, runner_of}
+use Rattle.rpc_journal.specs.Calls.{calls, is_start_of, is_finish_of, is_replace_of, runner_of}
 use Rattle.rpc_journal.specs.Effect.{Deed}
-use Rattle.rpc_journal.specs.Marks.{is_empty, or_else}
+use Rattle.rpc_journal.specs.Kinds.{is_empty, or_else}
 use Rattle.rpc_journal.specs.States.{opens_call}
-use Rattle.rpc_journal.specs.Tells.{TellsOf, TellsCalls}
-use Rattle.rpc_journal.specs.Touch.{Touch, Touches, IsTouched, untouched, put_at}
-use Rattle.rpc_journal.proofs.TableLemmas.{ended_is}
-use Rattle.rpc_journal.proofs.TellLemmas.{tells_touched, is_untouched, still_silent}
+use Rattle.rpc_journal.specs.table.Agrees.{AgreesOn, AgreesOnCalls}
+use Rattle.rpc_journal.specs.table.Touch.{Touch, Touches, IsTouched, untouched}
+use Rattle.rpc_journal.specs.Queues.{put_at}
+use Rattle.rpc_journal.proofs.table.TableLemmas.{ended_is}
+use Rattle.rpc_journal.proofs.table.StepLemmas.{same_count}
+use Rattle.rpc_journal.proofs.table.AgreeLemmas.{agrees_touched, is_untouched, still_silent}
 use Rattle.rpc_calls.specs.Handlers.{is_over, over_state, Keeps}
 use Rattle.rpc_calls.proofs.StateLemmas.{LeavesHandler}
 use Rattle.rpc_calls.proofs.KeepLemmas.{keeps_left}
@@ -25,11 +27,8 @@ use Rattle.rpc_calls.proofs.KeepLemmas.{keeps_left}
 pub same_calls : (ds : List Deed) (d : Deed) → d.does.opens ≡ None → calls (d ∷ ds) ≡ calls ds
 same_calls ds d is = rw is (append-nil (calls ds))
 
-pub same_count : (ds : List Deed) (d : Deed) → d.does.opens ≡ None → call_count (d ∷ ds) ≡ call_count ds
-same_count ds d is = ap length (same_calls ds d is)
-
-pub over_is : (ds : List Deed) (c : ℕ) (r : CallState) → TellsOf ds c r → is_over ds c ≡ over_state r
-over_is ds c r tells = rw (tells.cancelled, ended_is ds c r tells, tells.waiting) refl
+pub over_is : (ds : List Deed) (c : ℕ) (r : CallState) → AgreesOn ds c r → is_over ds c ≡ over_state r
+over_is ds c r agrees = rw (agrees.cancelled, ended_is ds c r agrees, agrees.waiting) refl
 
 -- neither a Start nor a Finish of the call, and an event is put to it only where it has no end
 pub record IsCalm (t : Touch) (r : CallState) : Type 0 where
@@ -80,7 +79,7 @@ runner_same ds d c start finish = rw (start, finish) refl
 
 module _ {H : Type 0} (now : H → Memo) (can_act : H → Type 0) (rule : HandlerRule) (set : Setting) where
   -- what is kept for a call stays right over an entry that neither begins nor ends a run of it, nor replaces its handler
-  pub keeps_calm : (ds : List Deed) (d : Deed) (c : ℕ) (t : Touch) (r x : CallState) (slot : Option H) → TellsOf ds c r → TellsOf (d ∷ ds) c x
+  pub keeps_calm : (ds : List Deed) (d : Deed) (c : ℕ) (t : Touch) (r x : CallState) (slot : Option H) → AgreesOn ds c r → AgreesOn (d ∷ ds) c x
       → Touches d c t → IsTouched (length ds) t r x → IsCalm t r → is_replace_of c d.entry.kind ≡ false → opens_call ds d c ≡ false
       → Keeps now can_act rule set ds c (runner_of ds c) slot → Keeps now can_act rule set (d ∷ ds) c (runner_of (d ∷ ds) c) slot
   keeps_calm ds d c t r x slot before after does is calm unreplaced unopened keeps =
@@ -92,11 +91,11 @@ module _ {H : Type 0} (now : H → Memo) (can_act : H → Type 0) (rule : Handle
       (λ over. over_is (d ∷ ds) c x after ∙ over_stays (length ds) t r x is calm (sym (over_is ds c r before) ∙ over)) keeps)
 
 -- an entry that touches no call
-pub tells_calm : (ds : List Deed) (d : Deed) (states : List CallState) → TellsCalls ds states → ((c : ℕ) → Touches d c untouched)
-    → d.does.opens ≡ None → TellsCalls (d ∷ ds) states
-tells_calm ds d states tells none opens = record {
-  many = tells.many ∙ sym (same_count ds d opens);
-  each = λ c r is. tells_touched ds d c untouched r r (tells.each c r is) (none c) (is_untouched (length ds) r)
+pub agrees_calm : (ds : List Deed) (d : Deed) (states : List CallState) → AgreesOnCalls ds states → ((c : ℕ) → Touches d c untouched)
+    → d.does.opens ≡ None → AgreesOnCalls (d ∷ ds) states
+agrees_calm ds d states agrees none opens = record {
+  many = agrees.many ∙ sym (same_count ds d opens);
+  each = λ c r is. agrees_touched ds d c untouched r r (agrees.each c r is) (none c) (is_untouched (length ds) r)
       (ap (λ os. slice_get os c) (same_calls ds d opens));
-  beyond = λ c from. still_silent ds d c (tells.beyond c (subst (λ n. n ≤ c) (same_count ds d opens) from)) (none c);
+  beyond = λ c from. still_silent ds d c (agrees.beyond c (subst (λ n. n ≤ c) (same_count ds d opens) from)) (none c);
 }

@@ -1,16 +1,15 @@
 -- A table over a tick.
-use Rattle.std.proofs.Common.{◌≡◌, ℕ, ◌+◌, ◌<◌, ◌≤◌, Bool, true, false, not, List, [], ◌∷◌, length, drop, slice_get, Option, Some, None, Ok, is_some, if◌then◌else◌, refl, ap, sym, ◌∙◌, subst, arith, length-append}
+use Rattle.std.proofs.Common.{◌≡◌, ℕ, ◌+◌, ◌<◌, ◌≤◌, false, not, List, ◌∷◌, length, drop, slice_get, Option, Some, None, Ok, is_some, refl, ap, sym, ◌∙◌, subst, arith}
 use Rattle.std.proofs.lemmas.List.{append-nil}
 use Rattle.std.proofs.lemmas.Option.{slice_get_within}
 use Rattle.std.specs.VecDeque.{deque_capacity}
 use Rattle.rpc_handlers.specs.declared.event.Memo.{Memo}
 use Rattle.rpc_handlers.specs.HandlerRule.{HandlerRule}
-use Rattle.rpc_journal.specs.declared.call_state.CallState.{CallState}
-use Rattle.rpc_journal.specs.declared.call_states.CallStates.{CallStates}
+use Rattle.rpc_journal.specs.declared.table.call_state.CallState.{CallState}
+use Rattle.rpc_journal.specs.declared.table.call_states.CallStates.{CallStates}
 use Rattle.rpc_journal.specs.declared.entry.EntryKind.TheVariants.{Tick}
 use Rattle.rpc_journal.specs.declared.item.Item.{Item}
-use Rattle.rpc_journal.specs.declared.notice.Notice.{Notice}
-use Rattle.rpc_journal.specs.declared.notice.Notice.TheVariants.{Time}
+use Rattle.rpc_journal.specs.declared.table.notice.Notice.TheVariants.{Time}
 use Rattle.rpc_journal.specs.declared.setting.Setting.{Setting}
 use Rattle.rpc_journal.specs.ChangeLaws.{KeepsLegal}
 use Rattle.rpc_journal.specs.Changes.{TickDid}
@@ -19,18 +18,18 @@ use Rattle.rpc_journal.specs.History.{history, adding}
 use Rattle.rpc_journal.specs.Items.{flush_count, items_sent}
 use Rattle.rpc_journal.specs.Recorded.{Recorded}
 use Rattle.rpc_journal.specs.Refusals.{is_full}
-use Rattle.rpc_journal.specs.Tells.{IsToldAll}
-use Rattle.rpc_journal.specs.Touch.{IsTouched, telling}
+use Rattle.rpc_journal.specs.table.Agrees.{IsToldAll}
+use Rattle.rpc_journal.specs.table.Touch.{IsTouched, telling}
 use Rattle.rpc_journal.proofs.LegalLemmas.{keeps_legal}
-use Rattle.rpc_journal.proofs.NewestLemmas.{newest_kept}
-use Rattle.rpc_journal.proofs.NoticeLemmas.{step_told}
+use Rattle.rpc_journal.proofs.table.NewestLemmas.{newest_kept}
+use Rattle.rpc_journal.proofs.table.NoticeLemmas.{step_told}
 use Rattle.rpc_journal.proofs.PlaceLemmas.{get_some}
-use Rattle.rpc_journal.proofs.TableSteps.{tells_with}
+use Rattle.rpc_journal.proofs.table.TableSteps.{agrees_with}
 use Rattle.rpc_journal.proofs.VerdictLemmas.{history_length}
 use Rattle.rpc_calls.specs.Places.{ChangesAll}
 use Rattle.rpc_calls.specs.Room.{uncancelled, running, items_owed}
 use Rattle.rpc_calls.specs.TableHolds.{IsTable}
-use Rattle.rpc_journal.specs.Turns.{IsTold}
+use Rattle.rpc_journal.specs.table.Turns.{IsTold}
 use Rattle.rpc_calls.specs.Widened.{HaveTwoPlaces}
 use Rattle.rpc_calls.proofs.TouchTables.{room_grown}
 use Rattle.rpc_calls.proofs.CalmSteps.{table_after}
@@ -64,9 +63,9 @@ module _ {H : Type 0} (now : H → Memo) (can_act : H → Type 0) (rule : Handle
       table_after now can_act rule set recorded after seat (Tick time) later handlers items' capacity' adds
       (laws.tick rule set seat time (Ok (record {})) recorded.entries after.entries is.legal judged did)
       (record {
-        tells = tells_with ds d states later is.stands.tells
-            (step_told set.role ds seat (Tick time) (Time time) states.calls.items later.calls.items (record { start = λ k. refl; finish = λ k. refl; cancel = λ k. refl }) is.stands.tells.calls told)
-            (newest_kept ds d states.newest later.newest is.stands.tells.newest refl newest)
+        agrees = agrees_with ds d states later is.stands.agrees
+            (step_told set.role ds seat (Tick time) (Time time) states.calls.items later.calls.items (record { start = λ k. refl; finish = λ k. refl; cancel = λ k. refl }) is.stands.agrees.calls told)
+            (newest_kept ds d states.newest later.newest is.stands.agrees.newest refl newest)
             (record { unflushing = refl; going_on = refl; running = refl; unclosed = refl }) chans (omega (arith, unflushed)) input halt;
         keeps = notice_keeps now can_act rule set ds seat (Time time) handlers is.stands.keeps;
         queue = same ∙ is.stands.queue ∙ ap (drop (flush_count ds)) (sym sent);

@@ -3,21 +3,20 @@ use Rattle.std.proofs.Common.{◌≡◌, ℕ, ◌+◌, ◌<◌, ◌≤◌, ◌^�
 use Rattle.std.proofs.lemmas.Option.{slice_get_within}
 use Rattle.rpc_handlers.specs.declared.event.Memo.{Memo}
 use Rattle.rpc_handlers.specs.HandlerRule.{HandlerRule}
-use Rattle.rpc_journal.specs.declared.call_state.CallState.{CallState}
-use Rattle.rpc_journal.specs.declared.call_states.CallStates.{CallStates}
+use Rattle.rpc_journal.specs.declared.table.call_state.CallState.{CallState}
+use Rattle.rpc_journal.specs.declared.table.call_states.CallStates.{CallStates}
 use Rattle.rpc_journal.specs.declared.entry.EntryKind.{EntryKind}
 use Rattle.rpc_journal.specs.declared.item.Item.{Item}
 use Rattle.rpc_journal.specs.declared.setting.Setting.{Setting}
 use Rattle.rpc_journal.specs.Calls.{is_replace_of}
 use Rattle.rpc_journal.specs.Effect.{Effect}
 use Rattle.rpc_journal.specs.Entries.{effect_of}
-use Rattle.rpc_journal.specs.History.{history, adding}
+use Rattle.rpc_journal.specs.History.{history, adding, deed_by}
 use Rattle.rpc_journal.specs.Lawful.{IsLegal}
 use Rattle.rpc_journal.specs.Recorded.{Recorded}
-use Rattle.rpc_journal.specs.Touch.{Touch, deed_by}
-use Rattle.rpc_journal.specs.Turns.{Turns}
-use Rattle.rpc_journal.proofs.PlaceLemmas.{get_some}
-use Rattle.rpc_journal.proofs.TableLemmas.{some_same}
+use Rattle.rpc_journal.specs.table.Touch.{Touch}
+use Rattle.rpc_journal.specs.table.Turns.{Turns}
+use Rattle.rpc_journal.proofs.PlaceLemmas.{get_some, some_same}
 use Rattle.rpc_calls.specs.Marks.{one_if}
 use Rattle.rpc_calls.specs.Places.{ChangesAt}
 use Rattle.rpc_calls.specs.Room.{uncancelled, running, items_owed, HasPlaces}

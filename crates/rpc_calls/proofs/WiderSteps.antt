@@ -5,18 +5,18 @@ use Rattle.std.specs.VecDeque.{deque_capacity}
 use Rattle.rpc_channel.specs.Rising.{has_id}
 use Rattle.rpc_handlers.specs.declared.event.Memo.{Memo}
 use Rattle.rpc_handlers.specs.HandlerRule.{HandlerRule}
-use Rattle.rpc_journal.specs.declared.call_state.CallState.{CallState}
-use Rattle.rpc_journal.specs.declared.call_states.CallStates.{CallStates}
+use Rattle.rpc_journal.specs.declared.table.call_state.CallState.{CallState}
+use Rattle.rpc_journal.specs.declared.table.call_states.CallStates.{CallStates}
 use Rattle.rpc_journal.specs.declared.item.Item.{Item}
 use Rattle.rpc_journal.specs.declared.setting.Setting.{Setting}
 use Rattle.rpc_journal.specs.History.{history}
 use Rattle.rpc_journal.specs.Items.{flush_count}
 use Rattle.rpc_journal.specs.Recorded.{Recorded}
-use Rattle.rpc_journal.specs.Newest.{newest_of}
-use Rattle.rpc_journal.specs.Tells.{TellsOf}
+use Rattle.rpc_journal.specs.table.Newest.{newest_of}
+use Rattle.rpc_journal.specs.table.Agrees.{AgreesOn}
 use Rattle.rpc_journal.proofs.PlaceLemmas.{get_some}
-use Rattle.rpc_journal.proofs.RoomLemmas.{is_same, same_tells}
-use Rattle.rpc_journal.proofs.StepLemmas.{same_or_not}
+use Rattle.rpc_journal.proofs.table.RoomLemmas.{is_same, same_agrees}
+use Rattle.rpc_journal.proofs.table.StepLemmas.{same_or_not}
 use Rattle.rpc_calls.specs.Marks.{marks_of}
 use Rattle.rpc_calls.specs.Places.{ChangesAll, ChangesAt}
 use Rattle.rpc_calls.specs.Room.{uncancelled, running, HasRoom}
@@ -80,17 +80,17 @@ module _ {H : Type 0} (now : H → Memo) (can_act : H → Type 0) (rule : Handle
       record {
         legal = is.legal;
         stands = record {
-          tells = record {
+          agrees = record {
             calls = record {
-              many = wide.many ∙ is.stands.tells.calls.many;
+              many = wide.many ∙ is.stands.agrees.calls.many;
               each = λ k y there. tell k y there;
-              beyond = is.stands.tells.calls.beyond;
+              beyond = is.stands.agrees.calls.beyond;
             };
-            newest = λ name. ap (λ m. newest_of m name) newest ∙ is.stands.tells.newest name;
-            items = ap (λ n. n + flush_count (history set recorded.entries)) unflushed ∙ is.stands.tells.items;
-            input = input ∙ is.stands.tells.input;
-            closed = λ x. ap (λ xs. has_id xs x) chans ∙ is.stands.tells.closed x;
-            halt = halt ∙ is.stands.tells.halt;
+            newest = λ name. ap (λ m. newest_of m name) newest ∙ is.stands.agrees.newest name;
+            items = ap (λ n. n + flush_count (history set recorded.entries)) unflushed ∙ is.stands.agrees.items;
+            input = input ∙ is.stands.agrees.input;
+            closed = λ x. ap (λ xs. has_id xs x) chans ∙ is.stands.agrees.closed x;
+            halt = halt ∙ is.stands.agrees.halt;
           };
           keeps = is.stands.keeps;
           queue = is.stands.queue;
@@ -109,10 +109,10 @@ module _ {H : Type 0} (now : H → Memo) (can_act : H → Type 0) (rule : Handle
           let within : k < length mid.calls.items = slice_get_within _ _ _ there in
           get_some states.calls.items k (omega (arith, within, wide.many))
 
-      tell : (k : ℕ) (y : CallState) → slice_get mid.calls.items k ≡ Some y → TellsOf (history set recorded.entries) k y
+      tell : (k : ℕ) (y : CallState) → slice_get mid.calls.items k ≡ Some y → AgreesOn (history set recorded.entries) k y
       tell k y there =
           let row = old k y there in
-          same_tells (history set recorded.entries) k row.0 y (is.stands.tells.calls.each k row.0 row.1) (wide.each k row.0 y row.1 there).same
+          same_agrees (history set recorded.entries) k row.0 y (is.stands.agrees.calls.each k row.0 row.1) (wide.each k row.0 y row.1 there).same
 
       one : (k : ℕ) (y : CallState) → slice_get mid.calls.items k ≡ Some y → 0 < deque_capacity y.waiting
       one k y there =

@@ -7,8 +7,8 @@ use Rattle.rpc_handlers.specs.HandlerRule.{HandlerRule}
 use Rattle.rpc_journal.specs.Calls.{call_count, has_end}
 use Rattle.rpc_journal.specs.Effect.{Deed}
 use Rattle.rpc_journal.specs.declared.answers.Arrived.{Arrived}
-use Rattle.rpc_journal.specs.declared.arrival_move.Move.{Move}
-use Rattle.rpc_journal.specs.declared.arrival_move.Move.TheVariants.{Close, OpenAnew, Queue, Complete, End, Refuse, Answer}
+use Rattle.rpc_journal.specs.declared.table.arrival_move.Move.{Move}
+use Rattle.rpc_journal.specs.declared.table.arrival_move.Move.TheVariants.{Close, OpenAnew, Queue, Complete, End, Refuse, Answer}
 use Rattle.rpc_journal.specs.declared.entry.Entry.{Entry}
 use Rattle.rpc_journal.specs.declared.setting.Setting.{Setting}
 use Rattle.rpc_journal.specs.Changes.{ArriveDid}

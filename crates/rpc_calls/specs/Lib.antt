@@ -1,4 +1,3 @@
-pub mod Ran
 pub mod RunningHolds
 pub mod AnswerItems
 pub mod Handlers

@@ -1,6 +1,6 @@
 -- Tables that differ in their calls alone.
 use Rattle.std.specs.Prelude.{◌≡◌}
-use Rattle.rpc_journal.specs.declared.call_states.CallStates.{CallStates}
+use Rattle.rpc_journal.specs.declared.table.call_states.CallStates.{CallStates}
 
 -- all but the calls and the newest call of each name is as it was
 pub record SameRest (states after : CallStates) : Type 0 where

@@ -1,6 +1,6 @@
 -- The counts of the calls that still owe items and entries.
 use Rattle.std.specs.Prelude.{◌≡◌, ℕ, ◌+◌, ◌*◌, ◌<◌, ◌≤◌, ◌^◌, List}
-use Rattle.rpc_journal.specs.declared.call_state.CallState.{CallState}
+use Rattle.rpc_journal.specs.declared.table.call_state.CallState.{CallState}
 use Rattle.rpc_calls.specs.declared.marks.Marks.{Marks}
 use Rattle.rpc_calls.specs.declared.owed.Owed.{Owed}
 use Rattle.rpc_calls.specs.Marks.{one_if}

@@ -1,7 +1,7 @@
 -- The room that a table has taken for what is never refused.
 use Rattle.std.specs.Prelude.{◌≡◌, ℕ, ◌+◌, ◌*◌, ◌<◌, ◌≤◌, Bool, false, not, List, length, slice_get, count_by, Some, None, is_some, if◌then◌else◌}
 use Rattle.std.specs.VecDeque.{deque_capacity}
-use Rattle.rpc_journal.specs.declared.call_state.CallState.{CallState}
+use Rattle.rpc_journal.specs.declared.table.call_state.CallState.{CallState}
 
 -- how many calls can still be cancelled
 abbrev pub uncancelled : List CallState → ℕ

@@ -2,7 +2,7 @@
 use Rattle.std.specs.Prelude.{◌≡◌, ℕ, ◌<◌, ◌^◌, List, length, drop, Option, is_some}
 use Rattle.rpc_handlers.specs.declared.event.Memo.{Memo}
 use Rattle.rpc_handlers.specs.HandlerRule.{HandlerRule}
-use Rattle.rpc_journal.specs.declared.call_states.CallStates.{CallStates}
+use Rattle.rpc_journal.specs.declared.table.call_states.CallStates.{CallStates}
 use Rattle.rpc_journal.specs.declared.item.Item.{Item}
 use Rattle.rpc_journal.specs.declared.setting.Setting.{Setting}
 use Rattle.rpc_journal.specs.Effect.{Deed}
@@ -10,13 +10,13 @@ use Rattle.rpc_journal.specs.History.{history}
 use Rattle.rpc_journal.specs.Items.{flush_count, items_sent}
 use Rattle.rpc_journal.specs.Lawful.{IsLegal}
 use Rattle.rpc_journal.specs.Recorded.{Recorded}
-use Rattle.rpc_journal.specs.Tells.{Tells}
+use Rattle.rpc_journal.specs.table.Agrees.{Agrees}
 use Rattle.rpc_calls.specs.Handlers.{KeepsAll}
 use Rattle.rpc_calls.specs.Room.{HasRoom, HasPlaces}
 
 -- the parts of a table stand for a history: the states of its calls, their handlers, and the items that wait
 pub record StandsFor {H : Type 0} (now : H → Memo) (can_act : H → Type 0) (rule : HandlerRule) (set : Setting) (ds : List Deed) (states : CallStates) (handlers : List (Option H)) (items : List Item) : Type 0 where
-  pub tells : Tells ds states
+  pub agrees : Agrees ds states
   pub keeps : KeepsAll now can_act rule set ds handlers
   pub queue : items ≡ drop (flush_count ds) (items_sent ds)
 

@@ -1,9 +1,9 @@
 -- A table in which a call has got more places for its events.
 use Rattle.std.specs.Prelude.{◌≡◌, ℕ, ◌+◌, ◌≤◌, List, length, slice_get, Some}
 use Rattle.std.specs.VecDeque.{deque_capacity}
-use Rattle.rpc_journal.specs.declared.call_state.CallState.{CallState}
-use Rattle.rpc_journal.specs.declared.call_states.CallStates.{CallStates}
-use Rattle.rpc_journal.specs.Touch.{IsSame}
+use Rattle.rpc_journal.specs.declared.table.call_state.CallState.{CallState}
+use Rattle.rpc_journal.specs.declared.table.call_states.CallStates.{CallStates}
+use Rattle.rpc_journal.specs.table.Touch.{IsSame}
 use Rattle.rpc_calls.specs.Places.{ChangesAt}
 
 -- the state of a call, with no fewer places

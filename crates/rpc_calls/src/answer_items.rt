@@ -3,15 +3,16 @@ ghost use Rattle.std.specs.Prelude.{◌≡◌, ◌≤◌, ◌+◌, ◌<◌, ◌+
 ghost use Rattle.rpc_handlers.specs.declared.answer.End.{End};
 ghost use Rattle.std.specs.VecDeque.{deque_len, deque_capacity};
 ghost use Rattle.rpc_journal.specs.Entries.{answer_item, end_effect, out_item as item_of};
-ghost use Rattle.rpc_journal.specs.Rows.{sends};
-ghost use Rattle.rpc_journal.specs.Touch.{end_by as ends_by, completes_by as completes_so};
-ghost use Rattle.rpc_calls.specs.AnswerItems.{answer_items, completes_given, end_given};
+ghost use Rattle.rpc_journal.specs.Rows.{packet_item};
+ghost use Rattle.rpc_journal.specs.table.Touch.{end_by as ends_by, completes_by as completes_so, completes_given, end_given};
+ghost use Rattle.rpc_calls.specs.AnswerItems.{answer_items};
 
 use crate::copies::Copies;
 use crate::packets::{leave_item, message_item, send_item, status_packet};
 use rpc_handlers::{End, Out};
 use rpc_ids::{Role, Status};
-use rpc_journal::{Act, CallState, Item, completes_by, end_by, is_okay, is_unary};
+use rpc_journal::table::{CallState, completes_by, end_by};
+use rpc_journal::{Act, Item, is_okay, is_unary};
 use rpc_packet::{CallName, Packet, PacketType};
 use std::collections::VecDeque;
 
@@ -144,7 +145,7 @@ fn say_end(
 
 // The packet by which the peer is told of the end of an answer.
 fn end_packet(role: Role, state: &CallState, end: Option<End>) -> Option<Packet>
-    ensures { (c : ℕ) → (end_effect role c state.now.name state.now.method.kind state.now.done end).says ≡ map (sends c) (option_to_list result) }
+    ensures { (c : ℕ) → (end_effect role c state.now.name state.now.method.kind state.now.done end).says ≡ map (packet_item c) (option_to_list result) }
 {
     let end = end?;
     match role {
@@ -160,7 +161,7 @@ fn end_packet(role: Role, state: &CallState, end: Option<End>) -> Option<Packet>
 
 // The same at a client: an end with `OK` completes the stream, where there is one that isn't complete.
 fn client_packet(state: &CallState, status: Status) -> Option<Packet>
-    ensures { (c : ℕ) (end : End) → end.status ≡ status → (end_effect Role.Client c state.now.name state.now.method.kind state.now.done (Some end)).says ≡ map (sends c) (option_to_list result) }
+    ensures { (c : ℕ) (end : End) → end.status ≡ status → (end_effect Role.Client c state.now.name state.now.method.kind state.now.done (Some end)).says ≡ map (packet_item c) (option_to_list result) }
 {
     if !is_okay(status) {
         return Some(status_packet(PacketType::ClientError, state.name, status));

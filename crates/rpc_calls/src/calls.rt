@@ -45,7 +45,7 @@ pub struct Calls<H: Handler> {
 }
 
 impl<H: Handler> Model for Calls<H> {
-    ghost use Rattle.rpc_journal.specs.Table.{Table};
+    ghost use Rattle.rpc_journal.specs.CallTable.{Table};
     ghost use Rattle.std.specs.VecDeque.{deque_capacity};
 
     ghost Value = { Table };

@@ -1,16 +1,17 @@
 //! A cancel, in the states of the calls, their handlers and the items.
 ghost use Rattle.std.specs.Prelude.{◌≡◌, ◌≢◌, ℕ, ◌+◌, ◌<◌, ◌≤◌, ◌++◌, length, slice_get, Option, Some, None, is_some, if◌then◌else◌};
 ghost use Rattle.std.specs.VecDeque.{deque_len, deque_capacity};
-ghost use Rattle.rpc_journal.specs.declared.call_state.CallState.{CallState};
-ghost use Rattle.rpc_journal.specs.Touch.{cancelling};
+ghost use Rattle.rpc_journal.specs.declared.table.call_state.CallState.{CallState};
+ghost use Rattle.rpc_journal.specs.table.Touch.{cancelling};
 ghost use Rattle.rpc_calls.specs.CancelItems.{cancel_items};
 ghost use Rattle.rpc_calls.specs.Places.{ChangesAt};
-ghost use Rattle.rpc_journal.specs.Turns.{Turns};
+ghost use Rattle.rpc_journal.specs.table.Turns.{Turns};
 
 use crate::indexed_states::IndexedStates;
 use crate::packets::{error_type, leave_item, send_item, status_packet};
 use rpc_ids::{Role, Status};
-use rpc_journal::{CallState, Item};
+use rpc_journal::Item;
+use rpc_journal::table::CallState;
 use std::collections::VecDeque;
 
 /// Cancels this call. There is room for two items.

@@ -1,7 +1,7 @@
 //! The handlers that a table keeps, each at the number of its call.
 ghost use Rattle.std.specs.Prelude.{◌≡◌, ◌≢◌, ℕ, ◌<◌, length, slice_get, Option, is_some, true, ◌||◌, Some, None, IfSome, if◌then◌else◌};
 
-use rpc_journal::CallStates;
+use rpc_journal::table::CallStates;
 use std::alloc::AllocError;
 
 /// Takes the handler of this call out.

@@ -31,6 +31,6 @@ impl Index {
         ensures { Reindexes call was is self.old self.new }
     {
         self.owed.change(was, is);
-        self.waiting.change(call, was.waits, is.waits);
+        self.waiting.change(call, was.since, is.since);
     }
 }

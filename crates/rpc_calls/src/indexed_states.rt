@@ -1,6 +1,6 @@
 //! The states of a table's calls, with what spares it from going over all of them.
 ghost use Rattle.std.specs.Prelude.{◌≡◌, ◌<◌, ◌^◌, [], Some};
-ghost use Rattle.rpc_journal.specs.Tells.{Tells};
+ghost use Rattle.rpc_journal.specs.table.Agrees.{Agrees};
 ghost use Rattle.rpc_calls.specs.Owed.{owed_by};
 
 mod changing;
@@ -11,7 +11,7 @@ mod opening;
 use crate::index::Index;
 use crate::owed::Owed;
 use link_io::Why;
-use rpc_journal::CallStates;
+use rpc_journal::table::CallStates;
 use std::alloc::Global;
 use std::marker::Model;
 
@@ -24,7 +24,7 @@ pub struct IndexedStates {
 }
 
 impl Model for IndexedStates {
-    ghost use Rattle.rpc_journal.specs.declared.call_states.CallStates.{CallStates};
+    ghost use Rattle.rpc_journal.specs.declared.table.call_states.CallStates.{CallStates};
 
     ghost Value = { CallStates };
 
@@ -39,7 +39,7 @@ impl IndexedStates {
     /// Without a call.
     pub fn new(alloc: Global) -> IndexedStates
         ensures calls { result.calls.items ≡ [] }
-        ensures tells { Tells [] result }
+        ensures agrees { Agrees [] result }
     {
         IndexedStates {
             states: CallStates::new(alloc),

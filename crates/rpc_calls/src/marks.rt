@@ -1,9 +1,9 @@
 //! What a table's counts and its list of waiting calls know of one call.
 ghost use Rattle.std.specs.Prelude.{◌≡◌, ◌<◌, length, slice_get, Some};
-ghost use Rattle.rpc_journal.specs.declared.call_state.CallState.{CallState};
-ghost use Rattle.rpc_calls.specs.Marks.{marks_of, no_marks};
+ghost use Rattle.rpc_journal.specs.declared.table.call_state.CallState.{CallState};
+ghost use Rattle.rpc_calls.specs.Marks.{marks_of, no_marks, oldest_since};
 
-use rpc_journal::{CallState, CallStates};
+use rpc_journal::table::{CallState, CallStates};
 
 /// What a table's counts and its list of waiting calls know of one call.
 #[derive(Clone, Copy, Debug)]
@@ -12,8 +12,8 @@ pub struct Marks {
     pub uncancelled: bool,
     /// It runs.
     pub runs: bool,
-    /// An event waits for it.
-    pub waits: bool,
+    /// The place of the entry that put the oldest event that waits for it, where one does.
+    pub since: Option<u64>,
 }
 
 impl Marks {
@@ -24,7 +24,7 @@ impl Marks {
         Marks {
             uncancelled: false,
             runs: false,
-            waits: false,
+            since: None,
         }
     }
 
@@ -43,7 +43,18 @@ impl Marks {
         Marks {
             uncancelled: !state.cancelled,
             runs: state.run.is_some(),
-            waits: !state.waiting.is_empty(),
+            since: waiting_since(state),
         }
+    }
+}
+
+// The place since which an event waits for a call in this state.
+fn waiting_since(state: &CallState) -> Option<u64>
+    ensures { result ≡ oldest_since state.now }
+{
+    if state.waiting.is_empty() {
+        None
+    } else {
+        Some(state.oldest_place())
     }
 }

@@ -1,7 +1,7 @@
 //! Packets and items that a table makes.
 ghost use Rattle.std.specs.Prelude.{◌≡◌};
-ghost use Rattle.rpc_journal.specs.Entries.{error_type, leaves, message, stream_type};
-ghost use Rattle.rpc_journal.specs.Rows.{sends, status_packet as packet_with};
+ghost use Rattle.rpc_journal.specs.Entries.{error_type, leave_item, message_item, stream_type};
+ghost use Rattle.rpc_journal.specs.Rows.{packet_item, status_packet as packet_with};
 
 use bytes::Bytes;
 use rpc_ids::{Role, Status};
@@ -22,7 +22,7 @@ pub fn status_packet(ptype: PacketType, name: CallName, status: Status) -> Packe
 
 /// The packet goes out, for this call.
 pub fn send_item(call: u32, packet: Packet) -> Item
-    ensures { result ≡ sends call packet }
+    ensures { result ≡ packet_item call packet }
 {
     Item {
         call: Some(call),
@@ -32,7 +32,7 @@ pub fn send_item(call: u32, packet: Packet) -> Item
 
 /// A message of the stream that this role sends.
 pub fn message_item(role: Role, call: u32, name: CallName, payload: Bytes) -> Item
-    ensures { result ≡ message role call name payload }
+    ensures { result ≡ message_item role call name payload }
 {
     send_item(
         call,
@@ -47,7 +47,7 @@ pub fn message_item(role: Role, call: u32, name: CallName, payload: Bytes) -> It
 
 /// All works of the call are left.
 pub fn leave_item(call: u32) -> Item
-    ensures { result ≡ leaves call }
+    ensures { result ≡ leave_item call }
 {
     Item {
         call: Some(call),

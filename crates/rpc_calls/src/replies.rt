@@ -4,7 +4,7 @@ ghost use Rattle.std.specs.VecDeque.{deque_len, deque_capacity};
 ghost use Rattle.rpc_packet.specs.declared.owned.Packet.{Packet};
 ghost use Rattle.rpc_journal.specs.Changes.{request};
 ghost use Rattle.rpc_journal.specs.ClientTable.{refuses_stream};
-ghost use Rattle.rpc_journal.specs.Rows.{replied};
+ghost use Rattle.rpc_journal.specs.Rows.{replied_row};
 ghost use Rattle.rpc_calls.specs.Arrivals.{event_put};
 
 use crate::packets::{send_item, status_packet};
@@ -19,7 +19,7 @@ use std::collections::VecDeque;
 /// Adds a packet of this type and status, in reply to one of this name and of no call. There is a place for it.
 pub fn reply(items: &mut VecDeque<Item>, ptype: PacketType, name: CallName, status: Status)
     requires { deque_len items.old < deque_capacity items.old }
-    ensures items { (p : Packet) → p.name ≡ name → items.new.items ≡ items.old.items ++ (replied ptype p status).does.says }
+    ensures items { (p : Packet) → p.name ≡ name → items.new.items ≡ items.old.items ++ (replied_row ptype p status).does.says }
     ensures capacity { deque_capacity items.new ≡ deque_capacity items.old }
 {
     items.push_back_reserved(Item {

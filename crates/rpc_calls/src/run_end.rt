@@ -1,18 +1,19 @@
 //! The end of a run, in the states of the calls and the items.
 ghost use Rattle.std.specs.Prelude.{◌≡◌, ℕ, ◌+◌, ◌<◌, ◌++◌, length, slice_get, Some};
 ghost use Rattle.std.specs.VecDeque.{deque_len, deque_capacity};
-ghost use Rattle.rpc_journal.specs.declared.call_state.CallState.{CallState};
-ghost use Rattle.rpc_journal.specs.Touch.{finishing_so};
-ghost use Rattle.rpc_calls.specs.AnswerItems.{answer_items, completes_given, end_given};
+ghost use Rattle.rpc_journal.specs.declared.table.call_state.CallState.{CallState};
+ghost use Rattle.rpc_journal.specs.table.Touch.{finishing_so, completes_given, end_given};
+ghost use Rattle.rpc_calls.specs.AnswerItems.{answer_items};
 ghost use Rattle.rpc_calls.specs.Handlers.{over_state};
 ghost use Rattle.rpc_calls.specs.Places.{ChangesAt};
-ghost use Rattle.rpc_journal.specs.Turns.{Turns};
+ghost use Rattle.rpc_journal.specs.table.Turns.{Turns};
 
 use crate::answer_items::say_answer;
 use crate::copies::Copies;
 use crate::indexed_states::IndexedStates;
 use rpc_ids::Role;
-use rpc_journal::{CallState, Item};
+use rpc_journal::Item;
+use rpc_journal::table::CallState;
 use std::collections::VecDeque;
 
 /// Ends the run of this call with this answer. Answers whether no further run of it can begin.

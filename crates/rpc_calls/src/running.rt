@@ -34,7 +34,7 @@ pub(crate) struct Answered<H: Handler> {
 
 impl<H: Handler> Model for Running<H> {
     ghost use Rattle.std.specs.Prelude.{◌≡◌};
-    ghost use Rattle.rpc_calls.specs.Ran.{Ran};
+    ghost use Rattle.rpc_journal.specs.Ran.{Ran};
 
     ghost Value = { Ran };
 

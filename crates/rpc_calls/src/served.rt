@@ -1,11 +1,11 @@
 //! The calls that arrivals open.
 ghost use Rattle.std.specs.Prelude.{◌≡◌, ◌<◌, IfOk, length};
 ghost use Rattle.std.specs.VecDeque.{deque_capacity};
-ghost use Rattle.rpc_journal.specs.Touch.{IsServed};
+ghost use Rattle.rpc_journal.specs.table.Touch.{IsServed};
 
 use crate::replies::copy_packet;
 use rpc_ids::MethodRef;
-use rpc_journal::CallState;
+use rpc_journal::table::CallState;
 use rpc_packet::Packet;
 use std::alloc::{AllocError, Global};
 

@@ -2,17 +2,18 @@
 ghost use Rattle.std.specs.Prelude.{◌≡◌, vec_len, vec_capacity, ℕ, ◌<◌, ◌≤◌, ◌+◌, OnOk, ◌∷◌, false, true, length, slice_get, is_some, Some, None};
 ghost use Rattle.std.specs.VecDeque.{deque_capacity};
 ghost use Rattle.rpc_handlers.specs.declared.event.Event.TheVariants.{Message};
-ghost use Rattle.rpc_journal.specs.declared.call_state.CallState.{CallState};
-ghost use Rattle.rpc_journal.specs.Marks.{is_empty};
-ghost use Rattle.rpc_journal.specs.Touch.{starting, finishing_so, cancelling, closing, putting, ending, answering, completing};
+ghost use Rattle.rpc_journal.specs.declared.table.call_state.CallState.{CallState};
+ghost use Rattle.rpc_journal.specs.Kinds.{is_empty};
+ghost use Rattle.rpc_journal.specs.table.Touch.{starting, finishing_so, cancelling, closing, putting, ending, answering, completing};
 ghost use Rattle.rpc_calls.specs.Places.{ChangesAt};
-ghost use Rattle.rpc_journal.specs.Turns.{Turns};
+ghost use Rattle.rpc_journal.specs.table.Turns.{Turns};
 ghost use Rattle.rpc_calls.specs.Widened.{IsWider};
 
 use bytes::Bytes;
 use rpc_handlers::Event;
 use rpc_ids::Status;
-use rpc_journal::{CallState, Waiting};
+use rpc_journal::Waiting;
+use rpc_journal::table::CallState;
 use std::alloc::AllocError;
 
 /// A run of this seat begins, with the oldest event that waits.

@@ -1,12 +1,12 @@
 //! A call is told of the time, or of the end of the input.
 ghost use Rattle.std.specs.Prelude.{◌≡◌, ◌<◌, length, slice_get, Some, true};
 ghost use Rattle.std.specs.VecDeque.{deque_capacity};
-ghost use Rattle.rpc_journal.specs.declared.call_state.CallState.{CallState};
-ghost use Rattle.rpc_journal.specs.Touch.{events_kept, is_told};
+ghost use Rattle.rpc_journal.specs.declared.table.call_state.CallState.{CallState};
+ghost use Rattle.rpc_journal.specs.table.Touch.{events_kept, is_told};
 ghost use Rattle.rpc_calls.specs.Places.{ChangesAt};
-ghost use Rattle.rpc_journal.specs.Turns.{IsTold};
+ghost use Rattle.rpc_journal.specs.table.Turns.{IsTold};
 
-use rpc_journal::{CallState, Notice};
+use rpc_journal::table::{CallState, Notice};
 
 /// The call is told of this, where it is to be. There is a place for it.
 pub fn tell_at(calls: &mut Vec<CallState>, call: usize, at: u64, notice: Notice)

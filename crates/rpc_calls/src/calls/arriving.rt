@@ -2,22 +2,23 @@
 ghost use Rattle.std.specs.Prelude.{◌≡◌, IfOk, OnErr};
 ghost use Rattle.rpc_handlers.specs.declared.event.Event.TheVariants.{Message};
 ghost use Rattle.rpc_journal.specs.ClientTable.{refuses_stream};
-ghost use Rattle.rpc_journal.specs.Rows.{both, closed, dropped, ends_and_clears, ends_call, puts_event, queued, replied};
-ghost use Rattle.rpc_journal.specs.Table.{past};
+ghost use Rattle.rpc_journal.specs.Rows.{both_effects, closed_row, dropped_row, ends_and_clears, ends_call, puts_event, queued_row, replied_row};
+ghost use Rattle.rpc_journal.specs.CallTable.{past};
 ghost use Rattle.rpc_calls.specs.Arrivals.{CanTake, IsLiveCall, IsLiveMove, Took, event_put};
 ghost use Rattle.rpc_journal.specs.Calls.{call_count};
 ghost use Rattle.rpc_journal.specs.Changes.{ArriveDid};
 ghost use Rattle.rpc_journal.specs.Conditions.{IsHeard, IsInputOpen};
 ghost use Rattle.rpc_journal.specs.Entries.{arrive_row};
 ghost use Rattle.rpc_journal.specs.Lawful.{IsLegal, full_queue as queue_full};
-ghost use Rattle.rpc_journal.specs.Moves.{row_of};
+ghost use Rattle.rpc_journal.specs.table.Moves.{row_of};
 
 use super::Calls;
 use crate::replies::{copy_packet, copy_with_event, copy_with_payload, refuse_stream, reply};
 use crate::room::take_room;
 use rpc_handlers::{Handler, Maker};
 use rpc_ids::Status;
-use rpc_journal::{ArriveRefused, Arrived, Entry, EntryKind, MAX_ENTRIES, Move, move_at};
+use rpc_journal::table::{Move, move_at};
+use rpc_journal::{ArriveRefused, Arrived, Entry, EntryKind, MAX_ENTRIES};
 use rpc_packet::{Packet, PacketType};
 use std::alloc::AllocError;
 
@@ -113,7 +114,7 @@ impl<H: Handler> Calls<H> {
 
     // A packet that does nothing.
     fn arrive_dropped(&mut self, seat: u32, p: &Packet) -> Result<Arrived, AllocError>
-        requires { CanTake self.old.setting self.old.entries seat p.now dropped }
+        requires { CanTake self.old.setting self.old.entries seat p.now dropped_row }
         ensures took { IfOk result (λ a. Took H.rule self.old.setting seat p.now a self.old.entries self.new.entries) }
         ensures setting { self.new.setting ≡ self.old.setting }
         ensures err { OnErr result (self.new ≡ self.old) }
@@ -135,7 +136,7 @@ impl<H: Handler> Calls<H> {
         ptype: PacketType,
         status: Status,
     ) -> Result<Arrived, AllocError>
-        requires { CanTake self.old.setting self.old.entries seat p.now (replied ptype p.now status) }
+        requires { CanTake self.old.setting self.old.entries seat p.now (replied_row ptype p.now status) }
         ensures took { IfOk result (λ a. Took H.rule self.old.setting seat p.now a self.old.entries self.new.entries) }
         ensures setting { self.new.setting ≡ self.old.setting }
         ensures err { OnErr result (self.new ≡ self.old) }
@@ -159,7 +160,7 @@ impl<H: Handler> Calls<H> {
         call: u32,
         status: Status,
     ) -> Result<Arrived, AllocError>
-        requires take { CanTake self.old.setting self.old.entries seat p.now (closed call (ends_and_clears call status)) }
+        requires take { CanTake self.old.setting self.old.entries seat p.now (closed_row call (ends_and_clears call status)) }
         requires live { IsLiveCall (past self.old) call }
         ensures took { IfOk result (λ a. Took H.rule self.old.setting seat p.now a self.old.entries self.new.entries) }
         ensures setting { self.new.setting ≡ self.old.setting }
@@ -184,7 +185,7 @@ impl<H: Handler> Calls<H> {
         call: u32,
         completes: bool,
     ) -> Result<Arrived, AllocError>
-        requires take { CanTake self.old.setting self.old.entries seat p.now (queued call (event_put completes p.now)) }
+        requires take { CanTake self.old.setting self.old.entries seat p.now (queued_row call (event_put completes p.now)) }
         requires live { IsLiveCall (past self.old) call }
         ensures took { IfOk result (λ a. Took H.rule self.old.setting seat p.now a self.old.entries self.new.entries) }
         ensures setting { self.new.setting ≡ self.old.setting }
@@ -210,7 +211,7 @@ impl<H: Handler> Calls<H> {
         call: u32,
         status: Status,
     ) -> Result<Arrived, AllocError>
-        requires take { CanTake self.old.setting self.old.entries seat p.now (closed call (ends_call call status)) }
+        requires take { CanTake self.old.setting self.old.entries seat p.now (closed_row call (ends_call call status)) }
         requires live { IsLiveCall (past self.old) call }
         ensures took { IfOk result (λ a. Took H.rule self.old.setting seat p.now a self.old.entries self.new.entries) }
         ensures setting { self.new.setting ≡ self.old.setting }
@@ -229,7 +230,7 @@ impl<H: Handler> Calls<H> {
 
     // A message of a stream that a client's call doesn't have: the call ends, and the server is told.
     fn arrive_refused(&mut self, seat: u32, p: &Packet, call: u32) -> Result<Arrived, AllocError>
-        requires take { CanTake self.old.setting self.old.entries seat p.now (closed call (refuses_stream p.now call)) }
+        requires take { CanTake self.old.setting self.old.entries seat p.now (closed_row call (refuses_stream p.now call)) }
         requires live { IsLiveCall (past self.old) call }
         ensures took { IfOk result (λ a. Took H.rule self.old.setting seat p.now a self.old.entries self.new.entries) }
         ensures setting { self.new.setting ≡ self.old.setting }
@@ -256,7 +257,7 @@ impl<H: Handler> Calls<H> {
         call: u32,
         status: Status,
     ) -> Result<Arrived, AllocError>
-        requires take { CanTake self.old.setting self.old.entries seat p.now (closed call (both (puts_event call (Message p.now.payload)) (ends_call call status))) }
+        requires take { CanTake self.old.setting self.old.entries seat p.now (closed_row call (both_effects (puts_event call (Message p.now.payload)) (ends_call call status))) }
         requires live { IsLiveCall (past self.old) call }
         ensures took { IfOk result (λ a. Took H.rule self.old.setting seat p.now a self.old.entries self.new.entries) }
         ensures setting { self.new.setting ≡ self.old.setting }

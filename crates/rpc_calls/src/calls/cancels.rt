@@ -6,7 +6,7 @@ ghost use Rattle.rpc_journal.specs.Changes.{CancelDid, cancel_answer};
 ghost use Rattle.rpc_journal.specs.Conditions.{IsCall};
 ghost use Rattle.rpc_journal.specs.History.{adding};
 ghost use Rattle.rpc_journal.specs.Lawful.{IsLegal};
-ghost use Rattle.rpc_journal.specs.Table.{past};
+ghost use Rattle.rpc_journal.specs.CallTable.{past};
 
 use super::Calls;
 use crate::cancelling::{cancel_call, let_go};

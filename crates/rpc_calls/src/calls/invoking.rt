@@ -6,7 +6,7 @@ ghost use Rattle.rpc_journal.specs.Conditions.{CanInvoke};
 ghost use Rattle.rpc_journal.specs.Lawful.{IsLegal};
 ghost use Rattle.rpc_journal.specs.Refusals.{invoke_refusal as refusal_of};
 ghost use Rattle.rpc_journal.specs.Rows.{method_named};
-ghost use Rattle.rpc_journal.specs.Table.{past};
+ghost use Rattle.rpc_journal.specs.CallTable.{past};
 
 use super::Calls;
 use super::opening::MAX_CALLS;
@@ -16,7 +16,8 @@ use crate::room::take_room;
 use bytes::Bytes;
 use rpc_handlers::Handler;
 use rpc_ids::MethodRef;
-use rpc_journal::{CallState, Entry, EntryKind, InvokeRefused, MAX_ENTRIES};
+use rpc_journal::table::CallState;
+use rpc_journal::{Entry, EntryKind, InvokeRefused, MAX_ENTRIES};
 use rpc_packet::CallName;
 use std::alloc::AllocError;
 

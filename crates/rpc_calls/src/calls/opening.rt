@@ -2,8 +2,8 @@
 ghost use Rattle.std.specs.Prelude.{◌≡◌, IfOk, OnErr};
 ghost use Rattle.rpc_ids.specs.declared.status.Status.TheVariants.{Cancelled};
 ghost use Rattle.rpc_journal.specs.Calls.{call_count};
-ghost use Rattle.rpc_journal.specs.Rows.{both, ends_and_clears, opened, opens_served};
-ghost use Rattle.rpc_journal.specs.Table.{past};
+ghost use Rattle.rpc_journal.specs.Rows.{both_effects, ends_and_clears, opened_row, opens_served};
+ghost use Rattle.rpc_journal.specs.CallTable.{past};
 ghost use Rattle.rpc_calls.specs.Arrivals.{CanTake, IsLiveCall, Took};
 
 use super::Calls;
@@ -27,7 +27,7 @@ impl<H: Handler> Calls<H> {
         method: MethodRef,
         handler: H,
     ) -> Result<Arrived, AllocError>
-        requires take { let n = call_count (past self.old) in CanTake self.old.setting self.old.entries seat p.now (opened n (opens_served p.now method n)) }
+        requires take { let n = call_count (past self.old) in CanTake self.old.setting self.old.entries seat p.now (opened_row n (opens_served p.now method n)) }
         requires able { H.can_act handler }
         requires first { H.now handler ≡ H.rule.first self.old.setting.seed method }
         ensures took { IfOk result (λ a. Took H.rule self.old.setting seat p.now a self.old.entries self.new.entries) }
@@ -60,7 +60,7 @@ impl<H: Handler> Calls<H> {
         old: u32,
         handler: H,
     ) -> Result<Arrived, AllocError>
-        requires take { let n = call_count (past self.old) in CanTake self.old.setting self.old.entries seat p.now (opened n (both (ends_and_clears old Cancelled) (opens_served p.now method n))) }
+        requires take { let n = call_count (past self.old) in CanTake self.old.setting self.old.entries seat p.now (opened_row n (both_effects (ends_and_clears old Cancelled) (opens_served p.now method n))) }
         requires live { IsLiveCall (past self.old) old }
         requires able { H.can_act handler }
         requires first { H.now handler ≡ H.rule.first self.old.setting.seed method }

@@ -4,15 +4,15 @@ ghost use Rattle.rpc_journal.specs.Calls.{call_at, call_count, end_of};
 ghost use Rattle.rpc_journal.specs.Conditions.{IsCall};
 ghost use Rattle.rpc_journal.specs.Items.{halt_reason, input_ended as no_input_left};
 ghost use Rattle.rpc_journal.specs.Queues.{waiting_of};
-ghost use Rattle.rpc_journal.specs.Marks.{is_empty};
+ghost use Rattle.rpc_journal.specs.Kinds.{is_empty};
 ghost use Rattle.rpc_journal.specs.Quiet.{all_below, is_settled as settles, none_runs};
-ghost use Rattle.rpc_journal.specs.Table.{past};
+ghost use Rattle.rpc_journal.specs.CallTable.{past};
 
 use super::Calls;
 use link_io::Why;
 use rpc_handlers::Handler;
 use rpc_ids::{MethodRef, Status};
-use rpc_journal::CallState;
+use rpc_journal::table::CallState;
 use rpc_packet::CallName;
 
 impl<H: Handler> Calls<H> {

@@ -4,7 +4,7 @@ ghost use Rattle.rpc_journal.specs.Changes.{ReplaceDid};
 ghost use Rattle.rpc_journal.specs.Lawful.{IsLegal};
 ghost use Rattle.rpc_journal.specs.Refusals.{replace_refusal as refusal_of};
 ghost use Rattle.rpc_journal.specs.States.{state_of};
-ghost use Rattle.rpc_journal.specs.Table.{past};
+ghost use Rattle.rpc_journal.specs.CallTable.{past};
 
 use super::Calls;
 use crate::handlers::swap_handler;

@@ -4,7 +4,7 @@ ghost use Rattle.rpc_journal.specs.Changes.{DoneDid, SayDid};
 ghost use Rattle.rpc_journal.specs.Conditions.{CanComplete, CanSay, IsCall};
 ghost use Rattle.rpc_journal.specs.Lawful.{IsLegal};
 ghost use Rattle.rpc_journal.specs.Refusals.{done_refusal as done_speaks, message_refusal as message_speaks, out_refusal as out_speaks, say_refusal};
-ghost use Rattle.rpc_journal.specs.Table.{past};
+ghost use Rattle.rpc_journal.specs.CallTable.{past};
 
 use super::Calls;
 use crate::answer_items::out_item;

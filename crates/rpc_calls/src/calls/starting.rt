@@ -5,8 +5,8 @@ ghost use Rattle.rpc_journal.specs.Choice.{IsFirstReady, NoneReady};
 ghost use Rattle.rpc_journal.specs.Items.{is_ready};
 ghost use Rattle.rpc_journal.specs.Lawful.{IsLegal};
 ghost use Rattle.rpc_journal.specs.Runs.{Begins};
-ghost use Rattle.rpc_journal.specs.Table.{past};
-ghost use Rattle.rpc_calls.specs.Ran.{run_in};
+ghost use Rattle.rpc_journal.specs.CallTable.{past};
+ghost use Rattle.rpc_journal.specs.Ran.{run_in};
 
 use super::Calls;
 use crate::answer_items::MAX_RUN_ITEMS;

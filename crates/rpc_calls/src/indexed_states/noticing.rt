@@ -1,19 +1,19 @@
 //! Changes of all calls.
 ghost use Rattle.std.specs.Prelude.{◌≡◌, ◌<◌, ◌++◌, ◌∷◌, [], OnOk, true, length, slice_get, Some, vec_len, vec_capacity};
 ghost use Rattle.std.specs.VecDeque.{deque_capacity};
-ghost use Rattle.rpc_journal.specs.declared.call_state.CallState.{CallState};
-ghost use Rattle.rpc_journal.specs.declared.notice.Notice.TheVariants.{Time, InputEnded, ChannelClosed};
-ghost use Rattle.rpc_journal.specs.Tells.{HasRoomFor};
-ghost use Rattle.rpc_journal.specs.Touch.{events_kept, is_told};
+ghost use Rattle.rpc_journal.specs.declared.table.call_state.CallState.{CallState};
+ghost use Rattle.rpc_journal.specs.declared.table.notice.Notice.TheVariants.{Time, InputEnded, ChannelClosed};
+ghost use Rattle.rpc_journal.specs.table.Agrees.{HasRoomFor};
+ghost use Rattle.rpc_journal.specs.table.Touch.{events_kept, is_told};
 ghost use Rattle.rpc_calls.specs.Outside.{SameOutside};
 ghost use Rattle.rpc_calls.specs.Places.{ChangesAll, ChangesAt};
-ghost use Rattle.rpc_journal.specs.Turns.{IsTold};
+ghost use Rattle.rpc_journal.specs.table.Turns.{IsTold};
 ghost use Rattle.rpc_calls.specs.Widened.{HaveTwoPlaces, IsWider};
 
 use super::IndexedStates;
 use crate::marks::Marks;
 use crate::telling::tell_at;
-use rpc_journal::Notice;
+use rpc_journal::table::Notice;
 use std::alloc::AllocError;
 
 impl IndexedStates {

@@ -2,16 +2,16 @@
 ghost use Rattle.std.specs.Prelude.{◌≡◌, ◌<◌, ◌+◌, ◌^◌, ◌++◌, ◌∷◌, [], OnOk, OnErr, length, slice_get, Some, None};
 ghost use Rattle.std.specs.VecDeque.{deque_capacity};
 ghost use Rattle.rpc_ids.specs.declared.status.Status.TheVariants.{Cancelled};
-ghost use Rattle.rpc_journal.specs.declared.call_state.CallState.{CallState};
+ghost use Rattle.rpc_journal.specs.declared.table.call_state.CallState.{CallState};
 ghost use Rattle.rpc_calls.specs.Opened.{OpensAnew};
-ghost use Rattle.rpc_journal.specs.Newest.{IsNamed, IsSameNewest};
+ghost use Rattle.rpc_journal.specs.table.Newest.{IsNamed, IsSameNewest};
 ghost use Rattle.rpc_calls.specs.Outside.{SameRest};
 
 use super::IndexedStates;
 use crate::marks::Marks;
 use crate::state_changes::close_at;
 use rpc_ids::Status;
-use rpc_journal::CallState;
+use rpc_journal::table::CallState;
 use std::alloc::AllocError;
 
 impl IndexedStates {

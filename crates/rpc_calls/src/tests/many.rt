@@ -4,7 +4,7 @@ ghost use Rattle.rpc_ids.specs.declared.method.Role.TheVariants.{Server};
 
 use super::desk::{arrive, letters, next_sent, open_table, packet_on};
 use super::letters::{Letter, Letters};
-use super::runs::{run_next, try_start};
+use super::runs::{end_run, run_next, start_next, try_start};
 use crate::Calls;
 use rpc_handlers::Maker;
 use rpc_ids::Status;
@@ -36,6 +36,52 @@ fn answer_each(
         assert!(rt; next_sent(calls) == Some((PacketType::ServerStream, Status::Okay)));
         assert!(rt; next_sent(calls) == Some((PacketType::Response, Status::Okay)));
     }
+}
+
+// A call opens so often, each under a name of its own, and its handler takes the request.
+fn open_each(
+    rt: &impl Abort,
+    calls: &mut Calls<Letter>,
+    maker: &Letters,
+    mut request: Packet,
+    count: u32,
+)
+    requires role { calls.old.setting.role ≡ Server }
+    requires seed { ⟦<Letters as Maker>⟧.seed_memo maker.now ≡ calls.old.setting.seed }
+    ensures { calls.new.setting ≡ calls.old.setting }
+{
+    for call in 0..count {
+        request.name.call = call;
+        assert_eq!(rt;
+            arrive(rt, calls, maker, &request),
+            Ok(Arrived::Opened(call))
+        );
+        assert!(rt; run_next(rt, calls, 2).is_none());
+    }
+}
+
+// So many calls run, by their numbers.
+fn run_each(rt: &impl Abort, calls: &mut Calls<Letter>, count: u32)
+    ensures { calls.new.setting ≡ calls.old.setting }
+{
+    for call in 0..count {
+        let running = start_next(rt, calls, 2);
+        assert_eq!(rt; running.call_number(), call);
+        assert!(rt; end_run(rt, calls, running).is_none());
+    }
+}
+
+#[test]
+fn twenty_thousand_open_calls_run_by_their_numbers(rt: HostRuntime) -> Result<(), Fail> {
+    let maker = letters(rt.alloc(), b'a', false);
+    let (mut calls, methods) = open_table(rt.alloc(), &maker)?;
+    let request = packet_on(1, PacketType::Request, methods.chat);
+    open_each(&rt, &mut calls, &maker, request, 20_000);
+    assert_eq!(rt; calls.tick(1, 5), Ok(()));
+    assert!(rt; !calls.none_waiting());
+    run_each(&rt, &mut calls, 20_000);
+    assert!(rt; calls.none_waiting());
+    Ok(())
 }
 
 #[test]

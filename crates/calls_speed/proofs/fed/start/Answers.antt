@@ -1,4 +1,4 @@
-use Rattle.rpc_calls.specs.Ran.{run_in}
+use Rattle.rpc_journal.specs.Ran.{run_in}
 use Rattle.calls_speed.proofs.FedSteps.{fed_started, run_started}
 use Rattle.calls_speed.proofs.fed.start.Goals as goal
 

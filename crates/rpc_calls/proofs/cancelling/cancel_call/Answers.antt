@@ -1,7 +1,7 @@
 use Rattle.std.proofs.Common.{subst, sym}
-use Rattle.rpc_journal.specs.Touch.{cancelling}
+use Rattle.rpc_journal.specs.table.Touch.{cancelling}
 use Rattle.rpc_calls.specs.Places.{ChangesAt}
-use Rattle.rpc_journal.specs.Turns.{Turns}
+use Rattle.rpc_journal.specs.table.Turns.{Turns}
 use Rattle.rpc_calls.proofs.cancelling.cancel_call.Goals as goal
 
 pub returns-clause-change : goal.returns-clause-change

@@ -1,13 +1,11 @@
-use Rattle.std.proofs.Common.{◌≡◌, ◌∙◌, ◌<◌, ◌++◌, ◌∷◌, [], length, slice_get, Some, true, if◌then◌else◌, refl, ap, sym, subst, arith}
-use Rattle.std.specs.VecDeque.{deque_capacity}
-use Rattle.std.proofs.lemmas.List.{append-nil}
+use Rattle.std.proofs.Common.{◌∙◌, ◌++◌, ◌∷◌, [], if◌then◌else◌, refl, ap, sym, arith}
 use Rattle.std.proofs.lemmas.Option.{get_or_from_slice_get}
 use Rattle.rpc_ids.specs.declared.status.Status.TheVariants.{Aborted}
-use Rattle.rpc_journal.specs.declared.call_state.CallState.{CallState}
-use Rattle.rpc_journal.specs.declared.notice.Notice.TheVariants.{ChannelClosed}
+use Rattle.rpc_journal.specs.declared.table.call_state.CallState.{CallState}
+use Rattle.rpc_journal.specs.declared.table.notice.Notice.TheVariants.{ChannelClosed}
 use Rattle.rpc_journal.specs.Entries.{error_type}
-use Rattle.rpc_journal.specs.Rows.{sends, status_packet}
-use Rattle.rpc_journal.specs.Touch.{is_told}
+use Rattle.rpc_journal.specs.Rows.{packet_item, status_packet}
+use Rattle.rpc_journal.specs.table.Touch.{is_told}
 use Rattle.rpc_journal.proofs.PlaceLemmas.{get_some}
 use Rattle.rpc_calls.proofs.CloseTables.{all_said, say_next, say_place, said_none}
 use Rattle.rpc_calls.proofs.closing_items.say_closing.Goals as goal
@@ -33,7 +31,7 @@ loop-call-preserved c =
     record {
       count = c.loop-call.invariant.count;
       so_far = say_next c.args.role c.args.channel c.loop-call.call _ _ c.args.states.now.calls.items row.0 c.loop-call.items.items c.say_closed.new.items.items _ row.1
-          (c.say_closed.ensures.items ∙ ap (λ (q : CallState). c.loop-call.items.items ++ (if is_told (ChannelClosed c.args.channel) q then sends c.loop-call.call (status_packet (error_type c.args.role) q.name Aborted) ∷ [] else [])) same)
+          (c.say_closed.ensures.items ∙ ap (λ (q : CallState). c.loop-call.items.items ++ (if is_told (ChannelClosed c.args.channel) q then packet_item c.loop-call.call (status_packet (error_type c.args.role) q.name Aborted) ∷ [] else [])) same)
           c.say_closed.ensures.capacity c.loop-call.invariant.so_far;
       capacity = c.say_closed.ensures.capacity ∙ c.loop-call.invariant.capacity;
     }

@@ -1,7 +1,7 @@
 -- What is said of the calls so far and what is to be said of the rest are the whole.
 use Rattle.std.proofs.Common.{◌≡◌, ◌++◌, length}
 use Rattle.std.specs.VecDeque.{deque_capacity}
-use Rattle.rpc_journal.specs.Closing.{closing_items}
+use Rattle.rpc_journal.specs.table.Closing.{closing_items}
 use Rattle.rpc_calls.proofs.CloseTables.{SaidSoFar}
 use Rattle.rpc_calls.proofs.closing_items.say_closing.Given as goal
 

@@ -1,12 +1,12 @@
 use Rattle.std.proofs.Common.{◌≡◌, ◌++◌, ◌∙◌, length, slice_get, ap, sym, subst, arith}
 use Rattle.std.proofs.lemmas.Option.{get_or_from_slice_get}
-use Rattle.rpc_journal.specs.declared.call_state.CallState.{CallState}
-use Rattle.rpc_journal.specs.declared.call_states.CallStates.{CallStates}
-use Rattle.rpc_journal.specs.Touch.{finishing_so}
-use Rattle.rpc_calls.specs.AnswerItems.{answer_items, completes_given, end_given}
+use Rattle.rpc_journal.specs.declared.table.call_state.CallState.{CallState}
+use Rattle.rpc_journal.specs.declared.table.call_states.CallStates.{CallStates}
+use Rattle.rpc_journal.specs.table.Touch.{finishing_so, completes_given, end_given}
+use Rattle.rpc_calls.specs.AnswerItems.{answer_items}
 use Rattle.rpc_calls.specs.Handlers.{over_state}
 use Rattle.rpc_calls.specs.Places.{ChangesAt}
-use Rattle.rpc_journal.specs.Turns.{Turns}
+use Rattle.rpc_journal.specs.table.Turns.{Turns}
 use Rattle.rpc_calls.proofs.run_end.end_run.Goals as goal
 
 pub index-requires-2 : goal.index-requires-2

@@ -1,7 +1,7 @@
 use Rattle.std.proofs.Common.{◌∙◌, subst}
 use Rattle.std.proofs.lemmas.Option.{get_or_from_slice_get}
-use Rattle.rpc_journal.specs.Touch.{cancelling}
-use Rattle.rpc_journal.specs.Turns.{Turns}
+use Rattle.rpc_journal.specs.table.Touch.{cancelling}
+use Rattle.rpc_journal.specs.table.Turns.{Turns}
 use Rattle.rpc_calls.proofs.PlaceChanges.{set_changes}
 use Rattle.rpc_calls.proofs.state_changes.cancel_at.Goals as goal
 

@@ -3,13 +3,13 @@ use Rattle.std.specs.VecDeque.{deque_capacity}
 use Rattle.rpc_journal.specs.declared.answers.Arrived.TheVariants.{Closed}
 use Rattle.rpc_journal.specs.declared.entry.EntryKind.TheVariants.{Arrive}
 use Rattle.rpc_journal.specs.History.{adding, history}
-use Rattle.rpc_journal.specs.Rows.{both, closed, ends_call, puts_event}
-use Rattle.rpc_journal.specs.Table.{past}
+use Rattle.rpc_journal.specs.Rows.{both_effects, closed_row, ends_call, puts_event}
+use Rattle.rpc_journal.specs.CallTable.{past}
 use Rattle.rpc_calls.specs.Arrivals.{CanTake, IsLiveCall, Took}
 use Rattle.rpc_calls.specs.Owed.{items_of}
-use Rattle.rpc_journal.specs.Touch.{answering}
+use Rattle.rpc_journal.specs.table.Touch.{answering}
 use Rattle.rpc_calls.specs.Places.{ChangesAt}
-use Rattle.rpc_journal.specs.Turns.{Turns}
+use Rattle.rpc_journal.specs.table.Turns.{Turns}
 use Rattle.rpc_calls.proofs.ArriveSteps.{live_status, table_roomier}
 use Rattle.rpc_calls.proofs.ClientArrivals.{arrives_answered}
 use Rattle.rpc_handlers.specs.declared.event.Event.TheVariants.{Message}
@@ -41,7 +41,7 @@ answer-requires-clause-live g c = λ r is.
 pub invariant_of-self-2 : goal.invariant_of-self-2
 invariant_of-self-2 g c =
     (arrives_answered g.H.Acts.now g.H.Acts.can_act g.H.Handler.rule c.self.inside.setting c.self.inside.journal c.push.new.self c.args.seat c.args.call c.len-at.result c.args.p.now (Message c.args.p.now.payload) c.args.status c.widen.new.self c.answer.new.self c.self.inside.handlers.items c.self.inside.items.items c.take_room.new.items.items _ (deque_capacity c.take_room.new.items) c.take_room.new.journal.spare (table_widened g.H.Acts.now g.H.Acts.can_act g.H.Handler.rule c.self.inside.setting c.self.inside.journal c.args.call c.self.inside.states c.widen.new.self c.self.inside.handlers.items c.self.inside.items.items (deque_capacity c.self.inside.items) c.self.invariant c.in_ok-widen.ensures.same)
-    (subst (λ t. CanTake t.setting t.entries c.args.seat c.args.p.now (closed c.args.call (both (puts_event c.args.call (Message c.args.p.now.payload)) (ends_call c.args.call c.args.status)))) (sym c.self.view_is) c.requires.take)
+    (subst (λ t. CanTake t.setting t.entries c.args.seat c.args.p.now (closed_row c.args.call (both_effects (puts_event c.args.call (Message c.args.p.now.payload)) (ends_call c.args.call c.args.status)))) (sym c.self.view_is) c.requires.take)
     (subst (λ t. IsLiveCall (past t) c.args.call) (sym c.self.view_is) c.requires.live) c.len-at.ensures.len
     (subst (λ e. ChangesAt c.args.call (Turns c.len-at.result (answering (Message e) c.args.status)) c.widen.new.self.calls.items c.answer.new.self.calls.items) c.in_ok-packet.ensures.1 c.answer.ensures.change) c.answer.ensures.outside.unflushed c.answer.ensures.outside.input c.answer.ensures.outside.halt c.answer.ensures.outside.newest c.answer.ensures.outside.closed c.in_ok-take_room.ensures.items
     (c.push.ensures.entries ∙ ap (λ es. adding es c.args.seat (Arrive c.in_ok-packet.packet)) c.in_ok-take_room.ensures.entries ∙ ap (λ q. adding c.self.inside.journal.entries c.args.seat (Arrive q)) c.in_ok-packet.ensures.0)
@@ -53,7 +53,7 @@ pub returns-clause-took : goal.returns-clause-took
 returns-clause-took g c =
     subst (λ t. Took g.H.Handler.rule t.setting c.args.seat c.args.p.now (Closed c.args.call) t.entries c.push.new.self.entries) c.self.view_is
     (arrives_answered g.H.Acts.now g.H.Acts.can_act g.H.Handler.rule c.self.inside.setting c.self.inside.journal c.push.new.self c.args.seat c.args.call c.len-at.result c.args.p.now (Message c.args.p.now.payload) c.args.status c.widen.new.self c.answer.new.self c.self.inside.handlers.items c.self.inside.items.items c.take_room.new.items.items _ (deque_capacity c.take_room.new.items) c.take_room.new.journal.spare (table_widened g.H.Acts.now g.H.Acts.can_act g.H.Handler.rule c.self.inside.setting c.self.inside.journal c.args.call c.self.inside.states c.widen.new.self c.self.inside.handlers.items c.self.inside.items.items (deque_capacity c.self.inside.items) c.self.invariant c.in_ok-widen.ensures.same)
-    (subst (λ t. CanTake t.setting t.entries c.args.seat c.args.p.now (closed c.args.call (both (puts_event c.args.call (Message c.args.p.now.payload)) (ends_call c.args.call c.args.status)))) (sym c.self.view_is) c.requires.take)
+    (subst (λ t. CanTake t.setting t.entries c.args.seat c.args.p.now (closed_row c.args.call (both_effects (puts_event c.args.call (Message c.args.p.now.payload)) (ends_call c.args.call c.args.status)))) (sym c.self.view_is) c.requires.take)
     (subst (λ t. IsLiveCall (past t) c.args.call) (sym c.self.view_is) c.requires.live) c.len-at.ensures.len
     (subst (λ e. ChangesAt c.args.call (Turns c.len-at.result (answering (Message e) c.args.status)) c.widen.new.self.calls.items c.answer.new.self.calls.items) c.in_ok-packet.ensures.1 c.answer.ensures.change) c.answer.ensures.outside.unflushed c.answer.ensures.outside.input c.answer.ensures.outside.halt c.answer.ensures.outside.newest c.answer.ensures.outside.closed c.in_ok-take_room.ensures.items
     (c.push.ensures.entries ∙ ap (λ es. adding es c.args.seat (Arrive c.in_ok-packet.packet)) c.in_ok-take_room.ensures.entries ∙ ap (λ q. adding c.self.inside.journal.entries c.args.seat (Arrive q)) c.in_ok-packet.ensures.0)

@@ -3,7 +3,7 @@ use Rattle.std.specs.VecDeque.{deque_capacity}
 use Rattle.rpc_journal.specs.declared.answers.Arrived.TheVariants.{Dropped}
 use Rattle.rpc_journal.specs.declared.entry.EntryKind.TheVariants.{Arrive}
 use Rattle.rpc_journal.specs.History.{adding}
-use Rattle.rpc_journal.specs.Rows.{dropped}
+use Rattle.rpc_journal.specs.Rows.{dropped_row}
 use Rattle.rpc_calls.specs.Arrivals.{CanTake, Took}
 use Rattle.rpc_calls.specs.Owed.{items_of}
 use Rattle.rpc_calls.proofs.ArriveSteps.{arrives_dropped}
@@ -12,7 +12,7 @@ use Rattle.rpc_calls.proofs.calls.Calls.arrive_dropped.Goals as goal
 pub invariant_of-self-2 : goal.invariant_of-self-2
 invariant_of-self-2 g c =
     (arrives_dropped g.H.Acts.now g.H.Acts.can_act g.H.Handler.rule c.self.inside.setting c.self.inside.journal c.push.new.self c.args.seat c.args.p.now c.self.inside.states c.self.inside.handlers.items c.self.inside.items.items _ _ _ _ c.self.invariant
-    (subst (λ t. CanTake t.setting t.entries c.args.seat c.args.p.now dropped) (sym c.self.view_is) c.requires)
+    (subst (λ t. CanTake t.setting t.entries c.args.seat c.args.p.now dropped_row) (sym c.self.view_is) c.requires)
     c.in_ok-take_room.ensures.items
     (c.push.ensures.entries ∙ ap (λ es. adding es c.args.seat (Arrive c.in_ok-packet.packet)) c.in_ok-take_room.ensures.entries ∙ ap (λ q. adding c.self.inside.journal.entries c.args.seat (Arrive q)) c.in_ok-packet.ensures)
     c.push.ensures.spare
@@ -23,7 +23,7 @@ pub returns-clause-took : goal.returns-clause-took
 returns-clause-took g c =
     subst (λ t. Took g.H.Handler.rule t.setting c.args.seat c.args.p.now Dropped t.entries c.push.new.self.entries) c.self.view_is
     (arrives_dropped g.H.Acts.now g.H.Acts.can_act g.H.Handler.rule c.self.inside.setting c.self.inside.journal c.push.new.self c.args.seat c.args.p.now c.self.inside.states c.self.inside.handlers.items c.self.inside.items.items _ _ (deque_capacity c.take_room.new.items) _ c.self.invariant
-    (subst (λ t. CanTake t.setting t.entries c.args.seat c.args.p.now dropped) (sym c.self.view_is) c.requires)
+    (subst (λ t. CanTake t.setting t.entries c.args.seat c.args.p.now dropped_row) (sym c.self.view_is) c.requires)
     c.in_ok-take_room.ensures.items
     (c.push.ensures.entries ∙ ap (λ es. adding es c.args.seat (Arrive c.in_ok-packet.packet)) c.in_ok-take_room.ensures.entries ∙ ap (λ q. adding c.self.inside.journal.entries c.args.seat (Arrive q)) c.in_ok-packet.ensures)
     c.push.ensures.spare

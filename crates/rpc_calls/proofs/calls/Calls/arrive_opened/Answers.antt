@@ -1,12 +1,12 @@
 use Rattle.std.proofs.Common.{◌≡◌, ◌∙◌, ◌+◌, ◌≤◌, ◌++◌, ◌∷◌, [], Some, length, ap, sym, subst, arith}
 use Rattle.std.specs.VecDeque.{deque_capacity}
 use Rattle.rpc_journal.specs.declared.answers.Arrived.TheVariants.{Opened}
-use Rattle.rpc_journal.specs.declared.call_states.CallStates.{CallStates}
+use Rattle.rpc_journal.specs.declared.table.call_states.CallStates.{CallStates}
 use Rattle.rpc_journal.specs.declared.entry.EntryKind.TheVariants.{Arrive}
 use Rattle.rpc_journal.specs.Calls.{call_count}
 use Rattle.rpc_journal.specs.History.{adding}
-use Rattle.rpc_journal.specs.Rows.{opened, opens_served}
-use Rattle.rpc_journal.specs.Table.{past}
+use Rattle.rpc_journal.specs.Rows.{opened_row, opens_served}
+use Rattle.rpc_journal.specs.CallTable.{past}
 use Rattle.rpc_calls.specs.Arrivals.{CanTake, Took}
 use Rattle.rpc_calls.specs.Owed.{items_of}
 use Rattle.rpc_calls.proofs.OpenTables.{arrives_opened, table_kept}
@@ -20,7 +20,7 @@ invariant_of-self-in_err-open g c =
 pub invariant_of-self-2 : goal.invariant_of-self-2
 invariant_of-self-2 g c =
     (arrives_opened g.H.Acts.now g.H.Acts.can_act g.H.Handler.rule c.self.inside.setting c.self.inside.journal c.push.new.self c.args.seat c.len-at.result c.args.p.now c.args.method c.in_ok-packet.state c.args.handler c.self.inside.states c.open.new.self c.self.inside.handlers.items c.push_reserved.new.self.items c.self.inside.items.items c.take_room.new.items.items _ (deque_capacity c.take_room.new.items) c.take_room.new.journal.spare c.self.invariant
-    (subst (λ t. CanTake t.setting t.entries c.args.seat c.args.p.now (opened (call_count (past t)) (opens_served c.args.p.now c.args.method (call_count (past t))))) (sym c.self.view_is) c.requires.take)
+    (subst (λ t. CanTake t.setting t.entries c.args.seat c.args.p.now (opened_row (call_count (past t)) (opens_served c.args.p.now c.args.method (call_count (past t))))) (sym c.self.view_is) c.requires.take)
     c.len-at.ensures.len c.in_ok-packet.ensures.state c.in_ok-packet.ensures.place
     (omega (arith, c.if-call-ge-MAX_CALLS.false, c.len-call.ensures, c.all.result.now.calls.ok.0, ap (λ (t : CallStates). length t.calls.items) c.all.ensures)) c.requires.able
     (subst (λ t. g.H.Acts.now c.args.handler ≡ g.H.Handler.rule.first t.setting.seed c.args.method) (sym c.self.view_is) c.requires.first)
@@ -34,9 +34,9 @@ invariant_of-self-2 g c =
 pub returns-clause-took : goal.returns-clause-took
 returns-clause-took g c =
     subst (λ t. Took g.H.Handler.rule t.setting c.args.seat c.args.p.now (Opened c.len-call.result) t.entries c.push.new.self.entries) c.self.view_is
-    (subst (λ n. Took g.H.Handler.rule c.self.inside.setting c.args.seat c.args.p.now (Opened n) c.self.inside.journal.entries c.push.new.self.entries) (sym (c.len-call.ensures ∙ c.all.result.now.calls.ok.0 ∙ ap (λ (t : CallStates). length t.calls.items) c.all.ensures ∙ c.self.invariant.stands.tells.calls.many))
+    (subst (λ n. Took g.H.Handler.rule c.self.inside.setting c.args.seat c.args.p.now (Opened n) c.self.inside.journal.entries c.push.new.self.entries) (sym (c.len-call.ensures ∙ c.all.result.now.calls.ok.0 ∙ ap (λ (t : CallStates). length t.calls.items) c.all.ensures ∙ c.self.invariant.stands.agrees.calls.many))
     (arrives_opened g.H.Acts.now g.H.Acts.can_act g.H.Handler.rule c.self.inside.setting c.self.inside.journal c.push.new.self c.args.seat c.len-at.result c.args.p.now c.args.method c.in_ok-packet.state c.args.handler c.self.inside.states c.open.new.self c.self.inside.handlers.items c.push_reserved.new.self.items c.self.inside.items.items c.take_room.new.items.items _ (deque_capacity c.take_room.new.items) c.take_room.new.journal.spare c.self.invariant
-    (subst (λ t. CanTake t.setting t.entries c.args.seat c.args.p.now (opened (call_count (past t)) (opens_served c.args.p.now c.args.method (call_count (past t))))) (sym c.self.view_is) c.requires.take)
+    (subst (λ t. CanTake t.setting t.entries c.args.seat c.args.p.now (opened_row (call_count (past t)) (opens_served c.args.p.now c.args.method (call_count (past t))))) (sym c.self.view_is) c.requires.take)
     c.len-at.ensures.len c.in_ok-packet.ensures.state c.in_ok-packet.ensures.place
     (omega (arith, c.if-call-ge-MAX_CALLS.false, c.len-call.ensures, c.all.result.now.calls.ok.0, ap (λ (t : CallStates). length t.calls.items) c.all.ensures)) c.requires.able
     (subst (λ t. g.H.Acts.now c.args.handler ≡ g.H.Handler.rule.first t.setting.seed c.args.method) (sym c.self.view_is) c.requires.first)

@@ -1,18 +1,18 @@
 use Rattle.std.proofs.Common.{◌∙◌, ◌+◌, ◌≤◌, ◌++◌, length, refl, ap, sym, subst}
 use Rattle.std.specs.VecDeque.{deque_capacity}
-use Rattle.rpc_journal.specs.declared.call_states.CallStates.{CallStates}
+use Rattle.rpc_journal.specs.declared.table.call_states.CallStates.{CallStates}
 use Rattle.rpc_journal.specs.ClientTable.{refuses_stream}
 use Rattle.rpc_journal.specs.declared.answers.Arrived.TheVariants.{Closed}
 use Rattle.rpc_journal.specs.declared.entry.EntryKind.TheVariants.{Arrive}
 use Rattle.rpc_journal.specs.History.{adding}
-use Rattle.rpc_journal.specs.Rows.{closed}
-use Rattle.rpc_journal.specs.Table.{past}
+use Rattle.rpc_journal.specs.Rows.{closed_row}
+use Rattle.rpc_journal.specs.CallTable.{past}
 use Rattle.rpc_calls.specs.Arrivals.{CanTake, IsLiveCall, Took}
 use Rattle.rpc_calls.specs.Owed.{items_of, owed_by}
 use Rattle.rpc_calls.specs.Places.{ChangesAt}
 use Rattle.rpc_ids.specs.declared.status.Status.TheVariants.{InvalidArgument}
-use Rattle.rpc_journal.specs.Touch.{ending}
-use Rattle.rpc_journal.specs.Turns.{Turns}
+use Rattle.rpc_journal.specs.table.Touch.{ending}
+use Rattle.rpc_journal.specs.table.Turns.{Turns}
 use Rattle.rpc_journal.specs.Conditions.{IsInputOpen}
 use Rattle.rpc_calls.proofs.ArriveSteps.{live_status}
 use Rattle.rpc_calls.proofs.ClientArrivals.{arrives_refused, live_room}
@@ -28,7 +28,7 @@ end-requires-clause-place g c = λ r is.
 pub invariant_of-self-2 : goal.invariant_of-self-2
 invariant_of-self-2 g c =
     (arrives_refused g.H.Acts.now g.H.Acts.can_act g.H.Handler.rule c.self.inside.setting c.self.inside.journal c.push.new.self c.args.seat c.args.call c.len-at.result c.args.p.now c.self.inside.states c.set_unflushed.new.self c.self.inside.handlers.items c.self.inside.items.items c.refuse_stream.new.items.items _ (deque_capacity c.refuse_stream.new.items) c.take_room.new.journal.spare c.self.invariant
-    (subst (λ t. CanTake t.setting t.entries c.args.seat c.args.p.now (closed c.args.call (refuses_stream c.args.p.now c.args.call))) (sym c.self.view_is) c.requires.take)
+    (subst (λ t. CanTake t.setting t.entries c.args.seat c.args.p.now (closed_row c.args.call (refuses_stream c.args.p.now c.args.call))) (sym c.self.view_is) c.requires.take)
     (subst (λ t. IsLiveCall (past t) c.args.call) (sym c.self.view_is) c.requires.live) c.len-at.ensures.len
     (subst (λ (t : CallStates). ChangesAt c.args.call (Turns c.len-at.result (ending InvalidArgument)) c.self.inside.states.calls.items t.calls.items) (sym c.set_unflushed.ensures) c.end.ensures.change)
     (ap (λ (t : CallStates). t.unflushed) c.set_unflushed.ensures ∙ c.len.ensures ∙ c.refuse_stream.new.items.ok.0)
@@ -43,7 +43,7 @@ pub returns-clause-took : goal.returns-clause-took
 returns-clause-took g c =
     subst (λ t. Took g.H.Handler.rule t.setting c.args.seat c.args.p.now (Closed c.args.call) t.entries c.push.new.self.entries) c.self.view_is
     (arrives_refused g.H.Acts.now g.H.Acts.can_act g.H.Handler.rule c.self.inside.setting c.self.inside.journal c.push.new.self c.args.seat c.args.call c.len-at.result c.args.p.now c.self.inside.states c.set_unflushed.new.self c.self.inside.handlers.items c.self.inside.items.items c.refuse_stream.new.items.items _ (deque_capacity c.refuse_stream.new.items) c.take_room.new.journal.spare c.self.invariant
-    (subst (λ t. CanTake t.setting t.entries c.args.seat c.args.p.now (closed c.args.call (refuses_stream c.args.p.now c.args.call))) (sym c.self.view_is) c.requires.take)
+    (subst (λ t. CanTake t.setting t.entries c.args.seat c.args.p.now (closed_row c.args.call (refuses_stream c.args.p.now c.args.call))) (sym c.self.view_is) c.requires.take)
     (subst (λ t. IsLiveCall (past t) c.args.call) (sym c.self.view_is) c.requires.live) c.len-at.ensures.len
     (subst (λ (t : CallStates). ChangesAt c.args.call (Turns c.len-at.result (ending InvalidArgument)) c.self.inside.states.calls.items t.calls.items) (sym c.set_unflushed.ensures) c.end.ensures.change)
     (ap (λ (t : CallStates). t.unflushed) c.set_unflushed.ensures ∙ c.len.ensures ∙ c.refuse_stream.new.items.ok.0)

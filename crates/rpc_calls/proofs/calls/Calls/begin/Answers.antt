@@ -5,7 +5,7 @@ use Rattle.rpc_journal.specs.History.{adding}
 use Rattle.rpc_calls.specs.Owed.{items_of}
 use Rattle.rpc_journal.specs.Items.{is_ready}
 use Rattle.rpc_journal.specs.Runs.{Begins}
-use Rattle.rpc_journal.specs.Table.{past}
+use Rattle.rpc_journal.specs.CallTable.{past}
 use Rattle.rpc_calls.proofs.StartSteps.{ready_slot, ready_row, ready_handler}
 use Rattle.rpc_calls.proofs.StartTables.{table_started, begins_run}
 use Rattle.rpc_calls.proofs.calls.Calls.begin.Goals as goal
@@ -16,7 +16,7 @@ take_handler-handler-requires-clause-kept g c = λ slot is.
 
 pub start-oldest-requires-clause-waits : goal.start-oldest-requires-clause-waits
 start-oldest-requires-clause-waits g c = λ r is.
-    (ready_row _ _ r (subst (λ t. is_ready (past t) c.args.call ≡ true) (sym c.self.view_is) c.requires) (c.self.invariant.stands.tells.calls.each _ r is)).waits
+    (ready_row _ _ r (subst (λ t. is_ready (past t) c.args.call ≡ true) (sym c.self.view_is) c.requires) (c.self.invariant.stands.agrees.calls.each _ r is)).waits
 
 pub begin-requires : goal.begin-requires
 begin-requires g c =

@@ -1,18 +1,18 @@
-use Rattle.std.proofs.Common.{◌≡◌, ◌∙◌, ◌+◌, ◌<◌, ◌≤◌, ◌++◌, ◌∷◌, ◌^◌, [], None, Ok, length, refl, ap, sym, subst, arith}
+use Rattle.std.proofs.Common.{◌≡◌, ◌∙◌, ◌+◌, ◌≤◌, ◌++◌, ◌∷◌, [], None, Ok, length, refl, ap, sym, subst, arith}
 use Rattle.std.proofs.Math.Facts.{Fits-of_lt}
 use Rattle.std.proofs.lemmas.List.Sums.{count_by-le-length}
 use Rattle.std.specs.VecDeque.{deque_capacity}
-use Rattle.rpc_journal.specs.declared.call_states.CallStates.{CallStates}
+use Rattle.rpc_journal.specs.declared.table.call_states.CallStates.{CallStates}
 use Rattle.rpc_journal.specs.declared.entry.EntryKind.TheVariants.{Close}
-use Rattle.rpc_journal.specs.declared.notice.Notice.TheVariants.{ChannelClosed}
+use Rattle.rpc_journal.specs.declared.table.notice.Notice.TheVariants.{ChannelClosed}
 use Rattle.rpc_journal.specs.Changes.{CloseDid}
-use Rattle.rpc_journal.specs.Closing.{closing_items, live_on}
+use Rattle.rpc_journal.specs.table.Closing.{closing_items, live_on}
 use Rattle.rpc_journal.specs.History.{adding}
-use Rattle.rpc_journal.specs.Newest.{newest_of}
+use Rattle.rpc_journal.specs.table.Newest.{newest_of}
 use Rattle.rpc_journal.specs.Refusals.{close_refusal}
-use Rattle.rpc_journal.specs.Tells.{HasRoomFor}
-use Rattle.rpc_journal.specs.Touch.{is_told}
-use Rattle.rpc_journal.specs.Turns.{IsTold}
+use Rattle.rpc_journal.specs.table.Agrees.{HasRoomFor}
+use Rattle.rpc_journal.specs.table.Touch.{is_told}
+use Rattle.rpc_journal.specs.table.Turns.{IsTold}
 use Rattle.rpc_calls.specs.Owed.{items_of, owed_by}
 use Rattle.rpc_calls.specs.Places.{ChangesAll}
 use Rattle.rpc_calls.proofs.CloseTables.{close_room, table_shut}

@@ -1,8 +1,8 @@
 use Rattle.std.proofs.Common.{◌≡◌, ◌∙◌, ◌+◌, ◌≤◌, ◌++◌, ◌∷◌, [], None, Ok, length, slice_get, ap, sym, subst}
 use Rattle.std.specs.VecDeque.{deque_capacity}
 use Rattle.std.proofs.lemmas.Option.{get_or_from_slice_get}
-use Rattle.rpc_journal.specs.declared.call_state.CallState.{CallState}
-use Rattle.rpc_journal.specs.declared.call_states.CallStates.{CallStates}
+use Rattle.rpc_journal.specs.declared.table.call_state.CallState.{CallState}
+use Rattle.rpc_journal.specs.declared.table.call_states.CallStates.{CallStates}
 use Rattle.rpc_ids.specs.declared.status.Status.TheVariants.{Okay}
 use Rattle.rpc_packet.specs.declared.packet_type.PacketType.TheVariants.{Completion}
 use Rattle.rpc_journal.specs.declared.entry.EntryKind.TheVariants.{Done}
@@ -10,9 +10,9 @@ use Rattle.rpc_journal.specs.Changes.{DoneDid}
 use Rattle.rpc_journal.specs.Conditions.{CanComplete}
 use Rattle.rpc_journal.specs.History.{adding}
 use Rattle.rpc_journal.specs.Refusals.{done_refusal}
-use Rattle.rpc_journal.specs.Rows.{sends, status_packet}
-use Rattle.rpc_journal.specs.Touch.{completing}
-use Rattle.rpc_journal.specs.Turns.{Turns}
+use Rattle.rpc_journal.specs.Rows.{packet_item, status_packet}
+use Rattle.rpc_journal.specs.table.Touch.{completing}
+use Rattle.rpc_journal.specs.table.Turns.{Turns}
 use Rattle.rpc_calls.specs.Owed.{items_of, owed_by}
 use Rattle.rpc_calls.specs.Places.{ChangesAt}
 use Rattle.rpc_calls.proofs.SaySteps.{table_completed}
@@ -23,8 +23,8 @@ invariant_of-self-2 g c =
     (table_completed g.H.Acts.now g.H.Acts.can_act g.H.Handler.rule c.self.inside.setting c.self.inside.journal c.push.new.self c.args.seat c.args.call c.send_item.result c.self.inside.states c.set_unflushed.new.self c.self.inside.handlers.items c.self.inside.items.items c.push_back_reserved.new.self.items _ (deque_capacity c.push_back_reserved.new.self) c.take_room.new.journal.spare c.self.invariant
     (subst (λ t. CanComplete t.setting t.entries c.args.call) (sym c.self.view_is) c.requires.can)
     (subst (λ t. done_refusal t.setting t.entries c.args.call ≡ None) (sym c.self.view_is) c.requires.unrefused)
-    (λ r is. c.send_item.ensures ∙ ap (sends c.args.call) c.status_packet-packet.ensures
-    ∙ ap (λ (q : CallState). sends c.args.call (status_packet Completion q.name Okay)) (c.index.ensures ∙ get_or_from_slice_get c.all.result.now.calls.items c.args.call r c.index.result.now (ap (λ (t : CallStates). slice_get t.calls.items c.args.call) c.all.ensures ∙ is)))
+    (λ r is. c.send_item.ensures ∙ ap (packet_item c.args.call) c.status_packet-packet.ensures
+    ∙ ap (λ (q : CallState). packet_item c.args.call (status_packet Completion q.name Okay)) (c.index.ensures ∙ get_or_from_slice_get c.all.result.now.calls.items c.args.call r c.index.result.now (ap (λ (t : CallStates). slice_get t.calls.items c.args.call) c.all.ensures ∙ is)))
     (c.push_back_reserved.ensures.items ∙ ap (λ xs. xs ++ c.send_item.result ∷ []) c.in_ok-take_room.ensures.items)
     (λ at. subst (λ (t : CallStates). ChangesAt c.args.call (Turns at completing) c.self.inside.states.calls.items t.calls.items) (sym c.set_unflushed.ensures) (c.complete.ensures.change at))
     (ap (λ (t : CallStates). t.unflushed) c.set_unflushed.ensures ∙ c.len.ensures ∙ c.push_back_reserved.new.self.ok.0)
@@ -40,8 +40,8 @@ returns-clause-did g c =
     (table_completed g.H.Acts.now g.H.Acts.can_act g.H.Handler.rule c.self.inside.setting c.self.inside.journal c.push.new.self c.args.seat c.args.call c.send_item.result c.self.inside.states c.set_unflushed.new.self c.self.inside.handlers.items c.self.inside.items.items c.push_back_reserved.new.self.items _ (deque_capacity c.push_back_reserved.new.self) c.take_room.new.journal.spare c.self.invariant
     (subst (λ t. CanComplete t.setting t.entries c.args.call) (sym c.self.view_is) c.requires.can)
     (subst (λ t. done_refusal t.setting t.entries c.args.call ≡ None) (sym c.self.view_is) c.requires.unrefused)
-    (λ r is. c.send_item.ensures ∙ ap (sends c.args.call) c.status_packet-packet.ensures
-    ∙ ap (λ (q : CallState). sends c.args.call (status_packet Completion q.name Okay)) (c.index.ensures ∙ get_or_from_slice_get c.all.result.now.calls.items c.args.call r c.index.result.now (ap (λ (t : CallStates). slice_get t.calls.items c.args.call) c.all.ensures ∙ is)))
+    (λ r is. c.send_item.ensures ∙ ap (packet_item c.args.call) c.status_packet-packet.ensures
+    ∙ ap (λ (q : CallState). packet_item c.args.call (status_packet Completion q.name Okay)) (c.index.ensures ∙ get_or_from_slice_get c.all.result.now.calls.items c.args.call r c.index.result.now (ap (λ (t : CallStates). slice_get t.calls.items c.args.call) c.all.ensures ∙ is)))
     (c.push_back_reserved.ensures.items ∙ ap (λ xs. xs ++ c.send_item.result ∷ []) c.in_ok-take_room.ensures.items)
     (λ at. subst (λ (t : CallStates). ChangesAt c.args.call (Turns at completing) c.self.inside.states.calls.items t.calls.items) (sym c.set_unflushed.ensures) (c.complete.ensures.change at))
     (ap (λ (t : CallStates). t.unflushed) c.set_unflushed.ensures ∙ c.len.ensures ∙ c.push_back_reserved.new.self.ok.0)
@@ -56,8 +56,8 @@ returns-clause-legal g c =
     (table_completed g.H.Acts.now g.H.Acts.can_act g.H.Handler.rule c.self.inside.setting c.self.inside.journal c.push.new.self c.args.seat c.args.call c.send_item.result c.self.inside.states c.set_unflushed.new.self c.self.inside.handlers.items c.self.inside.items.items c.push_back_reserved.new.self.items _ (deque_capacity c.push_back_reserved.new.self) c.take_room.new.journal.spare c.self.invariant
     (subst (λ t. CanComplete t.setting t.entries c.args.call) (sym c.self.view_is) c.requires.can)
     (subst (λ t. done_refusal t.setting t.entries c.args.call ≡ None) (sym c.self.view_is) c.requires.unrefused)
-    (λ r is. c.send_item.ensures ∙ ap (sends c.args.call) c.status_packet-packet.ensures
-    ∙ ap (λ (q : CallState). sends c.args.call (status_packet Completion q.name Okay)) (c.index.ensures ∙ get_or_from_slice_get c.all.result.now.calls.items c.args.call r c.index.result.now (ap (λ (t : CallStates). slice_get t.calls.items c.args.call) c.all.ensures ∙ is)))
+    (λ r is. c.send_item.ensures ∙ ap (packet_item c.args.call) c.status_packet-packet.ensures
+    ∙ ap (λ (q : CallState). packet_item c.args.call (status_packet Completion q.name Okay)) (c.index.ensures ∙ get_or_from_slice_get c.all.result.now.calls.items c.args.call r c.index.result.now (ap (λ (t : CallStates). slice_get t.calls.items c.args.call) c.all.ensures ∙ is)))
     (c.push_back_reserved.ensures.items ∙ ap (λ xs. xs ++ c.send_item.result ∷ []) c.in_ok-take_room.ensures.items)
     (λ at. subst (λ (t : CallStates). ChangesAt c.args.call (Turns at completing) c.self.inside.states.calls.items t.calls.items) (sym c.set_unflushed.ensures) (c.complete.ensures.change at))
     (ap (λ (t : CallStates). t.unflushed) c.set_unflushed.ensures ∙ c.len.ensures ∙ c.push_back_reserved.new.self.ok.0)

@@ -1,12 +1,12 @@
 use Rattle.std.proofs.Common.{◌≡◌, ◌∙◌, false, is_some, slice_get, ap, sym, subst, arith}
 use Rattle.std.specs.VecDeque.{deque_capacity}
 use Rattle.std.proofs.lemmas.Option.{get_or_from_slice_get}
-use Rattle.rpc_journal.specs.declared.call_state.CallState.{CallState}
-use Rattle.rpc_journal.specs.declared.call_states.CallStates.{CallStates}
+use Rattle.rpc_journal.specs.declared.table.call_state.CallState.{CallState}
+use Rattle.rpc_journal.specs.declared.table.call_states.CallStates.{CallStates}
 use Rattle.rpc_journal.specs.Calls.{is_cancelled}
 use Rattle.rpc_journal.specs.Conditions.{IsCall}
-use Rattle.rpc_journal.specs.Table.{past}
-use Rattle.rpc_journal.specs.Tells.{TellsCalls}
+use Rattle.rpc_journal.specs.CallTable.{past}
+use Rattle.rpc_journal.specs.table.Agrees.{AgreesOnCalls}
 use Rattle.rpc_calls.proofs.CancelSteps.{table_cancelled, cut_room}
 use Rattle.rpc_calls.proofs.calls.Calls.cut.Goals as goal
 
@@ -15,7 +15,7 @@ cancel_call-requires-clause-room g c = omega (
   arith,
   c.self.inside.items.ok.0,
   (cut_room (past c.args.self.now) c.self.inside.states c.self.inside.items.items c.args.call c.self.inside.journal.spare (deque_capacity c.self.inside.items)
-      (subst (λ t. TellsCalls (past t) c.self.inside.states.calls.items) c.self.view_is c.self.invariant.stands.tells.calls) c.self.invariant.room c.requires.call.below c.requires.uncut).0,
+      (subst (λ t. AgreesOnCalls (past t) c.self.inside.states.calls.items) c.self.view_is c.self.invariant.stands.agrees.calls) c.self.invariant.room c.requires.call.below c.requires.uncut).0,
 )
 
 pub push-requires : goal.push-requires
@@ -23,7 +23,7 @@ push-requires g c = λ none. omega (
   arith,
   none,
   (cut_room (past c.args.self.now) c.self.inside.states c.self.inside.items.items c.args.call c.self.inside.journal.spare (deque_capacity c.self.inside.items)
-      (subst (λ t. TellsCalls (past t) c.self.inside.states.calls.items) c.self.view_is c.self.invariant.stands.tells.calls) c.self.invariant.room c.requires.call.below c.requires.uncut).1,
+      (subst (λ t. AgreesOnCalls (past t) c.self.inside.states.calls.items) c.self.view_is c.self.invariant.stands.agrees.calls) c.self.invariant.room c.requires.call.below c.requires.uncut).1,
 )
 
 pub invariant_of-self : goal.invariant_of-self

@@ -1,12 +1,12 @@
 use Rattle.std.proofs.Common.{◌≡◌, ◌∙◌, ◌+◌, ◌≤◌, ◌++◌, ◌∷◌, [], Some, None, length, refl, ap, sym, subst, arith}
 use Rattle.std.specs.VecDeque.{deque_capacity}
-use Rattle.rpc_journal.specs.declared.call_states.CallStates.{CallStates}
+use Rattle.rpc_journal.specs.declared.table.call_states.CallStates.{CallStates}
 use Rattle.rpc_journal.specs.declared.entry.EntryKind.TheVariants.{Invoke}
 use Rattle.rpc_journal.specs.Conditions.{CanInvoke}
 use Rattle.rpc_journal.specs.History.{adding}
-use Rattle.rpc_journal.specs.Newest.{IsNamed}
+use Rattle.rpc_journal.specs.table.Newest.{IsNamed}
 use Rattle.rpc_journal.specs.Refusals.{invoke_refusal}
-use Rattle.rpc_journal.specs.Rows.{method_named, sends}
+use Rattle.rpc_journal.specs.Rows.{method_named, packet_item}
 use Rattle.rpc_calls.specs.Owed.{items_of, owed_by}
 use Rattle.rpc_calls.proofs.InvokeSteps.{table_invoked}
 use Rattle.rpc_calls.proofs.OpenTables.{table_kept}
@@ -36,7 +36,7 @@ invariant_of-self-2 g c =
     (ap (λ (t : CallStates). t.unflushed) c.set_unflushed.ensures ∙ c.len.ensures ∙ c.push_back_reserved.new.self.ok.0)
     (ap (λ (t : CallStates). t.input_ended) c.set_unflushed.ensures ∙ c.in_default-open.ensures.rest.input) (ap (λ (t : CallStates). t.halted) c.set_unflushed.ensures ∙ c.in_default-open.ensures.rest.halt) (ap (λ (t : CallStates). t.closed.items) c.set_unflushed.ensures ∙ c.in_default-open.ensures.rest.closed)
     (c.push_reserved.ensures.items ∙ ap (λ xs. xs ++ Some c.args.handler ∷ []) c.in_default.ensures.items)
-    (c.push_back_reserved.ensures.items ∙ ap (λ xs. xs ++ c.send_item.result ∷ []) c.in_default-take_room.ensures.items ∙ ap (λ i. c.self.inside.items.items ++ i ∷ []) (c.send_item.ensures ∙ ap (sends c.len-call.result) c.in-Ok-ask.ensures.1))
+    (c.push_back_reserved.ensures.items ∙ ap (λ xs. xs ++ c.send_item.result ∷ []) c.in_default-take_room.ensures.items ∙ ap (λ i. c.self.inside.items.items ++ i ∷ []) (c.send_item.ensures ∙ ap (packet_item c.len-call.result) c.in-Ok-ask.ensures.1))
     (c.push.ensures.entries ∙ ap (λ es. adding es c.args.seat (Invoke c.in-Ok-ask.packets.0 c.in-Ok.memo)) c.in_default-take_room.ensures.entries ∙ ap (λ q. adding c.self.inside.journal.entries c.args.seat (Invoke q c.in-Ok.memo)) c.in-Ok-ask.ensures.0)
     c.push.ensures.spare
     (subst (λ n. length c.self.inside.items.items + items_of (owed_by c.self.inside.states.calls.items) + 3 ≤ n) (sym c.push_back_reserved.ensures.capacity) (subst (λ o. length c.self.inside.items.items + items_of o + 3 ≤ deque_capacity c.take_room.new.items) c.owed.ensures.counts c.in_default-take_room.ensures.places))
@@ -56,7 +56,7 @@ returns-clause-legal g c =
     (ap (λ (t : CallStates). t.unflushed) c.set_unflushed.ensures ∙ c.len.ensures ∙ c.push_back_reserved.new.self.ok.0)
     (ap (λ (t : CallStates). t.input_ended) c.set_unflushed.ensures ∙ c.in_default-open.ensures.rest.input) (ap (λ (t : CallStates). t.halted) c.set_unflushed.ensures ∙ c.in_default-open.ensures.rest.halt) (ap (λ (t : CallStates). t.closed.items) c.set_unflushed.ensures ∙ c.in_default-open.ensures.rest.closed)
     (c.push_reserved.ensures.items ∙ ap (λ xs. xs ++ Some c.args.handler ∷ []) c.in_default.ensures.items)
-    (c.push_back_reserved.ensures.items ∙ ap (λ xs. xs ++ c.send_item.result ∷ []) c.in_default-take_room.ensures.items ∙ ap (λ i. c.self.inside.items.items ++ i ∷ []) (c.send_item.ensures ∙ ap (sends c.len-call.result) c.in-Ok-ask.ensures.1))
+    (c.push_back_reserved.ensures.items ∙ ap (λ xs. xs ++ c.send_item.result ∷ []) c.in_default-take_room.ensures.items ∙ ap (λ i. c.self.inside.items.items ++ i ∷ []) (c.send_item.ensures ∙ ap (packet_item c.len-call.result) c.in-Ok-ask.ensures.1))
     (c.push.ensures.entries ∙ ap (λ es. adding es c.args.seat (Invoke c.in-Ok-ask.packets.0 c.in-Ok.memo)) c.in_default-take_room.ensures.entries ∙ ap (λ q. adding c.self.inside.journal.entries c.args.seat (Invoke q c.in-Ok.memo)) c.in-Ok-ask.ensures.0)
     c.push.ensures.spare
     (subst (λ n. length c.self.inside.items.items + items_of (owed_by c.self.inside.states.calls.items) + 3 ≤ n) (sym c.push_back_reserved.ensures.capacity) (subst (λ o. length c.self.inside.items.items + items_of o + 3 ≤ deque_capacity c.take_room.new.items) c.owed.ensures.counts c.in_default-take_room.ensures.places))

@@ -1,14 +1,14 @@
 use Rattle.std.proofs.Common.{◌≡◌, ◌∙◌, ◌+◌, ◌≤◌, None, Some, Ok, IfSome, IsTrue, length, is_some, slice_get, ap, sym, subst, arith}
 use Rattle.std.specs.VecDeque.{deque_capacity}
 use Rattle.std.proofs.lemmas.Option.{get_or_from_slice_get}
-use Rattle.rpc_journal.specs.declared.call_state.CallState.{CallState}
-use Rattle.rpc_journal.specs.declared.call_states.CallStates.{CallStates}
+use Rattle.rpc_journal.specs.declared.table.call_state.CallState.{CallState}
+use Rattle.rpc_journal.specs.declared.table.call_states.CallStates.{CallStates}
 use Rattle.rpc_journal.specs.declared.entry.EntryKind.TheVariants.{Replace}
 use Rattle.rpc_journal.specs.Changes.{ReplaceDid}
 use Rattle.rpc_journal.specs.History.{adding, history}
 use Rattle.rpc_journal.specs.Refusals.{replace_refusal}
 use Rattle.rpc_journal.specs.States.{state_of}
-use Rattle.rpc_journal.specs.Table.{past}
+use Rattle.rpc_journal.specs.CallTable.{past}
 use Rattle.rpc_calls.specs.Handlers.{IsHandlerOf}
 use Rattle.rpc_calls.specs.Owed.{items_of}
 use Rattle.rpc_calls.proofs.ArriveSteps.{table_roomier}
@@ -20,7 +20,7 @@ pub invariant_of-self-in-Ok : goal.invariant_of-self-in-Ok
 invariant_of-self-in-Ok g c =
     let unrefused = subst (λ t. replace_refusal t.setting t.entries c.args.call ≡ None) (sym c.self.view_is) c.requires.unrefused in
     (table_replaced g.H.Acts.now g.H.Acts.can_act g.H.Handler.rule c.self.inside.setting c.self.inside.journal c.push.new.self c.args.seat c.args.call c.in-Ok.memo c.args.handler c.swap_handler-old.result c.self.inside.states c.self.inside.handlers.items c.swap_handler-old.new.handlers.items c.self.inside.items.items c.take_room.new.items.items _ _ c.take_room.new.journal.spare c.self.invariant unrefused
-    (omega (arith, (replaceable c.self.inside.setting c.self.inside.journal.entries c.args.call unrefused).there, c.self.invariant.stands.tells.calls.many)) c.requires.able c.in-Ok.ensures
+    (omega (arith, (replaceable c.self.inside.setting c.self.inside.journal.entries c.args.call unrefused).there, c.self.invariant.stands.agrees.calls.many)) c.requires.able c.in-Ok.ensures
     (handler_back g.H.Acts.now g.H.Acts.can_act g.H.Handler.rule c.self.inside.setting c.self.inside.journal c.self.inside.states c.self.inside.handlers.items c.self.inside.items.items _ c.args.call c.is_some-runs.result c.swap_handler-old.result c.self.invariant unrefused
     (λ r is. c.is_some-runs.ensures ∙ ap (λ (q : CallState). is_some q.run) (c.index.ensures ∙ get_or_from_slice_get c.all.result.now.calls.items c.args.call r c.index.result.now (ap (λ (t : CallStates). slice_get t.calls.items c.args.call) c.all.ensures ∙ is)))
     c.swap_handler-old.ensures.back)
@@ -40,7 +40,7 @@ returns-in-Ok-clause-did g c =
     subst (λ t. ReplaceDid {H = g.row.H.Denot} t.setting c.args.seat c.args.call (g.H.Acts.now c.args.handler) (Ok c.swap_handler-old.result) t.entries c.push.new.self.entries) c.self.view_is
     (subst (λ m. ReplaceDid {H = g.row.H.Denot} c.self.inside.setting c.args.seat c.args.call m (Ok c.swap_handler-old.result) c.self.inside.journal.entries c.push.new.self.entries) c.in-Ok.ensures
     (table_replaced g.H.Acts.now g.H.Acts.can_act g.H.Handler.rule c.self.inside.setting c.self.inside.journal c.push.new.self c.args.seat c.args.call c.in-Ok.memo c.args.handler c.swap_handler-old.result c.self.inside.states c.self.inside.handlers.items c.swap_handler-old.new.handlers.items c.self.inside.items.items c.take_room.new.items.items _ (deque_capacity c.take_room.new.items) c.take_room.new.journal.spare c.self.invariant unrefused
-    (omega (arith, (replaceable c.self.inside.setting c.self.inside.journal.entries c.args.call unrefused).there, c.self.invariant.stands.tells.calls.many)) c.requires.able c.in-Ok.ensures
+    (omega (arith, (replaceable c.self.inside.setting c.self.inside.journal.entries c.args.call unrefused).there, c.self.invariant.stands.agrees.calls.many)) c.requires.able c.in-Ok.ensures
     (handler_back g.H.Acts.now g.H.Acts.can_act g.H.Handler.rule c.self.inside.setting c.self.inside.journal c.self.inside.states c.self.inside.handlers.items c.self.inside.items.items _ c.args.call c.is_some-runs.result c.swap_handler-old.result c.self.invariant unrefused
     (λ r is. c.is_some-runs.ensures ∙ ap (λ (q : CallState). is_some q.run) (c.index.ensures ∙ get_or_from_slice_get c.all.result.now.calls.items c.args.call r c.index.result.now (ap (λ (t : CallStates). slice_get t.calls.items c.args.call) c.all.ensures ∙ is)))
     c.swap_handler-old.ensures.back)
@@ -53,7 +53,7 @@ pub returns-in-Ok-clause-legal : goal.returns-in-Ok-clause-legal
 returns-in-Ok-clause-legal g c =
     let unrefused = subst (λ t. replace_refusal t.setting t.entries c.args.call ≡ None) (sym c.self.view_is) c.requires.unrefused in
     (table_replaced g.H.Acts.now g.H.Acts.can_act g.H.Handler.rule c.self.inside.setting c.self.inside.journal c.push.new.self c.args.seat c.args.call c.in-Ok.memo c.args.handler c.swap_handler-old.result c.self.inside.states c.self.inside.handlers.items c.swap_handler-old.new.handlers.items c.self.inside.items.items c.take_room.new.items.items _ (deque_capacity c.take_room.new.items) c.take_room.new.journal.spare c.self.invariant unrefused
-    (omega (arith, (replaceable c.self.inside.setting c.self.inside.journal.entries c.args.call unrefused).there, c.self.invariant.stands.tells.calls.many)) c.requires.able c.in-Ok.ensures
+    (omega (arith, (replaceable c.self.inside.setting c.self.inside.journal.entries c.args.call unrefused).there, c.self.invariant.stands.agrees.calls.many)) c.requires.able c.in-Ok.ensures
     (handler_back g.H.Acts.now g.H.Acts.can_act g.H.Handler.rule c.self.inside.setting c.self.inside.journal c.self.inside.states c.self.inside.handlers.items c.self.inside.items.items _ c.args.call c.is_some-runs.result c.swap_handler-old.result c.self.invariant unrefused
     (λ r is. c.is_some-runs.ensures ∙ ap (λ (q : CallState). is_some q.run) (c.index.ensures ∙ get_or_from_slice_get c.all.result.now.calls.items c.args.call r c.index.result.now (ap (λ (t : CallStates). slice_get t.calls.items c.args.call) c.all.ensures ∙ is)))
     c.swap_handler-old.ensures.back)

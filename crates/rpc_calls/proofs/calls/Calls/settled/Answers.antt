@@ -1,10 +1,10 @@
 use Rattle.std.proofs.Common.{◌≡◌, ◌∙◌, ◌&&◌, reverse, ap, sym, subst}
 use Rattle.rpc_journal.specs.Calls.{call_count}
 use Rattle.rpc_journal.specs.Items.{input_ended}
-use Rattle.rpc_journal.specs.Marks.{is_empty}
+use Rattle.rpc_journal.specs.Kinds.{is_empty}
 use Rattle.rpc_journal.specs.Queues.{waiting_of}
 use Rattle.rpc_journal.specs.Quiet.{all_below, is_settled, none_runs}
-use Rattle.rpc_journal.specs.Table.{past}
+use Rattle.rpc_journal.specs.CallTable.{past}
 use Rattle.rpc_calls.proofs.StillLemmas.{settled_is}
 use Rattle.rpc_calls.proofs.calls.Calls.settled.Goals as goal
 

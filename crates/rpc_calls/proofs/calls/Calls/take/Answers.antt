@@ -1,6 +1,6 @@
 use Rattle.std.proofs.Common.{subst}
 use Rattle.std.proofs.Math.Facts.{Fits-of_lt}
-use Rattle.rpc_journal.specs.Table.{past}
+use Rattle.rpc_journal.specs.CallTable.{past}
 use Rattle.rpc_calls.specs.Arrivals.{IsLiveMove}
 use Rattle.rpc_calls.proofs.calls.Calls.take.Goals as goal
 

@@ -1,7 +1,7 @@
 use Rattle.std.proofs.Common.{◌<◌, length, sym, subst}
 use Rattle.rpc_handlers.specs.declared.event.Event.TheVariants.{Message}
-use Rattle.rpc_journal.specs.Touch.{answering}
-use Rattle.rpc_journal.specs.Turns.{Turns}
+use Rattle.rpc_journal.specs.table.Touch.{answering}
+use Rattle.rpc_journal.specs.table.Turns.{Turns}
 use Rattle.rpc_calls.proofs.IndexSteps.{can_reindex, index_changed}
 use Rattle.rpc_calls.proofs.indexed_states.IndexedStates.answer.Goals as goal
 

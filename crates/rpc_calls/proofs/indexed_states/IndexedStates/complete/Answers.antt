@@ -1,7 +1,7 @@
 use Rattle.std.proofs.Common.{◌<◌, length, sym, subst, arith}
-use Rattle.rpc_journal.specs.Touch.{completing}
+use Rattle.rpc_journal.specs.table.Touch.{completing}
 use Rattle.rpc_calls.specs.Places.{ChangesAt}
-use Rattle.rpc_journal.specs.Turns.{Turns}
+use Rattle.rpc_journal.specs.table.Turns.{Turns}
 use Rattle.rpc_calls.proofs.IndexSteps.{can_reindex, index_changed}
 use Rattle.rpc_calls.proofs.indexed_states.IndexedStates.complete.Goals as goal
 

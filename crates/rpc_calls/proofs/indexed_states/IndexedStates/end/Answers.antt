@@ -1,6 +1,6 @@
 use Rattle.std.proofs.Common.{◌<◌, length, sym, subst}
-use Rattle.rpc_journal.specs.Touch.{ending}
-use Rattle.rpc_journal.specs.Turns.{Turns}
+use Rattle.rpc_journal.specs.table.Touch.{ending}
+use Rattle.rpc_journal.specs.table.Turns.{Turns}
 use Rattle.rpc_calls.proofs.IndexSteps.{can_reindex, index_changed}
 use Rattle.rpc_calls.proofs.indexed_states.IndexedStates.end.Goals as goal
 

@@ -1,8 +1,8 @@
 use Rattle.std.proofs.Common.{◌<◌, ◌+◌, ◌^◌, ◌∙◌, length, refl, ap, sym, subst, arith}
 use Rattle.rpc_ids.specs.declared.status.Status.TheVariants.{Cancelled}
-use Rattle.rpc_journal.specs.Touch.{closing}
+use Rattle.rpc_journal.specs.table.Touch.{closing}
 use Rattle.rpc_calls.specs.Indexed.{CanReindex, IsIndexed}
-use Rattle.rpc_journal.specs.Turns.{Turns}
+use Rattle.rpc_journal.specs.table.Turns.{Turns}
 use Rattle.rpc_calls.proofs.IndexSteps.{can_index, can_reindex, index_changed, index_opened, index_widened}
 use Rattle.rpc_calls.proofs.indexed_states.IndexedStates.open_anew.Goals as goal
 

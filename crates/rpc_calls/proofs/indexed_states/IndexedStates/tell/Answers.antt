@@ -1,5 +1,5 @@
 use Rattle.std.proofs.Common.{◌<◌, length, sym, subst}
-use Rattle.rpc_journal.specs.Turns.{IsTold}
+use Rattle.rpc_journal.specs.table.Turns.{IsTold}
 use Rattle.rpc_calls.proofs.IndexSteps.{can_reindex, index_changed}
 use Rattle.rpc_calls.proofs.indexed_states.IndexedStates.tell.Goals as goal
 

@@ -1,5 +1,5 @@
 use Rattle.std.proofs.Common.{◌∙◌, arith}
-use Rattle.rpc_journal.specs.Turns.{IsTold}
+use Rattle.rpc_journal.specs.table.Turns.{IsTold}
 use Rattle.rpc_calls.proofs.PlaceChanges.{changes_all, changes_more}
 use Rattle.rpc_calls.proofs.indexed_states.IndexedStates.tell_all.Goals as goal
 

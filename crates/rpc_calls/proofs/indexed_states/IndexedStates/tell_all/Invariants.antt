@@ -1,7 +1,7 @@
 -- The calls below this one were told, and the others are as they were.
 use Rattle.std.proofs.Common.{◌≡◌, length}
 use Rattle.rpc_calls.specs.Outside.{SameOutside}
-use Rattle.rpc_journal.specs.Turns.{IsTold}
+use Rattle.rpc_journal.specs.table.Turns.{IsTold}
 use Rattle.rpc_calls.proofs.PlaceChanges.{ChangesBelow}
 use Rattle.rpc_calls.proofs.indexed_states.IndexedStates.tell_all.Given as goal
 

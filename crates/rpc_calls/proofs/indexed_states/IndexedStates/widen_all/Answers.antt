@@ -1,6 +1,6 @@
 use Rattle.std.proofs.Common.{◌≡◌, ◌∙◌, ◌<◌, length, slice_get, Some, sym, below_more, arith}
 use Rattle.std.proofs.lemmas.Option.{slice_get_within}
-use Rattle.rpc_journal.specs.declared.call_state.CallState.{CallState}
+use Rattle.rpc_journal.specs.declared.table.call_state.CallState.{CallState}
 use Rattle.rpc_calls.specs.Widened.{HasTwoPlaces}
 use Rattle.rpc_calls.proofs.WiderSteps.{wider_more}
 use Rattle.rpc_calls.proofs.indexed_states.IndexedStates.widen_all.Goals as goal

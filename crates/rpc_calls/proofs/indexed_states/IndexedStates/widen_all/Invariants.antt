@@ -1,6 +1,6 @@
 -- The calls below this one have two places, and none has fewer than it had.
 use Rattle.std.proofs.Common.{◌≡◌, ℕ, ◌<◌, length, slice_get, Some}
-use Rattle.rpc_journal.specs.declared.call_state.CallState.{CallState}
+use Rattle.rpc_journal.specs.declared.table.call_state.CallState.{CallState}
 use Rattle.rpc_calls.specs.Outside.{SameOutside}
 use Rattle.rpc_calls.specs.Places.{ChangesAll}
 use Rattle.rpc_calls.specs.Widened.{HasTwoPlaces, IsWider}

@@ -1,4 +1,4 @@
-use Rattle.rpc_calls.specs.Ran.{run_in}
+use Rattle.rpc_journal.specs.Ran.{run_in}
 use Rattle.rpc_calls.proofs.RunsStand.{run_started}
 use Rattle.rpc_calls.proofs.tests.runs.start_next.Goals as goal
 
