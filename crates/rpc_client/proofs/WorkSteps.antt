@@ -11,12 +11,12 @@ use Rattle.rpc_journal.specs.declared.entry.EntryKind.TheVariants.{Finish}
 use Rattle.rpc_journal.specs.History.{adding}
 use Rattle.rpc_journal.specs.Queues.{taken_event}
 use Rattle.rpc_journal.specs.Runs.{IsAnswerOf}
-use Rattle.rpc_journal.specs.Table.{Table, past}
-use Rattle.rpc_calls.specs.Ran.{Ran}
+use Rattle.rpc_journal.specs.CallTable.{Table, past}
+use Rattle.rpc_journal.specs.Ran.{Ran}
 use Rattle.rpc_schedule.specs.Serving.{HasHeard, Serving}
-use Rattle.rpc_end.specs.EndHolds.{IsEnd, IsKept, kept_call}
-use Rattle.rpc_end.proofs.CallSteps.{ended}
-use Rattle.rpc_end.proofs.FedLemmas.{began_heard, ended_heard}
+use Rattle.rpc_schedule.specs.ends.EndHolds.{IsEnd, IsKept, kept_call}
+use Rattle.rpc_schedule.proofs.ends.CallSteps.{ended}
+use Rattle.rpc_schedule.proofs.ends.FedLemmas.{began_heard, ended_heard}
 use Rattle.rpc_client.specs.Working.{HandsOn, WorksOn}
 
 -- the call and the event of the run that ended are handed on

@@ -4,8 +4,8 @@ ghost use Rattle.rpc_handlers.specs.HandlerRule.{empty_memo};
 ghost use Rattle.rpc_journal.specs.Lawful.{IsLegal};
 ghost use Rattle.rpc_schedule.specs.Fresh.{IsFresh};
 ghost use Rattle.rpc_ids.specs.declared.method.Role.TheVariants.{Client as client_role};
-ghost use Rattle.rpc_end.specs.OwnEntries.{AreOwn};
-ghost use Rattle.rpc_end.specs.EndState.{WasFed};
+ghost use Rattle.rpc_schedule.specs.ends.OwnEntries.{AreOwn};
+ghost use Rattle.rpc_schedule.specs.ends.EndState.{WasFed};
 
 mod asking;
 mod idle;
@@ -33,14 +33,14 @@ pub struct Client<H: Handler> {
 }
 
 impl<H: Handler> Model for Client<H> {
-    ghost use Rattle.rpc_end.specs.EndState.{EndState};
+    ghost use Rattle.rpc_schedule.specs.ends.EndState.{EndState};
 
     ghost Value = { EndState };
 
     ghost use Rattle.std.specs.Prelude.{◌≡◌};
     ghost use Rattle.rpc_ids.specs.declared.method.Role.TheVariants.{Client as client_role};
     ghost use Rattle.rpc_handlers.specs.HandlerRule.{empty_memo};
-    ghost use Rattle.rpc_end.specs.EndHolds.{IsEnd, kept_call};
+    ghost use Rattle.rpc_schedule.specs.ends.EndHolds.{IsEnd, kept_call};
 
     ghost view = { λ s. record {
       serving = record { table = s.calls; kept = kept_call s.kept; refused = s.refused };

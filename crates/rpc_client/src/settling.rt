@@ -1,7 +1,7 @@
 //! The loop that runs a client until it has nothing to run.
 ghost use Rattle.std.specs.Prelude.{◌≡◌, ℕ, List};
 ghost use Rattle.rpc_ids.specs.declared.method.Role.TheVariants.{Client as client_role};
-ghost use Rattle.rpc_end.specs.EndState.{WasFed};
+ghost use Rattle.rpc_schedule.specs.ends.EndState.{WasFed};
 ghost use Rattle.rpc_client.specs.Settling.{Lists, WorksUntilIdle};
 
 use crate::Client;

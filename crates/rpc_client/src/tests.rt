@@ -1,7 +1,7 @@
 //! What a client sends, and what it hands on of what comes.
 mod desk;
 
-use crate::Client;
+use crate::{Client, work_until_idle};
 use bytes::Bytes;
 use desk::{Quiet, done, feed, invoke, next_sent, open_client};
 use rpc_handlers::{Event, Out};
@@ -121,5 +121,22 @@ fn a_response_is_handed_on_before_the_end(rt: HostRuntime) -> Result<(), Fail> {
     );
     assert!(rt; matches!(client.work()?, Some((0, Event::Ended(Status::Okay)))));
     assert!(rt; client.work()?.is_none());
+    Ok(())
+}
+
+#[test]
+fn a_client_works_until_nothing_is_ready(rt: HostRuntime) -> Result<(), Fail> {
+    let (mut client, methods) = open_client(rt.alloc())?;
+    assert_eq!(rt; invoke(&rt, &mut client, rt.alloc(), methods.echo), Ok(0));
+    assert_eq!(rt;
+        feed(&rt, &mut client, ECHO_RESPONSE),
+        Ok(ECHO_RESPONSE.len())
+    );
+    let mut handed = Vec::new(rt.alloc());
+    assert_eq!(rt; work_until_idle(&mut client, &mut handed), Ok(()));
+    assert!(rt; matches!(handed.pop(), Some((0, Event::Ended(Status::Okay)))));
+    assert!(rt; matches!(handed.pop(), Some((0, Event::Message(_)))));
+    assert!(rt; handed.is_empty());
+    assert!(rt; client.idle());
     Ok(())
 }

@@ -9,7 +9,7 @@ use Rattle.rpc_journal.specs.Calls.{call_count}
 use Rattle.rpc_journal.specs.Choice.{NoneReady}
 use Rattle.rpc_journal.specs.History.{history}
 use Rattle.rpc_journal.specs.Items.{arrival_of, arrivals, is_ready}
-use Rattle.rpc_journal.specs.Marks.{is_empty}
+use Rattle.rpc_journal.specs.Kinds.{is_empty}
 use Rattle.rpc_journal.specs.Queues.{waiting_of}
 use Rattle.rpc_journal.specs.Quiet.{all_below}
 use Rattle.rpc_journal.proofs.KnownLemmas.{ready_known}

@@ -16,7 +16,7 @@ use Rattle.rpc_journal.specs.Choice.{SomeReady}
 use Rattle.rpc_journal.specs.Effect.{Deed}
 use Rattle.rpc_journal.specs.History.{history, adding, entry_by}
 use Rattle.rpc_journal.specs.Items.{arrivals, flush_count, input_ended, items_flushed, items_sent}
-use Rattle.rpc_journal.specs.Marks.{is_empty}
+use Rattle.rpc_journal.specs.Kinds.{is_empty}
 use Rattle.rpc_journal.specs.Queues.{waiting_of}
 use Rattle.rpc_journal.specs.Quiet.{all_below, is_still}
 use Rattle.rpc_journal.proofs.PlaceLemmas.{get_none}

@@ -10,3 +10,4 @@ pub mod ScheduleLemmas
 pub mod ServingLemmas
 pub mod StreamLemmas
 pub mod ThereLemmas
+pub mod ends

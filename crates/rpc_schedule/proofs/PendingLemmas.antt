@@ -10,7 +10,7 @@ use Rattle.rpc_journal.specs.declared.waiting.Waiting.{Waiting}
 use Rattle.rpc_journal.specs.Calls.{of_call, is_start_of}
 use Rattle.rpc_journal.specs.Effect.{Deed}
 use Rattle.rpc_journal.specs.Items.{is_ready}
-use Rattle.rpc_journal.specs.Marks.{is_empty}
+use Rattle.rpc_journal.specs.Kinds.{is_empty}
 use Rattle.rpc_journal.specs.Queues.{drops_of, puts_since, starts_since, waiting_of}
 
 -- without the events of these calls

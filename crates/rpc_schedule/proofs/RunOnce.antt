@@ -1,13 +1,8 @@
 -- A call that is ready can run, and an event fewer waits then.
-use Rattle.std.proofs.Common.{◌≡◌, ℕ, suc, ◌+◌, ◌<◌, ◌≤◌, Bool, true, false, ◌&&◌, ◌==◌, List, [], ◌∷◌, ◌++◌, length, map, fold, slice_get, Option, Some, None, is_some, option_map, option_to_list, ◌||◌, reverse, if◌then◌else◌, refl, ap, sym, ◌∙◌, subst, arith, length-append}
+use Rattle.std.proofs.Common.{◌≡◌, ℕ, suc, ◌+◌, ◌<◌, ◌≤◌, Bool, true, false, ◌&&◌, ◌==◌, List, [], ◌∷◌, ◌++◌, length, map, fold, slice_get, Option, Some, None, is_some, option_map, option_to_list, reverse, if◌then◌else◌, refl, ap, sym, ◌∙◌, subst, arith, length-append}
 use Rattle.std.proofs.lemmas.Bool.{true≢false, false≢true, eqb-true, eq-eqb, eqb-false}
 use Rattle.std.specs.List.{list_any}
-use Rattle.rpc_ids.specs.declared.method.Kind.{Kind}
-use Rattle.rpc_ids.specs.declared.method.Role.{Role}
-use Rattle.rpc_ids.specs.declared.method.Role.TheVariants.{Server, Client}
-use Rattle.rpc_packet.specs.declared.call_name.CallName.{CallName}
 use Rattle.rpc_handlers.specs.declared.answer.Answer.{Answer}
-use Rattle.rpc_handlers.specs.declared.answer.End.{End}
 use Rattle.rpc_handlers.specs.declared.event.Event.{Event}
 use Rattle.rpc_handlers.specs.declared.event.Memo.{Memo}
 use Rattle.rpc_handlers.specs.HandlerRule.{HandlerRule}
@@ -16,17 +11,17 @@ use Rattle.rpc_journal.specs.declared.entry.EntryKind.{EntryKind}
 use Rattle.rpc_journal.specs.declared.entry.EntryKind.TheVariants.{Start, Finish, Replace}
 use Rattle.rpc_journal.specs.declared.setting.Setting.{Setting}
 use Rattle.rpc_journal.specs.declared.waiting.Waiting.{Waiting}
-use Rattle.rpc_journal.specs.Calls.{call_at, call_count, calls, is_cancelled, is_replace_of, is_start_of, of_call}
+use Rattle.rpc_journal.specs.Calls.{call_at, call_count, calls, is_replace_of, is_start_of, of_call}
 use Rattle.rpc_journal.specs.Choice.{IsFirstReady}
 use Rattle.rpc_journal.specs.Effect.{Deed, Effect, Opening}
-use Rattle.rpc_journal.specs.Entries.{answered, end_effect, finish_effect, is_heard}
-use Rattle.rpc_journal.specs.History.{adding, entry_by, history, tell}
-use Rattle.rpc_journal.specs.Items.{flush_count, is_done, is_ready, items_sent}
-use Rattle.rpc_journal.specs.Marks.{is_empty, is_okay, is_unary}
+use Rattle.rpc_journal.specs.Entries.{finish_effect}
+use Rattle.rpc_journal.specs.History.{adding, entry_by, history, deeds_with}
+use Rattle.rpc_journal.specs.Items.{flush_count, is_ready, items_sent}
+use Rattle.rpc_journal.specs.Kinds.{is_empty}
 use Rattle.rpc_journal.specs.Queues.{taken_event, waiting_of}
 use Rattle.rpc_journal.specs.Rows.{no_effect}
 use Rattle.rpc_journal.specs.States.{finished_since, opened_state, replacing_state, state_before_run, state_set}
-use Rattle.rpc_journal.proofs.KnownLemmas.{ready_known}
+use Rattle.rpc_journal.proofs.KnownLemmas.{ready_known, finish-puts}
 use Rattle.rpc_journal.proofs.Push.{history-push}
 use Rattle.rpc_schedule.specs.Schedule.{Ran, answer_by_rule, run_seat}
 use Rattle.rpc_schedule.proofs.ServingLemmas.{run_history}
@@ -67,10 +62,10 @@ first_waits (w ∷ ws) some = (w.event, refl)
 
 -- what the rule answers to the run of a ready call
 pub can_answer : (rule : HandlerRule) (set : Setting) (h : List Entry) (c : ℕ) → is_ready (history set h) c ≡ true
-    → (answer : Answer) × (answer_by_rule rule set (tell set (history set h) (entry_by run_seat (Start c))) c ≡ Some answer)
+    → (answer : Answer) × (answer_by_rule rule set (deeds_with set (history set h) (entry_by run_seat (Start c))) c ≡ Some answer)
 can_answer rule set h c ready =
     let ds : List Deed = history set h in
-    let start : List Deed = tell set ds (entry_by run_seat (Start c)) in
+    let start : List Deed = deeds_with set ds (entry_by run_seat (Start c)) in
     let own : (c == c) ≡ true = eq-eqb c c refl in
     let state = state_known rule set ds c (ready_known_here ready) in
     let event = first_waits (waiting_of ds c) (some_waits ds c ready) in
@@ -81,22 +76,6 @@ can_answer rule set h c ready =
   where
     ready_known_here : is_ready (history set h) c ≡ true → c < call_count (history set h)
     ready_known_here is = ready_known set (reverse h) c is
-
--- a Finish puts no event
-if_none : (b : Bool) (x y : Effect) → x.puts ≡ [] → y.puts ≡ [] → (if b then x else y).puts ≡ []
-if_none true x y first second = first
-if_none false x y first second = second
-
-end_none : (role : Role) (c : ℕ) (name : CallName) (kind : Kind) (done : Bool) (end : Option End) → (end_effect role c name kind done end).puts ≡ []
-end_none role c name kind done None = refl
-end_none Server c name kind done (Some end) = refl
-end_none Client c name kind done (Some end) = if_none (is_okay end.status) _ _ (if_none (is_unary kind || done) _ _ refl refl) refl
-
-finish_none : (set : Setting) (ds : List Deed) (c : ℕ) (a : Answer) (o : Option Opening) → (finish_effect set ds c a o).puts ≡ []
-finish_none set ds c a None = refl
-finish_none set ds c a (Some o) =
-    if_none (is_cancelled ds c) _ (answered set.role c o (is_heard ds c) (is_done ds c) a) refl
-    (if_none (is_heard ds c) _ _ (end_none set.role c o.name o.method.kind (is_done ds c) a.end) refl)
 
 -- the oldest event of c is taken
 taking_fewer : (c : ℕ) (event : Event) (xs : List (ℕ × Event)) → slice_get (of_call c xs) 0 ≡ Some event → length (taking c xs) + 1 ≡ length xs
@@ -137,7 +116,7 @@ stands_still ds d w not_start none same flushed = (
 
 -- call c runs
 run_stands : (set : Setting) (ds : List Deed) (w : Stands ds) (c : ℕ) (a : Answer) → is_ready ds c ≡ true
-    → (after : Stands (tell set (tell set ds (entry_by run_seat (Start c))) (entry_by run_seat (Finish c a)))) × (length after.waiting < length w.waiting)
+    → (after : Stands (deeds_with set (deeds_with set ds (entry_by run_seat (Start c))) (entry_by run_seat (Finish c a)))) × (length after.waiting < length w.waiting)
 run_stands set ds w c a ready =
     let start : Deed = record { entry = entry_by run_seat (Start c); does = no_effect } in
     let middle : List Deed = start ∷ ds in
@@ -155,7 +134,7 @@ run_stands set ds w c a ready =
       tells = pending_step ds start w.waiting w.tells (λ k starts. subst (λ x. is_empty (waiting_of ds x) ≡ false) (eqb-true c k starts) (some_waits ds c ready));
       flushed = omega (arith, w.flushed, length-append (items_sent ds) []);
     })
-    (λ k. refl) (finish_none set middle c a (call_at middle c)) refl
+    (λ k. refl) (finish-puts set middle c a (call_at middle c)) refl
     (omega (arith, w.flushed, length-append (items_sent ds ++ []) effect.says, length-append (items_sent ds) [])) in
     (after.0, omega (arith, after.1, fewer))
 

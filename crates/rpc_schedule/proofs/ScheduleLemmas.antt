@@ -14,7 +14,7 @@ use Rattle.rpc_journal.specs.declared.setting.Setting.{Setting}
 use Rattle.rpc_journal.specs.Choice.{GoesBefore, IsFirstReady, NoneReady, SomeReady}
 use Rattle.rpc_journal.specs.Effect.{Deed}
 use Rattle.rpc_journal.specs.History.{history, adding, entry_by}
-use Rattle.rpc_journal.proofs.TableLemmas.{some_same}
+use Rattle.rpc_journal.proofs.PlaceLemmas.{some_same}
 use Rattle.rpc_schedule.specs.OneThread.{AwaitsArrive, AwaitsStart, Handled, IsFullBeginning, IsOneThreadHistory, IsStoreStop, IsUnderway, OpensLast}
 use Rattle.rpc_schedule.specs.Schedule.{IsByRule, IsOver, Ran, Reaches, Settles, Stage, Turn, Turns, flush_seat, input_seat, next_item, run_seat}
 use Rattle.rpc_schedule.specs.Schedule.Stage.{running, flushing}

@@ -15,12 +15,12 @@ use Rattle.rpc_journal.specs.Calls.{runner_of, is_start_of, is_finish_of}
 use Rattle.rpc_journal.specs.Choice.{IsFirstReady}
 use Rattle.rpc_journal.specs.Effect.{Deed}
 use Rattle.rpc_journal.specs.Entries.{effect_of}
-use Rattle.rpc_journal.specs.History.{history, adding, entry_by, tell}
+use Rattle.rpc_journal.specs.History.{history, adding, entry_by, deeds_with}
 use Rattle.rpc_journal.specs.Items.{arrivals, flush_count, input_ended, is_flush, items_flushed, items_sent, items_waiting}
 use Rattle.rpc_journal.specs.Refusals.{is_full}
 use Rattle.rpc_journal.proofs.Push.{history-push}
 use Rattle.rpc_journal.proofs.VerdictLemmas.{take_next}
-use Rattle.rpc_journal.proofs.TableLemmas.{some_same}
+use Rattle.rpc_journal.proofs.PlaceLemmas.{some_same}
 use Rattle.rpc_schedule.specs.OneThread.{takes_room}
 use Rattle.rpc_schedule.specs.Schedule.{Flushed, IsByRule, Ran, flush_seat, input_seat, next_item, run_seat}
 use Rattle.rpc_schedule.specs.Serving.{Begins, Ends, Gives, Serving, deeds, with_entry}
@@ -52,10 +52,10 @@ abbrev run_entries : List Entry → ℕ → Answer → List Entry
 run_entries h c a = adding (adding h run_seat (Start c)) run_seat (Finish c a)
 
 pub run_history : (set : Setting) (h : List Entry) (c : ℕ) (a : Answer)
-    → history set (run_entries h c a) ≡ tell set (tell set (history set h) (entry_by run_seat (Start c))) (entry_by run_seat (Finish c a))
+    → history set (run_entries h c a) ≡ deeds_with set (deeds_with set (history set h) (entry_by run_seat (Start c))) (entry_by run_seat (Finish c a))
 run_history set h c a =
     history-push set (adding h run_seat (Start c)) (entry_by run_seat (Finish c a))
-    ∙ ap (λ ds. tell set ds (entry_by run_seat (Finish c a))) (history-push set h (entry_by run_seat (Start c)))
+    ∙ ap (λ ds. deeds_with set ds (entry_by run_seat (Finish c a))) (history-push set h (entry_by run_seat (Start c)))
 
 pub run_arrivals : (h : List Entry) (c : ℕ) (a : Answer) → arrivals (run_entries h c a) ≡ arrivals h
 run_arrivals h c a =
@@ -66,7 +66,7 @@ run_length : (h : List Entry) (c : ℕ) (a : Answer) → length (run_entries h c
 run_length h c a = omega (arith, length-push (adding h run_seat (Start c)) (entry_by run_seat (Finish c a)), length-push h (entry_by run_seat (Start c)))
 
 run_runs_none : (set : Setting) (ds : List Deed) (c : ℕ) (a : Answer) → ((k : ℕ) → runner_of ds k ≡ None)
-    → (k : ℕ) → runner_of (tell set (tell set ds (entry_by run_seat (Start c))) (entry_by run_seat (Finish c a))) k ≡ None
+    → (k : ℕ) → runner_of (deeds_with set (deeds_with set ds (entry_by run_seat (Start c))) (entry_by run_seat (Finish c a))) k ≡ None
 run_runs_none set ds c a none k = at (c == k)
   where
     at : (b : Bool) → (if false then Some run_seat else if b then None else if b then Some run_seat else if false then None else runner_of ds k) ≡ None
@@ -87,7 +87,7 @@ step_run rule old c a orderly room first by_rule =
     let set = old.table.setting in
     let h = old.table.entries in
     let ds : List Deed = history set h in
-    let says : List Item = (effect_of set (tell set ds (entry_by run_seat (Start c))) (Finish c a)).says in
+    let says : List Item = (effect_of set (deeds_with set ds (entry_by run_seat (Start c))) (Finish c a)).says in
     let is = run_history set h c a in
     let below = below_full h room in
     let sent : items_sent ds ++ [] ≡ items_sent ds = append-nil (items_sent ds) in
@@ -124,7 +124,7 @@ run_steps rule old begun new orderly begins ends = at (subst (λ s. Ends rule s 
         (step_run rule old begins.call e.answer orderly begins.room begins.first
         (subst (λ k. IsByRule rule old.table.setting (adding old.table.entries run_seat (Start begins.call)) k e.answer) same e.by_rule))
 
-flush_history : (set : Setting) (h : List Entry) → history set (adding h flush_seat Flush) ≡ tell set (history set h) (entry_by flush_seat Flush)
+flush_history : (set : Setting) (h : List Entry) → history set (adding h flush_seat Flush) ≡ deeds_with set (history set h) (entry_by flush_seat Flush)
 flush_history set h = history-push set h (entry_by flush_seat Flush)
 
 -- the first item that waits is flushed
@@ -174,7 +174,7 @@ input_steps old kind orderly not_start not_finish not_flush room =
     let e = entry_by input_seat kind in
     let says : List Item = (effect_of set ds kind).says in
     let is = history-push set h e in
-    let count : flush_count (tell set ds e) ≡ flush_count ds = ap (λ b. if b then flush_count ds + 1 else flush_count ds) not_flush in
+    let count : flush_count (deeds_with set ds e) ≡ flush_count ds = ap (λ b. if b then flush_count ds + 1 else flush_count ds) not_flush in
     record {
       orderly = record {
         unkept = orderly.unkept;

@@ -7,7 +7,7 @@ use Rattle.rpc_handlers.specs.declared.answer.Out.TheVariants.{Say}
 use Rattle.rpc_journal.specs.declared.item.Act.{Act}
 use Rattle.rpc_journal.specs.declared.item.Act.TheVariants.{Send, Keep, LeaveCall}
 use Rattle.rpc_journal.specs.declared.item.Item.{Item}
-use Rattle.rpc_journal.specs.Outside.{StoreSteps, after_item, after_out, store_after}
+use Rattle.rpc_journal.specs.StoreSteps.{StoreSteps, after_item, after_out, store_after}
 
 abbrev pub key : ℕ → ℕ → StoreKey
 key call session = record { call = call; session = session }

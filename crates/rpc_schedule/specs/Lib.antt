@@ -6,3 +6,4 @@ pub mod Schedule
 pub mod Serving
 pub mod Settling
 pub mod Stops
+pub mod ends

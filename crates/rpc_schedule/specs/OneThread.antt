@@ -111,14 +111,18 @@ is_of_one_thread seat (Start c) = seat == run_seat
 is_of_one_thread seat (Finish c answer) = seat == run_seat
 is_of_one_thread seat _ = false
 
+-- each of these is such an entry: none is a Cancel, a Replace, a Tick, a Halt or a Close
+abbrev pub AreOfOneThread : List Entry → Type 0
+AreOfOneThread h = AllByRecursion (λ e. is_of_one_thread e.seat e.kind ≡ true) h
+
 -- a history of one thread, and a beginning of one where a server stopped, have such entries alone
 pub record OnlyOneThreads : Type 0 where
   pub whole : (rule : HandlerRule) (set : Setting) (packets : List Packet) (h : List Entry) → IsOneThreadHistory rule set packets h
-      → AllByRecursion (λ e. is_of_one_thread e.seat e.kind ≡ true) h
+      → AreOfOneThread h
   pub full : (rule : HandlerRule) (set : Setting) (packets : List Packet) (h : List Entry) → IsFullBeginning rule set packets h
-      → AllByRecursion (λ e. is_of_one_thread e.seat e.kind ≡ true) h
+      → AreOfOneThread h
   pub store : (rule : HandlerRule) (set : Setting) (packets : List Packet) (h : List Entry) (items : List Item) → IsStoreStop rule set packets h items
-      → AllByRecursion (λ e. is_of_one_thread e.seat e.kind ≡ true) h
+      → AreOfOneThread h
 
 -- the packets of a history of one thread arrived in it, and those that arrived in a beginning where a server stopped
 -- begin them

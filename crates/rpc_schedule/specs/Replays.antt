@@ -7,7 +7,7 @@ use Rattle.rpc_handlers.specs.HandlerRule.{HandlerRule}
 use Rattle.rpc_journal.specs.declared.item.Item.{Item}
 use Rattle.rpc_journal.specs.Items.{arrivals, input_ended, items_flushed, items_sent}
 use Rattle.rpc_journal.specs.Quiet.{is_settled}
-use Rattle.rpc_journal.specs.Table.{Table, past}
+use Rattle.rpc_journal.specs.CallTable.{Table, past}
 use Rattle.rpc_schedule.specs.declared.ending.Ending.{Ending}
 use Rattle.rpc_schedule.specs.declared.ending.Ending.TheVariants.{AtEnd, InputLimit, JournalLimit, StoreFault}
 use Rattle.rpc_schedule.specs.declared.stream.TheConstants.{INPUT_LIMIT}

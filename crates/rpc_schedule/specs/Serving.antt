@@ -13,11 +13,11 @@ use Rattle.rpc_journal.specs.Choice.{IsFirstReady, NoneReady, SomeReady}
 use Rattle.rpc_journal.specs.Effect.{Deed}
 use Rattle.rpc_journal.specs.History.{adding}
 use Rattle.rpc_journal.specs.Items.{arrivals}
-use Rattle.rpc_journal.specs.Marks.{is_empty}
+use Rattle.rpc_journal.specs.Kinds.{is_empty}
 use Rattle.rpc_journal.specs.Queues.{waiting_of}
 use Rattle.rpc_journal.specs.Quiet.{all_below}
 use Rattle.rpc_journal.specs.Refusals.{is_full}
-use Rattle.rpc_journal.specs.Table.{Table, past}
+use Rattle.rpc_journal.specs.CallTable.{Table, past}
 use Rattle.rpc_schedule.specs.Schedule.{IsByRule, NoneWaits, flush_seat, input_seat, next_item, run_seat}
 
 -- its table, the call whose run was begun and hasn't ended, and why it takes no further input

@@ -31,15 +31,23 @@ pub(crate) fn take<S: Store>(
     if items.reserve(1).is_err() {
         return Err(StoreRefused::Memory);
     }
-    make(store, item.call, &item.act)?;
+    make_action(store, item.call, &item.act)?;
     match items.push(item) {
         Ok(()) => Ok(()),
         Err(_) => unreachable!(),
     }
 }
 
-// Makes the store action of an item, where it is one.
-fn make<S: Store>(store: &mut S, call: Option<u32>, act: &Act) -> Result<(), StoreRefused>
+/// Makes the store action of an item of this call, where it is one.
+///
+/// # Errors
+///
+/// Where the store failed, or memory is wanting. The store is as it was then.
+pub fn make_action<S: Store>(
+    store: &mut S,
+    call: Option<u32>,
+    act: &Act,
+) -> Result<(), StoreRefused>
     ensures change { Makes (change_of call act.now) (S.holds store.old) (S.holds store.new) result }
     ensures cause { HasStoreCause (S.faults store.old) (S.faults store.new) result }
     ensures action { result ≡ Err Failed → is_store_action call act.now ≡ true }

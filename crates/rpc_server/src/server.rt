@@ -3,9 +3,11 @@ ghost use Rattle.std.specs.Prelude.{◌≡◌, ℕ, List, [], IfOk};
 ghost use Rattle.rpc_frames.specs.Heard.{counts_of};
 ghost use Rattle.rpc_journal.specs.Lawful.{IsLegal};
 ghost use Rattle.rpc_schedule.specs.Fresh.{IsFresh};
-ghost use Rattle.rpc_server.specs.OwnEntries.{AreOwn};
-ghost use Rattle.rpc_server.specs.Served.{WasFed};
+ghost use Rattle.rpc_ids.specs.declared.method.Role.TheVariants.{Server as server_role};
+ghost use Rattle.rpc_schedule.specs.ends.OwnEntries.{AreOwn};
+ghost use Rattle.rpc_schedule.specs.ends.EndState.{WasFed};
 
+mod closing;
 mod idle;
 mod input;
 mod output;
@@ -21,13 +23,6 @@ use rpc_journal::StartRefused;
 use std::alloc::{AllocError, Global};
 use std::marker::Model;
 
-/// The seat of what arrives.
-const ARRIVALS: u32 = 0;
-/// The seat of flushes and ticks.
-const FLUSHES: u32 = 1;
-/// The seat of the runs of handlers.
-const RUNS: u32 = 2;
-
 /// A server on one thread: what it hears, the table of its calls, what makes their handlers, and the run that began
 /// before memory was wanting. Contracts see its table, the call of that run, why it takes no further input, and its
 /// listener.
@@ -40,20 +35,20 @@ pub struct Server<M: Maker> {
 }
 
 impl<M: Maker> Model for Server<M> {
-    ghost use Rattle.rpc_server.specs.Served.{Served};
+    ghost use Rattle.rpc_schedule.specs.ends.EndState.{EndState};
 
-    ghost Value = { Served };
+    ghost Value = { EndState };
 
     ghost use Rattle.std.specs.Prelude.{◌≡◌};
-    ghost use Rattle.rpc_ids.specs.declared.method.Role.TheVariants.{Server};
-    ghost use Rattle.rpc_server.specs.ServerHolds.{IsServer, kept_call};
+    ghost use Rattle.rpc_ids.specs.declared.method.Role.TheVariants.{Server as server_role};
+    ghost use Rattle.rpc_schedule.specs.ends.EndHolds.{IsEnd, kept_call};
 
     ghost view = { λ s. record {
       serving = record { table = s.calls; kept = kept_call s.kept; refused = s.refused };
       listener = s.listener;
     } };
 
-    ghost invariant = { λ s. IsServer M.H.rule (M.seed_memo s.maker) s.calls s.kept s.refused × (s.listener.role ≡ Server) };
+    ghost invariant = { λ s. IsEnd server_role M.H.rule (M.seed_memo s.maker) s.calls s.kept s.refused × (s.listener.role ≡ server_role) };
 }
 
 impl<M: Maker + Drop> Server<M> {
@@ -67,7 +62,7 @@ impl<M: Maker + Drop> Server<M> {
         ensures setting { IfOk result (λ s. s.serving.table.setting ≡
             record { role = Role.Server; channels = channels; registry = registry; seed = M.seed_memo maker }) }
         ensures fresh { IfOk result (λ s. IsFresh s.serving) }
-        ensures unfed { IfOk result (λ s. WasFed s []) }
+        ensures unfed { IfOk result (λ s. WasFed server_role s []) }
     {
         let listener = Listener::new(alloc, Role::Server)?;
         let seed = maker.seed()?;
@@ -111,18 +106,19 @@ fn let_go<H: Handler>(kept: Option<Running<H>>) {
 }
 
 impl<M: Maker> Server<M> {
-    /// The table of its calls, with the journal. No call was cancelled, and no handler replaced.
+    /// The table of its calls, with the journal. No call was cancelled, and no handler replaced; a channel was closed only by
+    /// `close_channel`.
     pub fn calls(&self) -> &Calls<M::H>
         ensures table { result.now ≡ self.now.serving.table }
         ensures legal { IsLegal M.H.rule self.now.serving.table.setting self.now.serving.table.entries }
-        ensures own { AreOwn self.now.serving.table.entries }
+        ensures own { AreOwn server_role self.now.serving.table.entries }
     {
         &self.calls
     }
 
     /// How the segments of what it was fed were counted.
     pub fn counts(&self) -> Counts
-        ensures counts { (bytes : List ℕ) → WasFed self.now bytes → result ≡ counts_of Role.Server bytes }
+        ensures counts { (bytes : List ℕ) → WasFed server_role self.now bytes → result ≡ counts_of server_role bytes }
         ensures value { result ≡ self.now.listener.counts }
     {
         self.listener.counts()

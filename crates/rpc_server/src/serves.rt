@@ -1,5 +1,5 @@
 //! The server, as the loops of a replay ask of it.
-ghost use Rattle.rpc_server.specs.Served.{WasFed, heard as heard_in};
+ghost use Rattle.rpc_schedule.specs.ends.EndState.{WasFed, heard as heard_in};
 ghost use Rattle.rpc_frames.proofs.Growing.{no_fewer};
 ghost use Rattle.rpc_ids.specs.declared.method.Role.TheVariants.{Server as server_role};
 
@@ -13,9 +13,9 @@ impl<M: Maker> Serves for Server<M> {
 
     ghost rule = { M.H.rule };
 
-    ghost heard = { heard_in };
+    ghost heard = { heard_in server_role };
 
-    ghost stands = { WasFed };
+    ghost stands = { WasFed server_role };
 
     fn feed(&mut self, piece: &[u8]) -> Result<usize, StartRefused> {
         self.feed(piece)

@@ -1,8 +1,10 @@
-//! A server whose handlers want memory for a while.
+//! A server whose handlers want memory for a while, and one that closes a channel.
 ghost use mathlib.Core.Bool.{false≢true};
-ghost use Rattle.std.specs.Prelude.{◌≡◌, [], Some, false};
+ghost use Rattle.std.specs.Prelude.{◌≡◌, [], Some, None, false, if◌then◌else◌};
 ghost use Rattle.rpc_handlers.specs.HandlerRule.{empty_memo};
 ghost use Rattle.rpc_ids.specs.declared.status.Status.TheVariants.{Okay};
+
+mod closing;
 
 use crate::Server;
 use bytes::Bytes;
@@ -26,10 +28,11 @@ fn channel_one(alloc: Global) -> Result<Channels, Fail> {
     Ok(channels)
 }
 
-// Ends its call at the first event, where memory is said to be there.
+// Ends its call at the first event, or answers nothing, where memory is said to be there.
 #[derive(Drop)]
 struct Sparing {
     alloc: Global,
+    ends: bool,
     has_memory: Rc<Cell<bool>>,
 }
 
@@ -47,7 +50,7 @@ impl Acts for Sparing {
 
     ghost now = { λ _. empty_memo };
 
-    ghost gives = { λ _ _. record { items = []; end = Some (record { status = Okay; payload = [] }) } };
+    ghost gives = { λ s _. record { items = []; end = (if s.ends then Some (record { status = Okay; payload = [] }) else None) } };
 
     ghost moves = { λ _ _. empty_memo };
 
@@ -56,12 +59,17 @@ impl Acts for Sparing {
         if !self.has_memory.get() {
             return Err(AllocError);
         }
-        Ok(Answer {
-            items: Outs::new(self.alloc),
-            end: Some(End {
+        let end = if self.ends {
+            Some(End {
                 status: Status::Okay,
                 payload: Bytes::new(),
-            }),
+            })
+        } else {
+            None
+        };
+        Ok(Answer {
+            items: Outs::new(self.alloc),
+            end,
         })
     }
 
@@ -81,6 +89,7 @@ impl Handler for Sparing {
 #[derive(Drop)]
 struct SparingMaker {
     alloc: Global,
+    ends: bool,
     has_memory: Rc<Cell<bool>>,
 }
 
@@ -97,6 +106,7 @@ impl Maker for SparingMaker {
         let _ = m;
         Ok(Sparing {
             alloc: self.alloc,
+            ends: self.ends,
             has_memory: Rc::clone(&self.has_memory)?,
         })
     }
@@ -108,6 +118,7 @@ fn a_run_that_wants_memory_is_kept(rt: HostRuntime) -> Result<(), Fail> {
     let has_memory = Rc::new(alloc, Cell::new(false))?;
     let maker = SparingMaker {
         alloc,
+        ends: true,
         has_memory: Rc::clone(&has_memory)?,
     };
     let mut registry = Registry::new(alloc);
@@ -139,6 +150,7 @@ fn a_kept_run_is_let_go(rt: HostRuntime) -> Result<(), Fail> {
     let alloc = rt.alloc();
     let maker = SparingMaker {
         alloc,
+        ends: true,
         has_memory: Rc::new(alloc, Cell::new(false))?,
     };
     let mut registry = Registry::new(alloc);

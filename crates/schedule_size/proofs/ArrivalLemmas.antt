@@ -17,9 +17,9 @@ use Rattle.rpc_journal.specs.declared.setting.Setting.{Setting}
 use Rattle.rpc_journal.specs.Calls.{calls, live_call}
 use Rattle.rpc_journal.specs.Effect.{Deed, Effect}
 use Rattle.rpc_journal.specs.Entries.{arrive_row, each_from, is_live, row_by}
-use Rattle.rpc_journal.specs.History.{entry_by, tell}
+use Rattle.rpc_journal.specs.History.{entry_by, deeds_with}
 use Rattle.rpc_journal.specs.Items.{items_sent}
-use Rattle.rpc_journal.specs.Marks.{is_unary, streams_up}
+use Rattle.rpc_journal.specs.Kinds.{is_unary, streams_up}
 use Rattle.rpc_journal.specs.Queues.{is_completed}
 use Rattle.rpc_journal.specs.Rows.{Row, channels_in, method_named, no_effect}
 use Rattle.rpc_journal.specs.ServerTable.{known_row, method_row, unknown_row}
@@ -76,7 +76,7 @@ module _ (most : Event → ℕ) where
 
   -- a packet has arrived
   pub arrived : (set : Setting) (budget : ℕ) (ds : List Deed) (p : Packet) → set.role ≡ Server → Books most (closing most) budget ds
-      → Books most (closing most) (budget + arrival_entries most p) (tell set ds (entry_by input_seat (Arrive p)))
+      → Books most (closing most) (budget + arrival_entries most p) (deeds_with set ds (entry_by input_seat (Arrive p)))
   arrived set budget ds p role books =
       let d : Deed = record { entry = entry_by input_seat (Arrive p); does = (arrive_row set ds p).does } in
       let brings = row_brings set ds p role in
@@ -99,7 +99,7 @@ module _ (most : Event → ℕ) where
 
   -- the input has ended
   pub ended : (set : Setting) (budget : ℕ) (ds : List Deed) → Books most (closing most) budget ds
-      → Books most nothing_owed (budget + 1) (tell set ds (entry_by input_seat EndIn))
+      → Books most nothing_owed (budget + 1) (deeds_with set ds (entry_by input_seat EndIn))
   ended set budget ds books =
       let puts : List (ℕ × Event) = each_from 0 (is_live ds) (Ended Unavailable) (calls ds) in
       let d : Deed = record { entry = entry_by input_seat EndIn; does = record no_effect { puts = puts } } in

@@ -7,7 +7,7 @@ use Rattle.rpc_handlers.specs.declared.event.Event.TheVariants.{Ended}
 use Rattle.rpc_journal.specs.Calls.{of_call}
 use Rattle.rpc_journal.specs.Effect.{Opening}
 use Rattle.rpc_journal.specs.Entries.{each_from}
-use Rattle.rpc_journal.proofs.TableLemmas.{some_same}
+use Rattle.rpc_journal.proofs.PlaceLemmas.{some_same}
 use Rattle.schedule_size.specs.Size.{run_entries}
 use Rattle.rpc_schedule.proofs.PendingLemmas.{taking, without}
 

@@ -18,12 +18,12 @@ use Rattle.rpc_journal.specs.declared.setting.Setting.{Setting}
 use Rattle.rpc_journal.specs.Calls.{is_replace_of, is_start_of, live_call}
 use Rattle.rpc_journal.specs.Effect.{Deed, Effect, Opening}
 use Rattle.rpc_journal.specs.Entries.{arrive_row, row_by}
-use Rattle.rpc_journal.specs.Marks.{is_unary, streams_up}
+use Rattle.rpc_journal.specs.Kinds.{is_unary, streams_up}
 use Rattle.rpc_journal.specs.Queues.{is_completed}
 use Rattle.rpc_journal.specs.Rows.{Row, channels_in, method_named}
 use Rattle.rpc_journal.specs.ServerTable.{known_row, method_row, unknown_row}
 use Rattle.rpc_journal.specs.States.{finished_since, opened_state, opens_call, replacing_state, state_before_run, state_of, state_set}
-use Rattle.rpc_journal.proofs.TableLemmas.{some_same}
+use Rattle.rpc_journal.proofs.PlaceLemmas.{some_same}
 
 -- each call that an effect opens is so
 pub record Opens (Is : Opening → Type 0) (effect : Effect) : Type 0 where

@@ -17,9 +17,9 @@ use Rattle.rpc_journal.specs.declared.setting.Setting.{Setting}
 use Rattle.rpc_journal.specs.Calls.{call_at, calls, is_cancelled, is_start_of, of_call}
 use Rattle.rpc_journal.specs.Effect.{Deed, Effect, Opening}
 use Rattle.rpc_journal.specs.Entries.{answer_item, answered, end_effect, finish_effect, is_heard, messages_go}
-use Rattle.rpc_journal.specs.History.{entry_by, tell}
+use Rattle.rpc_journal.specs.History.{entry_by, deeds_with}
 use Rattle.rpc_journal.specs.Items.{flush_count, is_done, is_ready, items_sent}
-use Rattle.rpc_journal.specs.Marks.{is_empty}
+use Rattle.rpc_journal.specs.Kinds.{is_empty}
 use Rattle.rpc_journal.specs.Queues.{taken_event, waiting_of}
 use Rattle.rpc_journal.specs.Rows.{no_effect}
 use Rattle.rpc_schedule.specs.Schedule.{flush_seat, next_item, run_seat}
@@ -102,15 +102,15 @@ finish_opens_none set ds c a role uncancelled = (finish_adds set ds c a (call_at
 
 -- the event that a Start of c takes is the first that waits for c
 start_takes : (set : Setting) (ds : List Deed) (c : ℕ) (waiting : List (ℕ × Event)) → of_call c waiting ≡ map (λ w. w.event) (waiting_of ds c)
-    → taken_event (tell set ds (entry_by run_seat (Start c))) c ≡ slice_get (of_call c waiting) 0
+    → taken_event (deeds_with set ds (entry_by run_seat (Start c))) c ≡ slice_get (of_call c waiting) 0
 start_takes set ds c waiting same =
     let own : is_start_of c (Start c) ≡ true = eq-eqb c c refl in rw own (ap (λ es. slice_get es 0) (sym same))
 
 module _ (most : Event → ℕ) (owed : List Opening → ℕ) (set : Setting) (budget : ℕ) (ds : List Deed) (books : Books most owed budget ds) where
   -- call c ran, and took this event
   pub ran : (c : ℕ) (a : Answer) (event : Event) → set.role ≡ Server → is_ready ds c ≡ true
-      → taken_event (tell set ds (entry_by run_seat (Start c))) c ≡ Some event → answer_items a ≤ most event
-      → Books most owed budget (tell set (tell set ds (entry_by run_seat (Start c))) (entry_by run_seat (Finish c a)))
+      → taken_event (deeds_with set ds (entry_by run_seat (Start c))) c ≡ Some event → answer_items a ≤ most event
+      → Books most owed budget (deeds_with set (deeds_with set ds (entry_by run_seat (Start c))) (entry_by run_seat (Finish c a)))
   ran c a event role ready took few =
       let start : Deed = record { entry = entry_by run_seat (Start c); does = no_effect } in
       let middle : List Deed = start ∷ ds in
@@ -139,7 +139,7 @@ module _ (most : Event → ℕ) (owed : List Opening → ℕ) (set : Setting) (b
       }
 
   -- an item that waited was flushed
-  pub flushed_one : (item : Item) → next_item ds ≡ Some item → Books most owed budget (tell set ds (entry_by flush_seat Flush))
+  pub flushed_one : (item : Item) → next_item ds ≡ Some item → Books most owed budget (deeds_with set ds (entry_by flush_seat Flush))
   flushed_one item waits =
       let d : Deed = record { entry = entry_by flush_seat Flush; does = no_effect } in
       let below = slice_get_within (items_sent ds) (flush_count ds) item waits in

@@ -9,11 +9,11 @@ use Rattle.rpc_journal.specs.declared.entry.Entry.{Entry}
 use Rattle.rpc_journal.specs.declared.entry.EntryKind.TheVariants.{Start, Finish, Flush}
 use Rattle.rpc_journal.specs.declared.setting.Setting.{Setting}
 use Rattle.rpc_journal.specs.Effect.{Deed, Opening}
-use Rattle.rpc_journal.specs.History.{adding, entry_by, history, tell}
+use Rattle.rpc_journal.specs.History.{adding, entry_by, history, deeds_with}
 use Rattle.rpc_journal.specs.Queues.{taken_event}
 use Rattle.rpc_journal.specs.States.{state_before_run}
 use Rattle.rpc_journal.proofs.Push.{history-push}
-use Rattle.rpc_journal.proofs.TableLemmas.{some_same}
+use Rattle.rpc_journal.proofs.PlaceLemmas.{some_same}
 use Rattle.rpc_schedule.specs.Schedule.{Ran, Settles, Stage, Turn, Turns, answer_by_rule, flush_seat, run_seat}
 use Rattle.rpc_schedule.specs.Schedule.Stage.{running, flushing}
 use Rattle.rpc_schedule.proofs.ScheduleLemmas.{entries_of}
@@ -49,15 +49,15 @@ module _ (rule : HandlerRule) (set : Setting) (good : Memo → Bool) (most : Eve
   ran_keeps : (h now : List Entry) → Ran rule set h now → Kept h → Kept now
   ran_keeps h now r stands =
       let ds : List Deed = history set h in
-      let begun : List Deed = tell set ds (entry_by run_seat (Start r.call)) in
+      let begun : List Deed = deeds_with set ds (entry_by run_seat (Start r.call)) in
       let start : history set (adding h run_seat (Start r.call)) ≡ begun = history-push set h (entry_by run_seat (Start r.call)) in
       let is : answer_by_rule rule set begun r.call ≡ Some r.answer =
       subst (λ (x : List Deed). answer_by_rule rule set x r.call ≡ Some r.answer) start (r.by_rule ruled) in
       let by = by_rule rule (state_before_run rule set begun r.call) (taken_event begun r.call) r.answer is in
-      let whole : history set now ≡ tell set begun (entry_by run_seat (Finish r.call r.answer)) =
+      let whole : history set now ≡ deeds_with set begun (entry_by run_seat (Finish r.call r.answer)) =
       ap (history set) r.adds
       ∙ (history-push set (adding h run_seat (Start r.call)) (entry_by run_seat (Finish r.call r.answer))
-      ∙ ap (λ x. tell set x (entry_by run_seat (Finish r.call r.answer))) start) in
+      ∙ ap (λ x. deeds_with set x (entry_by run_seat (Finish r.call r.answer))) start) in
       let states : AreGood rule set good answers.stays begun = (good_still rule set good answers.stays _ refl (λ c. refl), stands.states) in
       let state : good by.state ≡ true = before_run_good rule set good answers.stays begun r.call by.state states by.was in
       subst Stands (sym whole)

@@ -3,14 +3,14 @@ ghost use Rattle.std.specs.Prelude.{◌≡◌, ℕ, List, IfOk, IfErr, IfSome};
 ghost use Rattle.rpc_ids.specs.declared.method.Role.TheVariants.{Client as client_role};
 ghost use Rattle.rpc_journal.specs.Changes.{CancelDid, CloseDid, DoneDid, InvokeDid, ReplaceDid, SayDid};
 ghost use Rattle.rpc_journal.specs.Conditions.{CanComplete, CanInvoke, CanSay, IsCall};
-ghost use Rattle.rpc_end.specs.EndState.{KeepsAside, WasFed};
+ghost use Rattle.rpc_schedule.specs.ends.EndState.{KeepsAside, WasFed};
 
 use super::Client;
 use bytes::Bytes;
 use rpc_calls::{Cancelled, CloseRefused, InvokeRefused, ReplaceRefused, SayRefused};
-use rpc_end::RUNS;
 use rpc_handlers::{Handler, Out};
 use rpc_packet::CallName;
+use rpc_schedule::RUNS;
 
 impl<H: Handler> Client<H> {
     /// Opens a call of this name, which this handler answers: a REQUEST with this payload goes out. Answers the call's

@@ -5,15 +5,15 @@ ghost use Rattle.rpc_journal.specs.Conditions.{IsHeard};
 ghost use Rattle.rpc_journal.specs.Items.{input_ended};
 ghost use Rattle.rpc_schedule.specs.Serving.{EndsInput, FedBy, Feeds, deeds, is_idle};
 ghost use Rattle.rpc_frames.specs.Listening.{StopsAtSegment};
-ghost use Rattle.rpc_end.specs.Feeding.{TakesIn};
-ghost use Rattle.rpc_end.specs.EndState.{WasFed, heard};
+ghost use Rattle.rpc_schedule.specs.ends.Feeding.{TakesIn};
+ghost use Rattle.rpc_schedule.specs.ends.EndState.{WasFed, heard};
 ghost use Rattle.rpc_ids.specs.declared.method.Role.TheVariants.{Client as client_role};
 
 use super::Client;
-use rpc_end::ARRIVALS;
 use rpc_handlers::Handler;
 use rpc_journal::{ArriveRefused, StartRefused};
 use rpc_packet::Packet;
+use rpc_schedule::ARRIVALS;
 
 impl<H: Handler> Client<H> {
     /// Takes bytes from the front of the piece, up to the end of the first frame or bad segment in it, and answers how

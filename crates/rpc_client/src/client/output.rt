@@ -2,12 +2,12 @@
 ghost use Rattle.std.specs.Prelude.{◌≡◌, ℕ, List};
 ghost use Rattle.rpc_ids.specs.declared.method.Role.TheVariants.{Client as client_role};
 ghost use Rattle.rpc_schedule.specs.Serving.{Gives};
-ghost use Rattle.rpc_end.specs.EndState.{WasFed};
+ghost use Rattle.rpc_schedule.specs.ends.EndState.{WasFed};
 
 use super::Client;
-use rpc_end::FLUSHES;
 use rpc_handlers::Handler;
 use rpc_journal::Item;
+use rpc_schedule::FLUSHES;
 
 impl<H: Handler> Client<H> {
     /// Takes the oldest item that waits to go out. None where none waits. It is never refused, and takes no memory.

@@ -5,16 +5,16 @@ ghost use Rattle.rpc_journal.specs.History.{adding};
 ghost use Rattle.rpc_journal.specs.Lawful.{IsLegal};
 ghost use Rattle.rpc_journal.specs.Runs.{IsRunning};
 ghost use Rattle.rpc_ids.specs.declared.method.Role.TheVariants.{Client as client_role};
-ghost use Rattle.rpc_end.specs.EndState.{WasFed};
-ghost use Rattle.rpc_end.specs.Working.{TakesRun};
+ghost use Rattle.rpc_schedule.specs.ends.EndState.{WasFed};
+ghost use Rattle.rpc_schedule.specs.ends.Working.{TakesRun};
 ghost use Rattle.rpc_client.specs.Working.{HandsOn, WorksOn};
 
 use super::Client;
 use crate::copies::copy_event;
 use rpc_calls::{Calls, Running};
-use rpc_end::RUNS;
 use rpc_handlers::{Event, Handler};
 use rpc_journal::StartRefused;
+use rpc_schedule::RUNS;
 use std::alloc::AllocError;
 
 impl<H: Handler> Client<H> {

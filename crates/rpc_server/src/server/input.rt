@@ -5,13 +5,15 @@ ghost use Rattle.rpc_journal.specs.Conditions.{IsHeard};
 ghost use Rattle.rpc_journal.specs.Items.{input_ended};
 ghost use Rattle.rpc_schedule.specs.Serving.{EndsInput, FedBy, Feeds, deeds, is_idle};
 ghost use Rattle.rpc_frames.specs.Listening.{StopsAtSegment};
-ghost use Rattle.rpc_server.specs.Feeding.{TakesIn};
-ghost use Rattle.rpc_server.specs.Served.{WasFed, heard};
+ghost use Rattle.rpc_schedule.specs.ends.Feeding.{TakesIn};
+ghost use Rattle.rpc_schedule.specs.ends.EndState.{WasFed, heard};
+ghost use Rattle.rpc_ids.specs.declared.method.Role.TheVariants.{Server as server_role};
 
-use super::{ARRIVALS, Server};
+use super::Server;
 use rpc_handlers::Maker;
 use rpc_journal::{ArriveRefused, StartRefused};
 use rpc_packet::Packet;
+use rpc_schedule::ARRIVALS;
 
 impl<M: Maker> Server<M> {
     /// Takes bytes from the front of the piece, up to the end of the first frame or bad segment in it, and answers how
@@ -29,8 +31,8 @@ impl<M: Maker> Server<M> {
         ensures again { (why : StartRefused) → self.old.serving.refused ≡ Some why →
             (result ≡ Err why) × (self.new ≡ self.old) }
         ensures stops { IfOk result (λ n. StopsAtSegment self.old.listener piece.now n) }
-        ensures fed { IfOk result (FedBy heard (WasFed self.old) (WasFed self.new) piece.now) }
-        ensures refused_fed { OnErr result ((n : ℕ) × FedBy heard (WasFed self.old) (WasFed self.new) piece.now n) }
+        ensures fed { IfOk result (FedBy (heard server_role) (WasFed server_role self.old) (WasFed server_role self.new) piece.now) }
+        ensures refused_fed { OnErr result ((n : ℕ) × FedBy (heard server_role) (WasFed server_role self.old) (WasFed server_role self.new) piece.now n) }
     {
         if let Some(refused) = self.refused {
             return Err(refused);

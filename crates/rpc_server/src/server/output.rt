@@ -2,9 +2,10 @@
 ghost use Rattle.std.specs.Prelude.{◌≡◌};
 ghost use Rattle.rpc_schedule.specs.Serving.{Gives};
 
-use super::{FLUSHES, Server};
+use super::Server;
 use rpc_handlers::Maker;
 use rpc_journal::Item;
+use rpc_schedule::FLUSHES;
 
 impl<M: Maker> Server<M> {
     /// Takes the oldest item that waits to go out. None where none waits. It is never refused, and takes no memory.

@@ -5,12 +5,13 @@ ghost use Rattle.rpc_journal.specs.History.{adding};
 ghost use Rattle.rpc_journal.specs.Lawful.{IsLegal};
 ghost use Rattle.rpc_journal.specs.Runs.{IsRunning};
 ghost use Rattle.rpc_schedule.specs.Serving.{Ends, Works};
-ghost use Rattle.rpc_server.specs.Working.{TakesRun};
+ghost use Rattle.rpc_schedule.specs.ends.Working.{TakesRun};
 
-use super::{RUNS, Server};
+use super::Server;
 use rpc_calls::{Calls, Running};
 use rpc_handlers::{Handler, Maker};
 use rpc_journal::StartRefused;
+use rpc_schedule::RUNS;
 use std::alloc::AllocError;
 
 impl<M: Maker> Server<M> {

@@ -1,10 +1,11 @@
 //! Time goes on.
 ghost use Rattle.rpc_journal.specs.Changes.{TickDid};
-ghost use Rattle.rpc_server.specs.Served.{KeepsAside};
+ghost use Rattle.rpc_schedule.specs.ends.EndState.{KeepsAside};
 
-use super::{FLUSHES, Server};
+use super::Server;
 use rpc_handlers::Maker;
 use rpc_journal::StartRefused;
+use rpc_schedule::FLUSHES;
 
 impl<M: Maker> Server<M> {
     /// The time has come to this moment, in milliseconds: the calls of ticking methods are told so.

@@ -1,6 +1,6 @@
 use Rattle.std.proofs.Common.{◌≡◌, ℕ, List}
 use Rattle.rpc_ids.specs.declared.method.Role.TheVariants.{Client}
-use Rattle.rpc_end.specs.EndState.{WasFed}
+use Rattle.rpc_schedule.specs.ends.EndState.{WasFed}
 use Rattle.rpc_client.proofs.SettlingLemmas.{HandedSo, runs_left}
 use Rattle.rpc_client.proofs.settling.work_until_idle.Given as goal
 

@@ -1,4 +1,4 @@
-use Rattle.std.proofs.Common.{◌≡◌, Err, ◌∙◌, arith}
+use Rattle.std.proofs.Common.{◌≡◌, Err, arith}
 use Rattle.rpc_journal.specs.Items.{items_flushed}
 use Rattle.rpc_schedule.specs.Serving.{deeds}
 use Rattle.link_io.specs.declared.store.StoreRefused.TheVariants.{Failed}

@@ -1,10 +1,10 @@
 use Rattle.std.proofs.Common.{refl, sym, subst}
 use Rattle.rpc_ids.specs.declared.method.Role.TheVariants.{Client}
-use Rattle.rpc_end.specs.EndHolds.{kept_call}
-use Rattle.rpc_end.specs.EndState.{EndState, WasFed}
+use Rattle.rpc_schedule.specs.ends.EndHolds.{kept_call}
+use Rattle.rpc_schedule.specs.ends.EndState.{EndState, WasFed}
 use Rattle.rpc_journal.specs.declared.entry.EntryKind.TheVariants.{Cancel}
-use Rattle.rpc_end.proofs.CallSteps.{may_add_step}
-use Rattle.rpc_end.proofs.FedLemmas.{may_add_fed}
+use Rattle.rpc_schedule.proofs.ends.CallSteps.{may_add_step}
+use Rattle.rpc_schedule.proofs.ends.FedLemmas.{may_add_fed}
 use Rattle.rpc_client.proofs.client.Client.cancel.Goals as goal
 
 pub invariant_of-self : goal.invariant_of-self

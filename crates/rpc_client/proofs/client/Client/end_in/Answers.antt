@@ -1,10 +1,10 @@
 use Rattle.std.proofs.Common.{refl, sym, subst}
 use Rattle.rpc_ids.specs.declared.method.Role.TheVariants.{Client}
-use Rattle.rpc_end.specs.EndHolds.{kept_call}
-use Rattle.rpc_end.specs.EndState.{EndState, WasFed}
-use Rattle.rpc_end.proofs.FedLemmas.{added_fed}
+use Rattle.rpc_schedule.specs.ends.EndHolds.{kept_call}
+use Rattle.rpc_schedule.specs.ends.EndState.{EndState, WasFed}
+use Rattle.rpc_schedule.proofs.ends.FedLemmas.{added_fed}
 use Rattle.rpc_journal.specs.declared.entry.EntryKind.TheVariants.{EndIn}
-use Rattle.rpc_end.proofs.EntrySteps.{calm_step}
+use Rattle.rpc_schedule.proofs.ends.EntrySteps.{calm_step}
 use Rattle.rpc_client.proofs.client.Client.end_in.Goals as goal
 
 pub invariant_of-self : goal.invariant_of-self

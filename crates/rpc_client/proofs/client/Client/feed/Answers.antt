@@ -1,8 +1,8 @@
 use Rattle.std.proofs.Common.{take, sym, subst}
 use Rattle.rpc_frames.specs.Listening.{StopsAtSegment}
 use Rattle.rpc_ids.specs.declared.method.Role.TheVariants.{Client}
-use Rattle.rpc_end.specs.EndState.{WasFed}
-use Rattle.rpc_end.proofs.FedLemmas.{fed_by, fed_less, fed_lost, fed_more, on_err}
+use Rattle.rpc_schedule.specs.ends.EndState.{WasFed}
+use Rattle.rpc_schedule.proofs.ends.FedLemmas.{fed_by, fed_less, fed_lost, fed_more, on_err}
 use Rattle.rpc_client.proofs.client.Client.feed.Goals as goal
 
 pub returns-in_err-take_in-in-Ok-clause-refused_fed : goal.returns-in_err-take_in-in-Ok-clause-refused_fed

@@ -2,7 +2,7 @@ use Rattle.std.proofs.Common.{◌≡◌, false, None, sym, ◌∙◌, subst}
 use Rattle.rpc_journal.specs.Choice.{SomeReady}
 use Rattle.rpc_schedule.specs.Schedule.{NoneWaits}
 use Rattle.rpc_schedule.specs.Serving.{deeds}
-use Rattle.rpc_end.proofs.IdleLemmas.{some_ready}
+use Rattle.rpc_schedule.proofs.ends.IdleLemmas.{some_ready}
 use Rattle.rpc_client.proofs.client.Client.idle.Goals as goal
 
 pub returns-in-None-clause-ready : goal.returns-in-None-clause-ready

@@ -1,5 +1,5 @@
 use Rattle.std.proofs.Common.{refl}
-use Rattle.rpc_end.proofs.FedLemmas.{fed_nothing}
+use Rattle.rpc_schedule.proofs.ends.FedLemmas.{fed_nothing}
 use Rattle.rpc_client.proofs.client.Client.new.Goals as goal
 
 pub returns-clause-unfed : goal.returns-clause-unfed

@@ -1,9 +1,9 @@
 use Rattle.std.proofs.Common.{sym, subst}
 use Rattle.rpc_ids.specs.declared.method.Role.TheVariants.{Client}
-use Rattle.rpc_end.specs.EndHolds.{kept_call}
-use Rattle.rpc_end.specs.EndState.{EndState, WasFed}
-use Rattle.rpc_end.proofs.CallSteps.{flush_step, gives}
-use Rattle.rpc_end.proofs.FedLemmas.{gives_heard}
+use Rattle.rpc_schedule.specs.ends.EndHolds.{kept_call}
+use Rattle.rpc_schedule.specs.ends.EndState.{EndState, WasFed}
+use Rattle.rpc_schedule.proofs.ends.CallSteps.{flush_step, gives}
+use Rattle.rpc_schedule.proofs.ends.FedLemmas.{gives_heard}
 use Rattle.rpc_client.proofs.client.Client.next_out.Goals as goal
 
 pub invariant_of-self : goal.invariant_of-self

@@ -1,7 +1,7 @@
 use Rattle.std.proofs.Common.{◌≡◌, true, Err, sym, subst}
 use Rattle.rpc_journal.specs.Changes.{ArriveDid}
 use Rattle.rpc_schedule.specs.Serving.{is_idle}
-use Rattle.rpc_end.proofs.FedLemmas.{no_queue_full}
+use Rattle.rpc_schedule.proofs.ends.FedLemmas.{no_queue_full}
 use Rattle.rpc_client.proofs.client.Client.take_in.Goals as goal
 
 pub unreachable-requires : goal.unreachable-requires

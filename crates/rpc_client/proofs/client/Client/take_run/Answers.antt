@@ -1,8 +1,8 @@
 use Rattle.std.proofs.Common.{sym, ◌∙◌, subst}
 use Rattle.rpc_ids.specs.declared.method.Role.TheVariants.{Client}
 use Rattle.rpc_handlers.specs.HandlerRule.{empty_memo}
-use Rattle.rpc_end.specs.EndHolds.{IsEnd}
-use Rattle.rpc_end.proofs.CallSteps.{started}
+use Rattle.rpc_schedule.specs.ends.EndHolds.{IsEnd}
+use Rattle.rpc_schedule.proofs.ends.CallSteps.{started}
 use Rattle.rpc_client.proofs.client.Client.take_run.Goals as goal
 
 pub invariant_of-self-2 : goal.invariant_of-self-2

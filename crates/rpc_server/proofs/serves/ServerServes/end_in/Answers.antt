@@ -1,4 +1,4 @@
-use Rattle.rpc_server.proofs.FedLemmas.{ends_heard}
+use Rattle.rpc_schedule.proofs.ends.FedLemmas.{ends_heard}
 use Rattle.rpc_server.proofs.serves.ServerServes.end_in.Goals as goal
 
 pub returns-clause-fed : goal.returns-clause-fed

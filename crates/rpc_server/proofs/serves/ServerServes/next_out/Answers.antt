@@ -1,4 +1,4 @@
-use Rattle.rpc_server.proofs.FedLemmas.{gives_heard}
+use Rattle.rpc_schedule.proofs.ends.FedLemmas.{gives_heard}
 use Rattle.rpc_server.proofs.serves.ServerServes.next_out.Goals as goal
 
 pub returns-clause-fed : goal.returns-clause-fed

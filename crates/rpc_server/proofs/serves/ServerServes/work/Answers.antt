@@ -1,4 +1,4 @@
-use Rattle.rpc_server.proofs.FedLemmas.{works_heard}
+use Rattle.rpc_schedule.proofs.ends.FedLemmas.{works_heard}
 use Rattle.rpc_server.proofs.serves.ServerServes.work.Goals as goal
 
 pub returns-clause-fed : goal.returns-clause-fed

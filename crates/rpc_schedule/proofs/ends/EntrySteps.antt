@@ -15,25 +15,25 @@ use Rattle.rpc_journal.specs.declared.entry.TheConstants.{MAX_ENTRIES}
 use Rattle.rpc_journal.specs.declared.entry.EntryKind.{EntryKind}
 use Rattle.rpc_journal.specs.declared.entry.EntryKind.TheVariants.{Start, Finish}
 use Rattle.rpc_journal.specs.Calls.{is_start_of, is_finish_of, runner_of}
-use Rattle.rpc_journal.specs.History.{tell, entry_by, adding}
+use Rattle.rpc_journal.specs.History.{deeds_with, entry_by, adding}
 use Rattle.rpc_journal.specs.Lawful.{IsLegal}
 use Rattle.rpc_journal.specs.Refusals.{is_full}
 use Rattle.rpc_journal.specs.Queues.{taken_event}
 use Rattle.rpc_journal.specs.States.{state_before_run}
 use Rattle.rpc_journal.specs.Runs.{Begins, IsRunning}
-use Rattle.rpc_journal.specs.Table.{Table, past}
+use Rattle.rpc_journal.specs.CallTable.{Table, past}
 use Rattle.rpc_journal.proofs.ChangeLemmas.{begun_runs}
 use Rattle.rpc_journal.proofs.Push.{history-push}
-use Rattle.rpc_calls.specs.Ran.{Ran}
-use Rattle.rpc_end.specs.OwnEntries.{is_own, AreOwn}
-use Rattle.rpc_end.specs.EndHolds.{IsKept, IsEnd}
+use Rattle.rpc_journal.specs.Ran.{Ran}
+use Rattle.rpc_schedule.specs.ends.OwnEntries.{is_own, AreOwn}
+use Rattle.rpc_schedule.specs.ends.EndHolds.{IsKept, IsEnd}
 
 -- the table has one entry more
 pub record Adds (t u : Table) (seat : ℕ) (kind : EntryKind) : Type 0 where
   pub setting : u.setting ≡ t.setting
   pub entries : u.entries ≡ adding t.entries seat kind
 
-pub past-adds : (t u : Table) (seat : ℕ) (kind : EntryKind) → Adds t u seat kind → past u ≡ tell t.setting (past t) (entry_by seat kind)
+pub past-adds : (t u : Table) (seat : ℕ) (kind : EntryKind) → Adds t u seat kind → past u ≡ deeds_with t.setting (past t) (entry_by seat kind)
 past-adds t u seat kind adds = rw (adds.setting, adds.entries) (history-push t.setting t.entries (entry_by seat kind))
 
 -- a full journal stays full

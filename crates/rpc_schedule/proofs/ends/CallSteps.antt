@@ -17,15 +17,15 @@ use Rattle.rpc_journal.specs.Calls.{is_start_of, is_finish_of}
 use Rattle.rpc_journal.specs.History.{adding, entry_by}
 use Rattle.rpc_journal.specs.Lawful.{IsLegal}
 use Rattle.rpc_journal.specs.Runs.{IsAnswerOf}
-use Rattle.rpc_journal.specs.Table.{Table, past}
-use Rattle.rpc_journal.proofs.TableLemmas.{some_same}
-use Rattle.rpc_calls.specs.Ran.{Ran, run_in}
+use Rattle.rpc_journal.specs.CallTable.{Table, past}
+use Rattle.rpc_journal.proofs.PlaceLemmas.{some_same}
+use Rattle.rpc_journal.specs.Ran.{Ran, run_in}
 use Rattle.rpc_schedule.specs.Schedule.{NoneWaits}
 use Rattle.rpc_schedule.specs.Serving.{Begins, Ends, Gives, Serving}
-use Rattle.rpc_end.specs.OwnEntries.{is_own}
-use Rattle.rpc_end.specs.EndHolds.{IsEnd, kept_call}
-use Rattle.rpc_end.proofs.EntrySteps.{calm_step, start_step}
-use Rattle.rpc_end.proofs.IdleLemmas.{unhalted}
+use Rattle.rpc_schedule.specs.ends.OwnEntries.{is_own}
+use Rattle.rpc_schedule.specs.ends.EndHolds.{IsEnd, kept_call}
+use Rattle.rpc_schedule.proofs.ends.EntrySteps.{calm_step, start_step}
+use Rattle.rpc_schedule.proofs.ends.IdleLemmas.{unhalted}
 
 -- a table is its setting and its entries
 pub table_is : (t u : Table) (es : List Entry) → u.setting ≡ t.setting → u.entries ≡ es → u ≡ record { setting = t.setting; entries = es }

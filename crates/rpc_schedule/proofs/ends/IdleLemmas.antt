@@ -1,6 +1,6 @@
 -- An end without a run that is kept: which of its calls are ready, and that no queue is full where no event waits.
-use Rattle.std.proofs.Common.{◌≡◌, ℕ, zero, suc, ◌+◌, ◌<◌, ◌≤◌, Bool, true, false, not, ◌&&◌, ◌==◌, List, [], ◌∷◌, length, drop, reverse, count_by, Option, Some, None, slice_get, get_or, ◌⊎◌, inl, inr, refl, ap, sym, ◌∙◌, subst, arith, length-append}
-use Rattle.std.proofs.lemmas.Bool.{true≢false, false≢true, lt-ltb, eqb-true, eqb-false, and_parts, false_from_ne_true}
+use Rattle.std.proofs.Common.{◌≡◌, ℕ, zero, suc, ◌+◌, ◌<◌, ◌≤◌, Bool, true, false, not, ◌&&◌, List, [], ◌∷◌, length, drop, reverse, count_by, Option, Some, None, slice_get, get_or, ◌⊎◌, inl, inr, refl, ap, sym, ◌∙◌, subst, arith, length-append}
+use Rattle.std.proofs.lemmas.Bool.{true≢false, false≢true, lt-ltb, false_from_ne_true}
 use Rattle.std.proofs.Math.Bool.{and-false}
 use Rattle.std.proofs.lemmas.List.{append-nil}
 use Rattle.rpc_ids.specs.declared.method.Role.{Role}
@@ -17,24 +17,25 @@ use Rattle.rpc_journal.specs.declared.setting.Setting.{Setting}
 use Rattle.rpc_journal.specs.Calls.{calls, call_count, is_cancelled, runner_of}
 use Rattle.rpc_journal.specs.Effect.{Deed}
 use Rattle.rpc_journal.specs.Entries.{arrive_row}
-use Rattle.rpc_journal.specs.History.{told, entry_by}
+use Rattle.rpc_journal.specs.History.{deeds_of, entry_by}
 use Rattle.rpc_journal.specs.Items.{flush_count, halt_reason, is_ready, items_sent, items_waiting, reason_of}
 use Rattle.rpc_journal.specs.Lawful.{full_among, full_queue}
-use Rattle.rpc_journal.specs.Marks.{is_empty}
+use Rattle.rpc_journal.specs.Kinds.{is_empty}
 use Rattle.rpc_journal.specs.Queues.{waiting_of, puts_since, starts_since, messages_waiting, is_ended}
 use Rattle.rpc_journal.specs.Quiet.{all_below}
-use Rattle.rpc_journal.specs.Table.{Table, past}
+use Rattle.rpc_journal.specs.CallTable.{Table, past}
 use Rattle.rpc_journal.specs.Choice.{SomeReady}
 use Rattle.rpc_journal.specs.declared.item.Item.{Item}
-use Rattle.rpc_calls.specs.Ran.{Ran}
+use Rattle.rpc_journal.specs.Ran.{Ran}
 use Rattle.rpc_schedule.specs.Schedule.{NoneWaits}
 use Rattle.rpc_schedule.specs.Serving.{none_waiting}
 use Rattle.std.proofs.lemmas.Option.{slice_get_cases}
 use Rattle.rpc_journal.proofs.KnownLemmas.{ready_known}
 use Rattle.rpc_journal.proofs.EndedLemmas.{cancelled_waits_none}
 use Rattle.rpc_journal.proofs.Push.{all-reverse}
-use Rattle.rpc_end.specs.OwnEntries.{is_own, AreOwn}
-use Rattle.rpc_end.specs.EndHolds.{IsEnd, kept_call}
+use Rattle.rpc_journal.proofs.StayLemmas.{all_at}
+use Rattle.rpc_schedule.specs.ends.OwnEntries.{is_own, AreOwn}
+use Rattle.rpc_schedule.specs.ends.EndHolds.{IsEnd, kept_call}
 
 -- none of its entries halts the table
 no_halt : (role : Role) (kind : EntryKind) → is_own role kind ≡ true → reason_of kind ≡ None
@@ -43,7 +44,7 @@ no_halt Server _ own = refl
 no_halt Client (Halt why) own = absurd (false≢true own)
 no_halt Client _ own = refl
 
-told_unhalted : (role : Role) (set : Setting) (es : List Entry) → AreOwn role es → halt_reason (told set es) ≡ None
+told_unhalted : (role : Role) (set : Setting) (es : List Entry) → AreOwn role es → halt_reason (deeds_of set es) ≡ None
 told_unhalted role set [] own = refl
 told_unhalted role set (e ∷ es) own = rw (no_halt role e.kind own.0) (told_unhalted role set es own.1)
 
@@ -73,24 +74,14 @@ some_below (suc n) test none = at (all_below n test) refl (test n) refl none (so
     at true all q is none before = (n, omega arith, is ∙ none)
     at false some q is none before = let found = before some in (found.0, omega (arith, found.1), found.2)
 
-pub all_at : (n c : ℕ) (test : ℕ → Bool) → all_below n test ≡ true → c < n → test c ≡ true
-all_at zero c test all below = absurd (omega (arith, below))
-all_at (suc n) c test all below =
-    let parts = and_parts (all_below n test) (test n) all in
-    at (c == n) refl parts.1 (all_at n c test parts.0)
-  where
-    at : (b : Bool) → (c == n) ≡ b → test n ≡ true → (c < n → test c ≡ true) → test c ≡ true
-    at true same last before = subst (λ k. test k ≡ true) (sym (eqb-true c n same)) last
-    at false apart last before = before (omega (arith, below, eqb-false c n apart))
-
 -- an event waits only for a call that is there, where it doesn't run, isn't cancelled and nothing is halted: after
 -- enough flushes it is ready
-known_from : (n : ℕ) (set : Setting) (es : List Entry) (c : ℕ) → items_waiting (told set es) ≤ n + 65535 → runner_of (told set es) c ≡ None
-    → is_cancelled (told set es) c ≡ false → halt_reason (told set es) ≡ None → is_empty (waiting_of (told set es) c) ≡ false → c < call_count (told set es)
+known_from : (n : ℕ) (set : Setting) (es : List Entry) (c : ℕ) → items_waiting (deeds_of set es) ≤ n + 65535 → runner_of (deeds_of set es) c ≡ None
+    → is_cancelled (deeds_of set es) c ≡ false → halt_reason (deeds_of set es) ≡ None → is_empty (waiting_of (deeds_of set es) c) ≡ false → c < call_count (deeds_of set es)
 known_from zero set es c few idle kept on waits =
-    ready_known set es c (rw (waits, idle, kept, lt-ltb (items_waiting (told set es)) 65536 (omega (arith, few)), on) refl)
+    ready_known set es c (rw (waits, idle, kept, lt-ltb (items_waiting (deeds_of set es)) 65536 (omega (arith, few)), on) refl)
 known_from (suc n) set es c few idle kept on waits =
-    let ds = told set es in
+    let ds = deeds_of set es in
     subst (λ cs. c < length cs) (append-nil (calls ds))
     (known_from n set (entry_by 1 Flush ∷ es) c (omega (arith, few, length-append (items_sent ds) [])) idle kept on
     (subst (λ ws. is_empty (drop (starts_since ds c) ws) ≡ false) (sym (append-nil (puts_since ds c))) waits))

@@ -1,6 +1,4 @@
-//! What the two ends on one thread share: that an end was fed a stream, how it takes a packet in, which run it keeps, and
-//! what waits aside. Definitions and lemmas, with the role as an argument.
-#![tactic(auto)]
+//! The seats of an end on one thread.
 
 /// The seat of what arrives.
 pub const ARRIVALS: u32 = 0;

@@ -1,6 +1,6 @@
--- What holds of the parts of a server.
+-- What holds of the parts of an end.
 use Rattle.std.specs.Prelude.{◌≡◌, ℕ, true, false, Option, Some, None, IfSome, option_map}
-use Rattle.rpc_ids.specs.declared.method.Role.TheVariants.{Server}
+use Rattle.rpc_ids.specs.declared.method.Role.{Role}
 use Rattle.rpc_handlers.specs.declared.event.Memo.{Memo}
 use Rattle.rpc_handlers.specs.HandlerRule.{HandlerRule}
 use Rattle.rpc_journal.specs.declared.answers.StartRefused.{StartRefused}
@@ -10,9 +10,9 @@ use Rattle.rpc_journal.specs.Items.{is_for}
 use Rattle.rpc_journal.specs.Lawful.{IsLegal}
 use Rattle.rpc_journal.specs.Refusals.{is_full}
 use Rattle.rpc_journal.specs.Runs.{IsRunning}
-use Rattle.rpc_journal.specs.Table.{Table, past}
-use Rattle.rpc_calls.specs.Ran.{Ran}
-use Rattle.rpc_server.specs.OwnEntries.{AreOwn}
+use Rattle.rpc_journal.specs.CallTable.{Table, past}
+use Rattle.rpc_journal.specs.Ran.{Ran}
+use Rattle.rpc_schedule.specs.ends.OwnEntries.{AreOwn}
 
 -- the call of the run that is kept
 abbrev pub kept_call : Option Ran → Option ℕ
@@ -24,13 +24,13 @@ pub record IsKept (rule : HandlerRule) (table : Table) (r : Ran) : Type 0 where
   pub seat : r.run.seat ≡ 2
   pub unasked : r.answer ≡ None
 
--- a server's journal is legal and has only entries of its own; no run is on but the one that is kept; and it tells of a
+-- an end's journal is legal and has only entries of its own; no run is on but the one that is kept; and it tells of a
 -- full journal only where the journal is full
-pub record IsServer (rule : HandlerRule) (seed : Memo) (table : Table) (kept : Option Ran) (refused : Option StartRefused) : Type 0 where
+pub record IsEnd (role : Role) (rule : HandlerRule) (seed : Memo) (table : Table) (kept : Option Ran) (refused : Option StartRefused) : Type 0 where
   pub legal : IsLegal rule table.setting table.entries
-  pub server : table.setting.role ≡ Server
+  pub has_role : table.setting.role ≡ role
   pub seeded : seed ≡ table.setting.seed
-  pub own : AreOwn table.entries
+  pub own : AreOwn role table.entries
   pub kept_on : IfSome kept (IsKept rule table)
   pub others : (c : ℕ) → is_for c (kept_call kept) ≡ false → runner_of (past table) c ≡ None
   pub full : refused ≡ Some JournalFull → is_full table.entries ≡ true

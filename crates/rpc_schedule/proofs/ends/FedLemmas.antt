@@ -18,10 +18,10 @@ use Rattle.rpc_journal.specs.Changes.{Accepts, ArriveDid}
 use Rattle.rpc_journal.specs.History.{adding, entry_by}
 use Rattle.rpc_journal.specs.Items.{arrival_of, arrivals}
 use Rattle.rpc_journal.specs.Lawful.{full_queue}
-use Rattle.rpc_journal.specs.Marks.{or_else}
+use Rattle.rpc_journal.specs.Kinds.{or_else}
 use Rattle.rpc_journal.specs.Refusals.{arrive_refusal, is_full, refused_where}
-use Rattle.rpc_journal.specs.Table.{Table, past}
-use Rattle.rpc_calls.specs.Ran.{Ran}
+use Rattle.rpc_journal.specs.CallTable.{Table, past}
+use Rattle.rpc_journal.specs.Ran.{Ran}
 use Rattle.rpc_frames.specs.Heard.{heard_packets}
 use Rattle.rpc_frames.proofs.Growing.{nothing_heard_in, packets_same}
 use Rattle.rpc_frames.specs.Listening.{HearsMore, Listening, LosesPacket, StopsAtSegment}
@@ -29,10 +29,10 @@ use Rattle.rpc_frames.specs.Listening as listens
 use Rattle.rpc_schedule.specs.Schedule.{flush_seat, input_seat, run_seat}
 use Rattle.rpc_schedule.specs.Serving.{Begins, Ends, EndsInput, FedBy, Gives, HasHeard, Serving, Works, none_waiting, refusing, with_entry}
 use Rattle.rpc_schedule.proofs.EntryLemmas.{arrivals-push}
-use Rattle.rpc_end.specs.Feeding.{Arrives, TakesIn}
-use Rattle.rpc_end.specs.EndState.{EndState, WasFed, KeepsAside, heard}
-use Rattle.rpc_end.specs.EndHolds.{IsEnd, kept_call}
-use Rattle.rpc_end.proofs.IdleLemmas.{no_full_queue}
+use Rattle.rpc_schedule.specs.ends.Feeding.{Arrives, TakesIn}
+use Rattle.rpc_schedule.specs.ends.EndState.{EndState, WasFed, KeepsAside, heard}
+use Rattle.rpc_schedule.specs.ends.EndHolds.{IsEnd, kept_call}
+use Rattle.rpc_schedule.proofs.ends.IdleLemmas.{no_full_queue}
 
 -- where no run is kept and no event waits, no queue is full
 queue_refusal : (full : Bool) (c : ℕ) → or_else (refused_where full Full) None ≡ Some (QueueFull c) → ⊥

@@ -1,4 +1,0 @@
-pub mod EntrySteps
-pub mod IdleLemmas
-pub mod CallSteps
-pub mod FedLemmas
