@@ -21,10 +21,10 @@ use Rattle.rpc_journal.specs.Changes.{CancelDid, cancel_answer}
 use Rattle.rpc_journal.specs.Conditions.{IsCall}
 use Rattle.rpc_journal.specs.Effect.{Deed}
 use Rattle.rpc_journal.specs.Entries.{cancel_effect}
-use Rattle.rpc_journal.specs.History.{adding, entry_by, history, tell, told}
+use Rattle.rpc_journal.specs.History.{adding, entry_by, history, deeds_with, deeds_of}
 use Rattle.rpc_journal.specs.Lawful.{IsLawful, IsLegal}
 use Rattle.rpc_journal.specs.Laws.{seat_of}
-use Rattle.rpc_journal.specs.Marks.{is_empty}
+use Rattle.rpc_journal.specs.Kinds.{is_empty}
 use Rattle.rpc_journal.specs.Quiet.{is_quiet}
 use Rattle.rpc_journal.proofs.ChangeLemmas.{becomes_quiet}
 use Rattle.rpc_journal.proofs.EndedLemmas.{cancelled_ends}
@@ -35,14 +35,14 @@ use Rattle.rpc_shared.specs.Steps.{IsOwn, Step, Steps}
 use Rattle.rpc_shared.specs.Waits.{CancelsAndWaits, IsQuietWith, SeesMore}
 
 -- a cancelled call stays cancelled
-cancelled_from : (set : Setting) (new old : List Entry) (c : ℕ) → is_cancelled (told set old) c ≡ true → is_cancelled (told set (new ++ old)) c ≡ true
+cancelled_from : (set : Setting) (new old : List Entry) (c : ℕ) → is_cancelled (deeds_of set old) c ≡ true → is_cancelled (deeds_of set (new ++ old)) c ≡ true
 cancelled_from set [] old c is = is
 cancelled_from set (e ∷ new) old c is = rw (cancelled_from set new old c is) (or-true (is_cancel_of c e.kind))
 
 cancelled_stays : (set : Setting) (h whole : List Entry) (c : ℕ) → IsPrefix h whole → is_cancelled (history set h) c ≡ true → is_cancelled (history set whole) c ≡ true
 cancelled_stays set h whole c begins is =
     subst (λ w. is_cancelled (history set w) c ≡ true) begins.1
-    (subst (λ es. is_cancelled (told set es) c ≡ true) (sym (reverse-append h begins.0)) (cancelled_from set (reverse begins.0) (reverse h) c is))
+    (subst (λ es. is_cancelled (deeds_of set es) c ≡ true) (sym (reverse-append h begins.0)) (cancelled_from set (reverse begins.0) (reverse h) c is))
 
 pub call_stays_in : (set : Setting) (h whole : List Entry) (c : ℕ) → IsPrefix h whole → IsCall set h c → IsCall set whole c
 call_stays_in set h whole c begins is = subst (λ w. IsCall set w c) begins.1 (call_stays set h begins.0 c is)

@@ -3,7 +3,7 @@ use Rattle.std.proofs.Common.{◌≡◌, ◌≢◌, ℕ, Bool, true, false, List
 use Rattle.turn_cell.specs.Passes.{LockView, PassView}
 use Rattle.rpc_packet.specs.declared.owned.Packet.{Packet}
 use Rattle.rpc_handlers.specs.HandlerRule.{HandlerRule}
-use Rattle.rpc_calls.specs.Ran.{Ran, run_in}
+use Rattle.rpc_journal.specs.Ran.{Ran, run_in}
 use Rattle.rpc_journal.specs.declared.answers.Arrived.{Arrived}
 use Rattle.rpc_journal.specs.declared.answers.ArriveRefused.{ArriveRefused}
 use Rattle.rpc_journal.specs.declared.answers.StartRefused.{StartRefused}

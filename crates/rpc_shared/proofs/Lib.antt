@@ -2,4 +2,5 @@ mod Cancelling
 mod Feeding
 mod Opened
 mod Passing
+mod Seats
 mod Standing

@@ -6,7 +6,7 @@ use Rattle.turn_cell.specs.Passes.{AllFit, AreAll, FitsValue, IsIdle, LockView, 
 use Rattle.rpc_journal.specs.declared.entry.Entry.{Entry}
 use Rattle.rpc_journal.specs.declared.setting.Setting.{Setting}
 use Rattle.rpc_journal.specs.Laws.{seat_of}
-use Rattle.rpc_journal.specs.Table.{Table}
+use Rattle.rpc_journal.specs.CallTable.{Table}
 use Rattle.rpc_shared.specs.Steps.{base_of, log_of}
 
 same_some : (a b : Setting) → Some a ≡ Some b → a ≡ b

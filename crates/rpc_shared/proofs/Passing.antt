@@ -15,7 +15,7 @@ use Rattle.rpc_journal.specs.Conditions.{CanComplete, CanSay, IsCall, IsInputOpe
 use Rattle.rpc_journal.specs.Lawful.{IsLawful, IsLegal}
 use Rattle.rpc_journal.specs.Laws.{seat_of}
 use Rattle.rpc_journal.specs.Runs.{IsRunning, Run}
-use Rattle.rpc_journal.specs.Table.{Table}
+use Rattle.rpc_journal.specs.CallTable.{Table}
 use Rattle.rpc_journal.proofs.ChangeLemmas.{input_stays_open}
 use Rattle.rpc_journal.proofs.ItemLemmas.{call_stays}
 use Rattle.rpc_journal.proofs.RunLemmas.{quiet_for_good, run_stands}

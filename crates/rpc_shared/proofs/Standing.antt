@@ -13,7 +13,7 @@ use Rattle.rpc_journal.specs.Calls.{is_start_of, is_finish_of, runner_of}
 use Rattle.rpc_journal.specs.Queues.{taken_event}
 use Rattle.rpc_journal.specs.Items.{is_for, is_ready}
 use Rattle.rpc_journal.specs.States.{state_before_run}
-use Rattle.rpc_journal.specs.History.{told, history}
+use Rattle.rpc_journal.specs.History.{deeds_of, history}
 use Rattle.rpc_journal.specs.Lawful.{AllowedAll, IsLawful}
 use Rattle.rpc_journal.specs.Laws.{seat_of}
 use Rattle.rpc_journal.specs.Runs.{Run, IsRunning}
@@ -40,13 +40,13 @@ unfinished set ds e run fits on (inr none) = none
 
 run_from :
     (rule : HandlerRule) (set : Setting) (new old : List Entry) (run : Run) → AllowedAll set (new ++ old) → AllByRecursion (LetsRun run) new →
-    runner_of (told set old) run.call ≡ Some run.seat → SameRun rule set run.call (told set old) (told set (new ++ old))
+    runner_of (deeds_of set old) run.call ≡ Some run.seat → SameRun rule set run.call (deeds_of set old) (deeds_of set (new ++ old))
 run_from rule set [] old run all lets runs = record { runner = refl; taken = refl; state = refl }
 run_from rule set (e ∷ new) old run all lets runs = at (run_from rule set new old run all.0 lets.1 runs)
   where
-    at : SameRun rule set run.call (told set old) (told set (new ++ old)) → SameRun rule set run.call (told set old) (told set (e ∷ (new ++ old)))
+    at : SameRun rule set run.call (deeds_of set old) (deeds_of set (new ++ old)) → SameRun rule set run.call (deeds_of set old) (deeds_of set (e ∷ (new ++ old)))
     at before =
-        let ds : List Deed = told set (new ++ old) in
+        let ds : List Deed = deeds_of set (new ++ old) in
         let fits = allowed set ds e all.1 in
         let on : runner_of ds run.call ≡ Some run.seat = before.runner ∙ runs in
         let start : is_start_of run.call e.kind ≡ false = no_start set ds e run.call fits (busy_unready ds run.call run.seat on) in
@@ -62,7 +62,7 @@ pub run_stands_until_finish :
     IsRunning rule set h run → IsRunning rule set (h ++ more) run
 run_stands_until_finish rule set h more run lawful lets is =
     let same = run_from rule set (reverse more) (reverse h) run (allowed-parts set h more lawful) (all-reverse _ more lets) is.unfinished in
-    let later : told set (reverse more ++ reverse h) ≡ history set (h ++ more) = ap (told set) (sym (reverse-append h more)) in
+    let later : deeds_of set (reverse more ++ reverse h) ≡ history set (h ++ more) = ap (deeds_of set) (sym (reverse-append h more)) in
     record {
       started = prefix_get h (h ++ more) run.place _ (more, refl) is.started;
       unfinished = subst (λ ds. runner_of ds run.call ≡ Some run.seat) later (same.runner ∙ is.unfinished);

@@ -1,3 +1,4 @@
+pub mod Helpers
 pub mod Laws
 pub mod Looks
 pub mod OwnRuns

@@ -2,7 +2,7 @@
 use Rattle.std.specs.Prelude.{◌≡◌, ◌≢◌, ◌⊎◌, false, List, None}
 use Rattle.turn_cell.specs.Passes.{PassView}
 use Rattle.rpc_handlers.specs.HandlerRule.{HandlerRule}
-use Rattle.rpc_calls.specs.Ran.{Ran}
+use Rattle.rpc_journal.specs.Ran.{Ran}
 use Rattle.rpc_journal.specs.declared.entry.Entry.{Entry}
 use Rattle.rpc_journal.specs.declared.setting.Setting.{Setting}
 use Rattle.rpc_journal.specs.Calls.{is_finish_of}

@@ -11,7 +11,7 @@ use Rattle.rpc_journal.specs.History.{history}
 use Rattle.rpc_journal.specs.Lawful.{IsLegal}
 use Rattle.rpc_journal.specs.Laws.{StaysQuiet, seat_of}
 use Rattle.rpc_journal.specs.Quiet.{is_quiet}
-use Rattle.rpc_journal.specs.Table.{Table}
+use Rattle.rpc_journal.specs.CallTable.{Table}
 
 -- the log of a table is its journal, and its base is what is fixed with it
 abbrev pub log_of : Table → List Entry

@@ -1,7 +1,7 @@
 //! The table as the lock guards it: one method for each of its calls, with what the call adds.
 
 ghost use Rattle.std.specs.Prelude.{◌≡◌, IfErr, IfOk, IfSome, None, Some};
-ghost use Rattle.rpc_calls.specs.Ran.{run_in};
+ghost use Rattle.rpc_journal.specs.Ran.{run_in};
 ghost use Rattle.rpc_journal.specs.Changes.{ArriveDid, CancelDid, CloseDid, DoneDid, EndInDid, FinishDid, FlushDid, HaltDid, InvokeDid, ReplaceDid, SayDid, StartDid, StartOfDid, TickDid};
 ghost use Rattle.rpc_journal.specs.Conditions.{CanComplete, CanHalt, CanInvoke, CanSay, IsCall, IsHeard, IsInputOpen};
 ghost use Rattle.rpc_journal.specs.Lawful.{IsLegal};
@@ -30,7 +30,7 @@ pub struct Desk<H: Handler> {
 }
 
 impl<H: Handler> Model for Desk<H> {
-    ghost use Rattle.rpc_journal.specs.Table.{Table};
+    ghost use Rattle.rpc_journal.specs.CallTable.{Table};
 
     ghost Value = { Table };
 

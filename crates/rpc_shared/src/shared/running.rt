@@ -1,7 +1,7 @@
 //! Runs begin and end; between them the handler runs outside the lock.
 
 ghost use Rattle.std.specs.Prelude.{IfErr, IfOk, IfSome, Some, ◌≡◌};
-ghost use Rattle.rpc_calls.specs.Ran.{run_in};
+ghost use Rattle.rpc_journal.specs.Ran.{run_in};
 ghost use Rattle.rpc_journal.specs.Changes.{FinishDid, StartDid, StartOfDid};
 ghost use Rattle.rpc_journal.specs.Runs.{IsRunning};
 ghost use Rattle.rpc_shared.specs.OwnRuns.{Runs};

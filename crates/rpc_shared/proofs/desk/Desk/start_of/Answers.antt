@@ -1,4 +1,4 @@
-use Rattle.rpc_calls.specs.Ran.{Ran}
+use Rattle.rpc_journal.specs.Ran.{Ran}
 use Rattle.rpc_journal.specs.ChangeLaws.{AddsBySeat}
 use Rattle.rpc_journal.proofs.ChangeLemmas.{adds_by_seat}
 use Rattle.rpc_shared.proofs.Passing.{made_of}
