@@ -1,0 +1,5 @@
+pub mod Crew
+pub mod Log
+pub mod Reasons
+pub mod Ring
+pub mod Sessions

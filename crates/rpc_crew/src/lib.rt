@@ -1,0 +1,22 @@
+//! A session of a server over one link, by threads that share one table: a reader, workers that run handlers, a pump that takes
+//! what goes out, and a writer. docs/CREW.md shows who holds what, and how a session ends. Enter at [`session`].
+#![tactic(auto)]
+
+mod gate;
+mod halting;
+mod item_log;
+mod outcome;
+mod parcel;
+mod pumping;
+mod reading;
+mod running;
+mod serving;
+#[cfg(test)]
+mod tests;
+mod threads;
+mod working;
+mod writing;
+
+pub use gate::{Free, Gate};
+pub use outcome::{Served, Session};
+pub use serving::{session, session_with_items};

@@ -1,0 +1,209 @@
+//! The pump: it tells the table the time, and takes what goes out to the ring.
+ghost use Rattle.std.specs.Prelude.{◌≡◌, ℕ, ◌≤◌, true, false, [], ◌∷◌, ◌++◌, Some, None, is_some, IfOk, OnErr};
+ghost use Rattle.rpc_journal.specs.Items.{flushes, moments};
+ghost use Rattle.rtrb.specs.Ring.{SameProducer, sent};
+ghost use Rattle.rtrb.specs.declared.errors.PushError.TheVariants.{Full};
+ghost use Rattle.turn_cell.specs.Passes.{IsSame};
+ghost use Rattle.rpc_crew.specs.Crew.{Adds, Stands, is_pumps};
+ghost use Rattle.rpc_crew.specs.Ring.{PumpEnded, Pumps, Ticked};
+ghost use Rattle.rpc_crew.specs.Sessions.{AreSpaced, is_halted, last_from};
+ghost use Rattle.rpc_crew.specs.declared.parcel.Parcel.{Parcel};
+ghost use Rattle.rpc_crew.specs.declared.parcel.Parcel.TheVariants.{End};
+
+use crate::halting::{Halted, halt};
+use crate::parcel::Parcel;
+use link_io::{Clock, Why};
+use rpc_calls::StartRefused;
+use rpc_handlers::Handler;
+use rpc_shared::{Look, Pass, Shared};
+use rtrb::{Producer, PushError};
+use std::sync::Wait;
+use std::thread;
+
+/// The time goes on in steps of at least so many milliseconds.
+pub(crate) const TICK: u64 = 500;
+
+/// The pump is done: the end is in the ring, or the table is halted.
+#[derive(Clone, Copy, Debug)]
+struct Ended;
+
+/// Ticks and flushes until the table is settled and the ring has had all items and the end, or the table is halted. An item is
+/// flushed only when the one before it is in the ring.
+pub(crate) fn pump<H: Handler, C: Clock, R: Wait>(
+    rt: &R,
+    shared: &Shared<H>,
+    pass: &mut Pass<H>,
+    ring: &mut Producer<Parcel>,
+    clock: &mut C,
+)
+    requires pumps { Pumps H.rule shared.now (sent ring.old) None pass.old }
+    requires fresh { pass.old.view.known.mine ≡ [] }
+    ensures ended { PumpEnded H.rule shared.now (sent ring.new) pass.new }
+    ensures same { IsSame pass.old pass.new }
+    ensures ring { SameProducer ring.old ring.new }
+    ensures spaced { AreSpaced (C.last clock.old) (moments pass.new.view.known.mine) }
+    ensures past { last_from (C.last clock.old) (moments pass.new.view.known.mine) ≤ C.last clock.new }
+{
+    let mut ticked = clock.now();
+    let mut hand = None;
+    for _ in rt.forever() {
+        if tick(rt, shared, pass, clock, &mut ticked).is_err() {
+            return;
+        }
+        match go_on(rt, shared, pass, ring, hand) {
+            Ok(next) => hand = next,
+            Err(_) => return,
+        }
+    }
+    unreachable!()
+}
+
+// Tells the time, where it has gone on far enough.
+fn tick<H: Handler, C: Clock, R: Wait>(
+    rt: &R,
+    shared: &Shared<H>,
+    pass: &mut Pass<H>,
+    clock: &mut C,
+    ticked: &mut u64,
+) -> Result<(), Halted>
+    requires stands { Stands H.rule shared.now pass.old }
+    requires pump { pass.old.view.known.number ≡ 1 }
+    requires past { ticked.old ≤ C.last clock.old }
+    ensures adds { Adds H.rule shared.now is_pumps pass.old pass.new }
+    ensures flushes { flushes pass.new.view.known.mine ≡ flushes pass.old.view.known.mine }
+    ensures ticks { (start : ℕ) → Ticked start pass.old.view.known.mine ticked.old (C.last clock.old) → Ticked start pass.new.view.known.mine ticked.new (C.last clock.new) }
+    ensures halted { OnErr result (is_halted shared.now.base pass.new.view.known.seen ≡ true) }
+{
+    let now = clock.now();
+    if now - *ticked < TICK {
+        return Ok(());
+    }
+    match shared.tick(rt, pass, now) {
+        Ok(()) => {
+            *ticked = now;
+            Ok(())
+        }
+        Err(StartRefused::JournalFull) => {
+            halt(rt, shared, pass, Why::JournalLimit);
+            Err(Halted)
+        }
+        Err(StartRefused::Memory) => {
+            halt(rt, shared, pass, Why::Memory);
+            Err(Halted)
+        }
+    }
+}
+
+// The parcel in the hand goes first; then the next item.
+fn go_on<H: Handler, R: Wait>(
+    rt: &R,
+    shared: &Shared<H>,
+    pass: &mut Pass<H>,
+    ring: &mut Producer<Parcel>,
+    hand: Option<Parcel>,
+) -> Result<Option<Parcel>, Ended>
+    requires pumps { Pumps H.rule shared.now (sent ring.old) hand pass.old }
+    ensures same { IsSame pass.old pass.new }
+    ensures ticks { moments pass.new.view.known.mine ≡ moments pass.old.view.known.mine }
+    ensures ring { SameProducer ring.old ring.new }
+    ensures pumps { IfOk result (λ next. Pumps H.rule shared.now (sent ring.new) next pass.new) }
+    ensures ended { OnErr result (PumpEnded H.rule shared.now (sent ring.new) pass.new) }
+{
+    match hand {
+        None => flush(rt, shared, pass, ring),
+        Some(parcel) => offer(rt, shared, pass, ring, parcel),
+    }
+}
+
+// Flushes an item, and puts it into the ring.
+fn flush<H: Handler, R: Wait>(
+    rt: &R,
+    shared: &Shared<H>,
+    pass: &mut Pass<H>,
+    ring: &mut Producer<Parcel>,
+) -> Result<Option<Parcel>, Ended>
+    requires pumps { Pumps H.rule shared.now (sent ring.old) None pass.old }
+    ensures same { IsSame pass.old pass.new }
+    ensures ticks { moments pass.new.view.known.mine ≡ moments pass.old.view.known.mine }
+    ensures ring { SameProducer ring.old ring.new }
+    ensures pumps { IfOk result (λ next. Pumps H.rule shared.now (sent ring.new) next pass.new) }
+    ensures ended { OnErr result (PumpEnded H.rule shared.now (sent ring.new) pass.new) }
+{
+    match shared.flush_front(rt, pass) {
+        Some(item) => offer(rt, shared, pass, ring, Parcel::Put(item)),
+        None => rest(rt, shared, pass, ring),
+    }
+}
+
+// Puts a parcel into the ring, or keeps it in the hand where the ring is full.
+fn offer<H: Handler, R: Wait>(
+    rt: &R,
+    shared: &Shared<H>,
+    pass: &mut Pass<H>,
+    ring: &mut Producer<Parcel>,
+    parcel: Parcel,
+) -> Result<Option<Parcel>, Ended>
+    requires pumps { Pumps H.rule shared.now (sent ring.old) (Some parcel) pass.old }
+    ensures same { IsSame pass.old pass.new }
+    ensures mine { pass.new.view.known.mine ≡ pass.old.view.known.mine }
+    ensures ring { SameProducer ring.old ring.new }
+    ensures pumps { IfOk result (λ next. Pumps H.rule shared.now (sent ring.new) next pass.new) }
+    ensures ended { OnErr result (PumpEnded H.rule shared.now (sent ring.new) pass.new) }
+{
+    match ring.push(parcel) {
+        Ok(()) => Ok(None),
+        Err(refused) => keep(shared.look(rt, pass), refused),
+    }
+}
+
+// The parcel that the ring gave back stays in the hand, unless the table is halted.
+fn keep(look: Look, refused: PushError<Parcel>) -> Result<Option<Parcel>, Ended>
+    ensures kept { IfOk result (λ hand. (parcel : Parcel) → refused ≡ Full parcel → hand ≡ Some parcel) }
+    ensures halted { OnErr result (is_some look.halted ≡ true) }
+{
+    if look.halted.is_some() {
+        return Err(Ended);
+    }
+    thread::yield_now();
+    match refused {
+        PushError::Full(parcel) => Ok(Some(parcel)),
+    }
+}
+
+// No item waits: the end goes into the ring where the table is settled.
+fn rest<H: Handler, R: Wait>(
+    rt: &R,
+    shared: &Shared<H>,
+    pass: &mut Pass<H>,
+    ring: &mut Producer<Parcel>,
+) -> Result<Option<Parcel>, Ended>
+    requires pumps { Pumps H.rule shared.now (sent ring.old) None pass.old }
+    ensures same { IsSame pass.old pass.new }
+    ensures mine { pass.new.view.known.mine ≡ pass.old.view.known.mine }
+    ensures ring { SameProducer ring.old ring.new }
+    ensures pumps { IfOk result (λ next. Pumps H.rule shared.now (sent ring.new) next pass.new) }
+    ensures ended { OnErr result (PumpEnded H.rule shared.now (sent ring.new) pass.new) }
+{
+    let look = shared.look(rt, pass);
+    if look.halted.is_some() {
+        return Err(Ended);
+    }
+    if look.settled {
+        if close(ring) {
+            return Err(Ended);
+        }
+        thread::yield_now();
+        return Ok(None);
+    }
+    thread::yield_now();
+    Ok(None)
+}
+
+// Puts the end into the ring, where it has a place.
+fn close(ring: &mut Producer<Parcel>) -> bool
+    ensures same { SameProducer ring.old ring.new }
+    ensures put { result ≡ true → sent ring.new ≡ sent ring.old ++ End ∷ [] }
+    ensures full { result ≡ false → sent ring.new ≡ sent ring.old }
+{
+    ring.push(Parcel::End).is_ok()
+}

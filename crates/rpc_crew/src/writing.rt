@@ -1,0 +1,158 @@
+//! The writer: it makes the items that come through the ring, in their order.
+ghost use Rattle.std.specs.Prelude.{◌≡◌, ◌≢◌, ◌≤◌, true, false, [], ◌∷◌, is_some, IfErr, OnErr, OnOk};
+ghost use Rattle.std.specs.Io.KnownBytes.{Appends};
+ghost use Rattle.link_io.specs.Causes.{Rose};
+ghost use Rattle.link_io.specs.Device.{AppendsSome};
+ghost use Rattle.link_io.specs.Stored.{Stored};
+ghost use Rattle.link_io.specs.declared.why.Why.TheVariants.{JournalLimit, Sink as Link, Store as Depot};
+ghost use Rattle.rpc_frames.specs.Written.{frame_of_packet};
+ghost use Rattle.rpc_packet.specs.Message.{message_of};
+ghost use Rattle.rpc_schedule.specs.Kept.{Holds};
+ghost use Rattle.rtrb.specs.Ring.{SameConsumer, received};
+ghost use Rattle.turn_cell.specs.Passes.{IsSame};
+ghost use Rattle.rpc_crew.specs.Log.{Logs};
+ghost use Rattle.rpc_crew.specs.Ring.{HaltsFor, Made, Writes, WriterEnded};
+ghost use Rattle.rpc_crew.specs.Sessions.{is_halting, wire};
+
+use crate::halting::halt;
+use crate::item_log::ItemLog;
+use crate::parcel::Parcel;
+use link_io::{Sink, Store, StoreRefused, Why, write_whole};
+use rpc_frames::write_frame;
+use rpc_handlers::Handler;
+use rpc_journal::{Act, Item};
+use rpc_packet::Packet;
+use rpc_schedule::make_action;
+use rpc_shared::{Look, Pass, Shared};
+use rtrb::Consumer;
+use std::alloc::Global;
+use std::sync::Wait;
+use std::thread;
+
+/// Makes the items that come through the ring, until its end, a failure, or a halt of the table, and answers how many were made
+/// whole.
+pub(crate) fn write<H: Handler, O: Sink, S: Store, R: Wait>(
+    rt: &R,
+    alloc: Global,
+    shared: &Shared<H>,
+    pass: &mut Pass<H>,
+    ring: &mut Consumer<Parcel>,
+    output: &mut O,
+    store: &mut S,
+    log: &mut ItemLog,
+) -> u64
+    requires writes { Writes H.rule shared.now (O.written output.old) (O.written output.old) (S.holds store.old) (S.holds store.old) log.old log.old (received ring.old) 0 pass.old }
+    requires open { O.finished output.old ≡ false }
+    ensures ended { WriterEnded H.rule shared.now (O.written output.old) (O.written output.new) (S.holds store.old) (S.holds store.new) log.old log.new (received ring.new) result pass.new }
+    ensures same { IsSame pass.old pass.new }
+    ensures ring { SameConsumer ring.old ring.new }
+    ensures sink { HaltsFor Link pass.new.view.known.mine → Rose (O.faults output.old) (O.faults output.new) }
+    ensures store { HaltsFor Depot pass.new.view.known.mine → Rose (S.faults store.old) (S.faults store.new) }
+    ensures later { (O.faults output.old ≤ O.faults output.new) × (S.faults store.old ≤ S.faults store.new) }
+    ensures open { O.finished output.new ≡ false }
+{
+    let mut done: u64 = 0;
+    for _ in rt.forever() {
+        match ring.pop() {
+            Ok(Parcel::Put(item)) => match put(alloc, item, output, store, log) {
+                Ok(()) => done = done.saturating_add(1),
+                Err(why) => {
+                    halt(rt, shared, pass, why);
+                    return done;
+                }
+            },
+            Ok(Parcel::End) => return done,
+            Err(_) => {
+                if !waits(shared.look(rt, pass)) {
+                    return done;
+                }
+            }
+        }
+    }
+    unreachable!()
+}
+
+// Makes an item, and puts it into the log.
+fn put<O: Sink, S: Store>(
+    alloc: Global,
+    item: Item,
+    output: &mut O,
+    store: &mut S,
+    log: &mut ItemLog,
+) -> Result<(), Why>
+    requires { O.finished output.old ≡ false }
+    ensures made { OnOk result (Made (O.written output.old) (O.written output.new) (S.holds store.old) (S.holds store.new) log.old log.new (item ∷ [])) }
+    ensures begun { OnErr result (AppendsSome (O.written output.old) (O.written output.new) (wire (item ∷ []))) }
+    ensures kept { OnErr result ((S.holds store.new ≡ S.holds store.old) × Logs log.old log.new []) }
+    ensures why { IfErr result (λ why. (is_halting why ≡ true) × (why ≢ JournalLimit)) }
+    ensures sink { IfErr result (λ why. why ≡ Link → Rose (O.faults output.old) (O.faults output.new)) }
+    ensures store { IfErr result (λ why. why ≡ Depot → Rose (S.faults store.old) (S.faults store.new)) }
+    ensures later { (O.faults output.old ≤ O.faults output.new) × (S.faults store.old ≤ S.faults store.new) }
+    ensures open { O.finished output.new ≡ false }
+{
+    if log.reserve().is_err() {
+        return Err(Why::Memory);
+    }
+    make(alloc, &item, output, store)?;
+    log.add(item);
+    Ok(())
+}
+
+// Writes the frame of an item that is a packet, and makes the store action of another.
+fn make<O: Sink, S: Store>(
+    alloc: Global,
+    item: &Item,
+    output: &mut O,
+    store: &mut S,
+) -> Result<(), Why>
+    requires { O.finished output.old ≡ false }
+    ensures written { OnOk result (Appends (O.written output.old) (O.written output.new) (wire (item.now ∷ []))) }
+    ensures stored { OnOk result (Holds (item.now ∷ []) (S.holds store.old) (S.holds store.new)) }
+    ensures begun { OnErr result (AppendsSome (O.written output.old) (O.written output.new) (wire (item.now ∷ []))) }
+    ensures kept { OnErr result (S.holds store.new ≡ S.holds store.old) }
+    ensures why { IfErr result (λ why. (is_halting why ≡ true) × (why ≢ JournalLimit)) }
+    ensures sink { IfErr result (λ why. why ≡ Link → Rose (O.faults output.old) (O.faults output.new)) }
+    ensures store { IfErr result (λ why. why ≡ Depot → Rose (S.faults store.old) (S.faults store.new)) }
+    ensures later { (O.faults output.old ≤ O.faults output.new) × (S.faults store.old ≤ S.faults store.new) }
+    ensures open { O.finished output.new ≡ false }
+{
+    match &item.act {
+        Act::Send(packet) => send(alloc, packet, output),
+        act => match make_action(store, item.call, act) {
+            Ok(()) => Ok(()),
+            Err(StoreRefused::Failed) => Err(Why::Store),
+            Err(StoreRefused::Memory) => Err(Why::Memory),
+        },
+    }
+}
+
+// Writes the frame of a packet.
+fn send<O: Sink>(alloc: Global, packet: &Packet, output: &mut O) -> Result<(), Why>
+    requires { O.finished output.old ≡ false }
+    ensures written { OnOk result (Appends (O.written output.old) (O.written output.new) (frame_of_packet (message_of packet.now))) }
+    ensures begun { OnErr result (AppendsSome (O.written output.old) (O.written output.new) (frame_of_packet (message_of packet.now))) }
+    ensures why { IfErr result (λ why. (is_halting why ≡ true) × (why ≢ JournalLimit) × (why ≢ Depot)) }
+    ensures sink { IfErr result (λ why. why ≡ Link → Rose (O.faults output.old) (O.faults output.new)) }
+    ensures later { O.faults output.old ≤ O.faults output.new }
+    ensures open { O.finished output.new ≡ false }
+{
+    let mut frame = Vec::new(alloc);
+    if write_frame(alloc, packet, &mut frame).is_err() {
+        return Err(Why::Memory);
+    }
+    match write_whole(output, &frame) {
+        Ok(()) => Ok(()),
+        Err(_) => Err(Why::Sink),
+    }
+}
+
+// Lets others go on, unless the table is halted.
+fn waits(look: Look) -> bool
+    ensures { result ≡ false → is_some look.halted ≡ true }
+{
+    if look.halted.is_some() {
+        return false;
+    }
+    thread::yield_now();
+    true
+}
