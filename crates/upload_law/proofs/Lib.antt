@@ -1,0 +1,6 @@
+pub mod AnsweredLaws
+pub mod EntryItems
+pub mod ItemLemmas
+pub mod OkayLaws
+pub mod SessionOkay
+pub mod UploadLaws

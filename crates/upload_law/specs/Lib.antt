@@ -1,0 +1,3 @@
+pub mod CallItems
+pub mod Okay
+pub mod Uploads
