@@ -1,6 +1,7 @@
 pub mod FirstStates
 pub mod LawLemmas
 pub mod Limits
+pub mod LogLemmas
 pub mod UploadLemmas
 pub mod ServeLemmas
 pub mod TransferSteps

@@ -12,11 +12,12 @@ use Rattle.rpc_handlers.specs.declared.answer.End.{End}
 use Rattle.rpc_handlers.specs.declared.answer.Out.{Out}
 use Rattle.rpc_handlers.specs.Limits.{is_long, is_long_out, is_long_end, is_past_limits}
 use Rattle.demo_services.specs.declared.call.DemoCall.{DemoCall}
-use Rattle.demo_services.specs.declared.call.DemoCall.TheVariants.{Echo, Count, Sum, Chat, Transfer}
+use Rattle.demo_services.specs.declared.call.DemoCall.TheVariants.{Echo, Count, Sum, Chat, Log, Transfer}
 use Rattle.demo_services.specs.Answers.{ends, says, too_long}
 use Rattle.demo_services.specs.Count.{count_to}
 use Rattle.demo_services.specs.DemoCall.{answer_of}
 use Rattle.demo_services.specs.Laws.{HasFewSessions}
+use Rattle.demo_services.specs.Log.{log_line}
 use Rattle.demo_services.specs.Transfer.{message_answer, transfer_answer}
 use Rattle.transfer_chunk.specs.Chunk.{Chunk}
 use Rattle.transfer_chunk.specs.Reading.{chunk_of}
@@ -41,9 +42,9 @@ echo_limits : (payload : List ℕ) (b : Bool) → is_long payload ≡ b → is_p
 echo_limits payload true long = refl
 echo_limits payload false short = short
 
-chat_limits : (payload : List ℕ) (b : Bool) → is_long payload ≡ b → is_past_limits (if b then too_long else says payload) ≡ false
-chat_limits payload true long = refl
-chat_limits payload false short = rw short refl
+said_limits : (payload : List ℕ) (b : Bool) → is_long payload ≡ b → is_past_limits (if b then too_long else says payload) ≡ false
+said_limits payload true long = refl
+said_limits payload false short = rw short refl
 
 pub within_limits : (outs : List Out) (end : Option End) → is_long_end end ≡ false → IsWithin outs → is_past_limits (record { items = outs; end = end }) ≡ false
 within_limits outs end short within = rw (within.short, short) (few_items (length outs) within.few)
@@ -81,8 +82,13 @@ answer_limits (Sum total) Completion few = refl
 answer_limits (Sum _) (Ended _) few = refl
 answer_limits (Sum _) (Tick _) few = refl
 answer_limits (Chat _) (Request _) few = refl
-answer_limits (Chat _) (Message payload) few = chat_limits payload (is_long payload) refl
+answer_limits (Chat _) (Message payload) few = said_limits payload (is_long payload) refl
 answer_limits (Chat _) Completion few = refl
 answer_limits (Chat _) (Ended _) few = refl
 answer_limits (Chat _) (Tick _) few = refl
+answer_limits (Log _) (Request _) few = refl
+answer_limits (Log _) (Message payload) few = said_limits (log_line payload) (is_long (log_line payload)) refl
+answer_limits (Log _) Completion few = refl
+answer_limits (Log _) (Ended _) few = refl
+answer_limits (Log _) (Tick _) few = refl
 answer_limits (Transfer b) ev few = transfer_limits b ev few

@@ -1,4 +1,4 @@
--- What follows from the rule of the demo service.
+-- What follows from the rule of the three services.
 use Rattle.std.specs.Prelude.{◌≡◌, ℕ, ◌+◌, ◌%◌, ◌^◌, ◌<◌, ◌≤◌, false, List, [], ◌∷◌, ◌++◌, length, map, fold, sum, sum_by, slice_get, All, Some, codes}
 use Rattle.std.specs.Int.{w64, to_be_bytes}
 use Rattle.rpc_ids.specs.declared.method.Kind.TheVariants.{ServerStream, ClientStream, Bidi}
@@ -11,7 +11,7 @@ use Rattle.rpc_handlers.specs.declared.event.Memo.{Memo}
 use Rattle.rpc_handlers.specs.Limits.{is_long, is_past_limits}
 use Rattle.transfer_resume.specs.Book.{HasFew}
 use Rattle.demo_services.specs.declared.call.DemoCall.{DemoCall}
-use Rattle.demo_services.specs.declared.call.DemoCall.TheVariants.{Echo, Count, Sum, Chat, Transfer}
+use Rattle.demo_services.specs.declared.call.DemoCall.TheVariants.{Echo, Count, Sum, Chat, Log, Transfer}
 use Rattle.demo_services.specs.Answers.{ends}
 use Rattle.demo_services.specs.DemoCall.{answer_of, call_of, memo_of}
 use Rattle.demo_services.specs.DemoRule.{answer, next, first}
@@ -36,6 +36,7 @@ HasFewSessions (Echo _) = Unit {0}
 HasFewSessions (Count _) = Unit {0}
 HasFewSessions (Sum _) = Unit {0}
 HasFewSessions (Chat _) = Unit {0}
+HasFewSessions (Log _) = Unit {0}
 HasFewSessions (Transfer b) = HasFew b
 
 -- each answer of such a call is within the limits on answers

@@ -5,6 +5,8 @@ pub mod DemoCall
 pub mod DemoRule
 pub mod Echo
 pub mod Laws
+pub mod Log
+pub mod LogLaws
 pub mod Methods
 pub mod ReadBack
 pub mod Serves

@@ -1,4 +1,4 @@
-//! A call of the demo service or of the transfer service.
+//! A call of the demo service, the log service or the transfer service.
 ghost use Rattle.std.specs.Prelude.{◌≡◌, IfOk};
 ghost use Rattle.demo_services.specs.DemoCall.{answer_of, call_after, memo_of, numbers};
 ghost use Rattle.demo_services.specs.DemoRule.{demo_rule};
@@ -7,6 +7,7 @@ ghost use Rattle.demo_services.specs.ReadBack.{answer-memo_of, next-memo_of};
 use crate::chat::Chat;
 use crate::count::Count;
 use crate::echo::Echo;
+use crate::log::Log;
 use crate::sum::Sum;
 use crate::transfer::Transfer;
 use rpc_handlers::{Acts, Answer, Event, Handler, Memo, Parts, Words};
@@ -20,10 +21,12 @@ const SUM_STATE: u64 = 2;
 
 const CHAT_STATE: u64 = 3;
 
-/// A call of the service `demo.Demo` by its method, or one of the transfer service.
+const LOG_STATE: u64 = 5;
+
+/// A call of the service `demo.Demo` by its method, one of the log service, or one of the transfer service.
 ///
 /// As a `Memo` it has the number of its method as first word: 0 for Echo, 1 for Count, 2 for Sum, 3 for Chat, 4 for Read
-/// and for Write. A Sum has its total as second word. A Read and a Write have all their sessions behind it, and in the
+/// and for Write, 5 for Text. A Sum has its total as second word. A Read and a Write have all their sessions behind it, and in the
 /// parts what they send. There are no other words and no parts.
 #[derive(Debug, Drop)]
 pub enum DemoCall {
@@ -31,6 +34,7 @@ pub enum DemoCall {
     Count(Count),
     Sum(Sum),
     Chat(Chat),
+    Log(Log),
     Transfer(Transfer),
 }
 
@@ -49,6 +53,7 @@ impl Acts for DemoCall {
             DemoCall::Count(count) => count.on(ev),
             DemoCall::Sum(sum) => sum.on(ev),
             DemoCall::Chat(chat) => chat.on(ev),
+            DemoCall::Log(log) => log.on(ev),
             DemoCall::Transfer(transfer) => transfer.on(ev),
         }
     }
@@ -59,6 +64,7 @@ impl Acts for DemoCall {
             DemoCall::Count(count) => memo_from(count.alloc, &[COUNT_STATE]),
             DemoCall::Sum(sum) => memo_from(sum.alloc, &[SUM_STATE, sum.total()]),
             DemoCall::Chat(chat) => memo_from(chat.alloc, &[CHAT_STATE]),
+            DemoCall::Log(log) => memo_from(log.alloc, &[LOG_STATE]),
             DemoCall::Transfer(transfer) => transfer.memo(),
         }
     }

@@ -17,6 +17,12 @@ pub const SUM: u32 = 0x0957_0bb8;
 /// The method Chat.
 pub const CHAT: u32 = 0x9ba9_81bc;
 
+/// The service `demo.Log`.
+pub const LOG: u32 = 0xa9c4_1521;
+
+/// The method Text.
+pub const TEXT: u32 = 0xc85d_1891;
+
 /// The service `pw.transfer.Transfer`.
 pub const TRANSFER: u32 = 0x5bd6_c87b;
 
@@ -34,6 +40,8 @@ pub fn ids_are_of_names()
     ensures count { COUNT ≡ name_id (codes "Count") }
     ensures sum { SUM ≡ name_id (codes "Sum") }
     ensures chat { CHAT ≡ name_id (codes "Chat") }
+    ensures log { LOG ≡ name_id (codes "demo.Log") }
+    ensures text { TEXT ≡ name_id (codes "Text") }
     ensures transfer { TRANSFER ≡ name_id (codes "pw.transfer.Transfer") }
     ensures read { READ ≡ name_id (codes "Read") }
     ensures write { WRITE ≡ name_id (codes "Write") }

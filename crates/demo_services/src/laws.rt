@@ -1,5 +1,6 @@
 //! What follows from the rule of the service. Each function does nothing: what counts is its contract, which is proved.
 ghost use Rattle.demo_services.specs.Laws.{StatesReadBack, KeepsLimits, CountsFromOne, SumsAllBytes, SaysBack};
+ghost use Rattle.demo_services.specs.LogLaws.{TellsTexts};
 ghost use Rattle.demo_services.specs.Serves.{ServesSessions};
 ghost use Rattle.demo_services.specs.Uploads.{UploadsJoin};
 
@@ -26,6 +27,11 @@ pub fn sum_is_of_all_bytes()
 /// Chat says the messages back in their order, where none has more than 8,000 bytes.
 pub fn chat_says_back()
     ensures { SaysBack }
+{}
+
+/// Text tells a message of the log service by its format and its arguments, and what is no such message by its bytes.
+pub fn text_tells_messages()
+    ensures { TellsTexts }
 {}
 
 /// Over any events a call of Write makes a resource whole only where its session has begun, and where all that was added

@@ -1,7 +1,7 @@
-//! Who makes the calls of the demo service and of the transfer service.
+//! Who makes the calls of the demo service, the log service and the transfer service.
 ghost use Rattle.std.specs.Prelude.{◌≡◌, IfOk};
 ghost use Rattle.transfer_resume.specs.Book.{new_book};
-ghost use Rattle.demo_services.specs.DemoRule.{plain_call, transfer_side};
+ghost use Rattle.demo_services.specs.DemoRule.{demo_call, plain_call, transfer_side};
 ghost use Rattle.demo_services.specs.Transfer.{demo_seed};
 
 use crate::call::DemoCall;
@@ -9,6 +9,7 @@ use crate::chat::Chat;
 use crate::count::Count;
 use crate::echo::Echo;
 use crate::ids;
+use crate::log::Log;
 use crate::sum::Sum;
 use crate::transfer::Transfer;
 use link_io::Shelf;
@@ -18,10 +19,10 @@ use std::alloc::{AllocError, Global};
 use transfer_chunk::Tuning;
 use transfer_resume::Side;
 
-/// Makes the calls of the services `demo.Demo` and `pw.transfer.Transfer`, for a server with the methods of
+/// Makes the calls of the services `demo.Demo`, `demo.Log` and `pw.transfer.Transfer`, for a server with the methods of
 /// `demo_registry`.
 ///
-/// Which call it makes is told by the two ids of the method alone. A method that is of neither service is served as
+/// Which call it makes is told by the two ids of the method alone. A method that is of none of them is served as
 /// Echo; `demo_registry` has no such method.
 #[derive(Debug, Drop)]
 pub struct DemoMaker {
@@ -61,7 +62,7 @@ impl Maker for DemoMaker {
     fn make(&self, m: MethodRef) -> Result<DemoCall, AllocError> {
         match transfer_side(m) {
             Some(side) => Ok(DemoCall::Transfer(self.transfer(side)?)),
-            None => Ok(call_for(self.alloc, m)),
+            None => plain_call(self.alloc, m),
         }
     }
 }
@@ -81,9 +82,20 @@ fn transfer_side(m: MethodRef) -> Option<Side>
     }
 }
 
+// A call of the log service or of the demo service.
 #[tactic(auto, unfolding(rpc_ids::specs::Names::name_id))]
-fn call_for(alloc: Global, m: MethodRef) -> DemoCall
-    ensures { result ≡ plain_call m }
+fn plain_call(alloc: Global, m: MethodRef) -> Result<DemoCall, AllocError>
+    ensures { IfOk result (λ call. call ≡ plain_call m) }
+{
+    if m.service == ids::LOG && m.method == ids::TEXT {
+        return Ok(DemoCall::Log(Log::new(alloc)?));
+    }
+    Ok(demo_call(alloc, m))
+}
+
+#[tactic(auto, unfolding(rpc_ids::specs::Names::name_id))]
+fn demo_call(alloc: Global, m: MethodRef) -> DemoCall
+    ensures { result ≡ demo_call m }
 {
     if m.service != ids::DEMO {
         return DemoCall::Echo(Echo::new(alloc));

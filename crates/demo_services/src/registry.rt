@@ -1,15 +1,16 @@
-//! The methods of both services.
+//! The methods of the three services.
 ghost use Rattle.std.specs.Prelude.{◌≡◌, ◌++◌, [], ◌∷◌, All, IfOk, OnOk, IsNone};
 ghost use Rattle.rpc_ids.specs.Names.{name_id};
 ghost use Rattle.rpc_ids.specs.Registry.{method_of};
-ghost use Rattle.demo_services.specs.Methods.{demo_id, demo_method, demo_methods, transfer_id, transfer_method};
+ghost use Rattle.demo_services.specs.Methods.{demo_id, demo_method, demo_methods, log_id, log_method, transfer_id, transfer_method};
 
 use rpc_ids::{AddRefused, Kind, Registry};
 use std::alloc::{AllocError, Global};
 
 #[tactic(auto, unfolding(rpc_ids::specs::Names::name_id))]
-/// A registry of six methods: the four of the service `demo.Demo`, one of each kind, of which none is told of the time;
-/// and Read and Write of `pw.transfer.Transfer`, which have streams both ways and are told of the time.
+/// A registry of seven methods: the four of the service `demo.Demo`, one of each kind, of which none is told of the time;
+/// Text of `demo.Log`, which has streams both ways; and Read and Write of `pw.transfer.Transfer`, which have streams both
+/// ways and are told of the time.
 pub fn demo_registry(alloc: Global) -> Result<Registry, AllocError>
     ensures methods { IfOk result (λ registry. registry ≡ demo_methods) }
     ensures found { IfOk result (λ registry. All (λ m. method_of registry m.service m.method ≡ Some m) demo_methods) }
@@ -19,6 +20,7 @@ pub fn demo_registry(alloc: Global) -> Result<Registry, AllocError>
     add(&mut registry, b"Count", Kind::ServerStream)?;
     add(&mut registry, b"Sum", Kind::ClientStream)?;
     add(&mut registry, b"Chat", Kind::Bidi)?;
+    add_log(&mut registry, b"Text")?;
     add_transfer(&mut registry, b"Read")?;
     add_transfer(&mut registry, b"Write")?;
     Ok(registry)
@@ -30,6 +32,18 @@ fn add(registry: &mut Registry, name: &[u8], kind: Kind) -> Result<(), AllocErro
     ensures { OnOk result (registry.new ≡ registry.old ++ demo_method name.now kind ∷ []) }
 {
     match registry.add(b"demo.Demo", name, kind, false) {
+        Ok(_) => Ok(()),
+        Err(AddRefused::Memory) => Err(AllocError),
+        Err(AddRefused::Clash) => unreachable!(),
+    }
+}
+
+/// Adds a method of the log service, which isn't in yet.
+fn add_log(registry: &mut Registry, name: &[u8]) -> Result<(), AllocError>
+    requires { IsNone (method_of registry.old log_id (name_id name.now)) }
+    ensures { OnOk result (registry.new ≡ registry.old ++ log_method name.now ∷ []) }
+{
+    match registry.add(b"demo.Log", name, Kind::Bidi, false) {
         Ok(_) => Ok(()),
         Err(AddRefused::Memory) => Err(AllocError),
         Err(AddRefused::Clash) => unreachable!(),

@@ -18,6 +18,10 @@ const SUM: u32 = 0x0957_0BB8;
 
 const CHAT: u32 = 0x9BA9_81BC;
 
+const LOG: u32 = 0xA9C4_1521;
+
+const TEXT: u32 = 0xC85D_1891;
+
 const TRANSFER: u32 = 0x5BD6_C87B;
 
 const READ: u32 = 0x5B78_66DA;
@@ -151,6 +155,63 @@ fn each_method_answers_by_its_rule(rt: HostRuntime) -> Result<(), Fail> {
     Ok(())
 }
 
+/// A call of Text.
+fn log_call(alloc: Global) -> Result<DemoCall, AllocError> {
+    maker(alloc)?.make(MethodRef {
+        service: LOG,
+        method: TEXT,
+        kind: Kind::Bidi,
+        ticks: false,
+    })
+}
+
+#[test]
+fn text_tells_each_message(rt: HostRuntime) -> Result<(), Fail> {
+    let mut call = log_call(rt.alloc())?;
+    let rows: [(&'static [u8], &str); 12] = [
+        (b"\xE0\x17\x61\x00", r#"say b"a" "#),
+        (b"\x81\x17\x63\x31\x05", r#"say b"-3" "#),
+        (b"\x12\x1F\xC2\x39\x05", r#"say b"18446744073709551613" "#),
+        (b"\x95\x4D\x3C\x3B\x05", r#"say b"fffffffffffffffd" "#),
+        (b"\x10\x00\xC6\x38\x02hi", r#"say b"hi" "#),
+        (b"\x10\x00\xC6\x38\x82hi", r#"say b"hi[...]" "#),
+        (b"", r#"say b"?" "#),
+        (b"\x00", r#"say b"?00" "#),
+        (b"\x00\x00\x00\x00", r#"say b"?00000000" "#),
+        (b"\x81\x17\x63\x31\x80", r#"say b"?8117633180" "#),
+        (b"\xE0\x17\x61\x00\x00", r#"say b"?e017610000" "#),
+        (b"\x10\x00\xC6\x38\x01\n", r#"say b"?1000c638010a" "#),
+    ];
+    for (payload, want) in rows {
+        let line = line_of(rt.alloc(), &call.on(&message(payload))?)?;
+        assert_eq!(rt; line.as_str(), want);
+    }
+    assert_eq!(rt; call.memo()?.words.as_slice(), [5u64].as_slice());
+    Ok(())
+}
+
+#[test]
+fn text_answers_other_events(rt: HostRuntime) -> Result<(), Fail> {
+    let mut call = log_call(rt.alloc())?;
+    let rows = [
+        (request(b"\xE0\x17\x61\x00"), ""),
+        (Event::Ended(Status::Cancelled), ""),
+        (Event::Tick(500), ""),
+        (message(&LONG), r#"end RESOURCE_EXHAUSTED b"""#),
+        (Event::Completion, r#"end OK b"""#),
+    ];
+    for (ev, want) in &rows {
+        let line = line_of(rt.alloc(), &call.on(ev)?)?;
+        assert_eq!(rt; line.as_str(), *want);
+    }
+    // Behind a question mark two digits for each byte: 7,999 bytes, and 8,001.
+    for (length, is_said) in [(3_999, true), (4_000, false)] {
+        let message = Event::Message(Bytes::from_static(&LONG).slice(0..length)?);
+        assert_eq!(rt; call.on(&message)?.end.is_none(), is_said);
+    }
+    Ok(())
+}
+
 #[test]
 fn a_sum_carries_past_four_bytes(rt: HostRuntime) -> Result<(), Fail> {
     let mut call = DemoCall::Sum(Sum::new(rt.alloc()));
@@ -168,7 +229,7 @@ fn a_sum_carries_past_four_bytes(rt: HostRuntime) -> Result<(), Fail> {
 }
 
 #[test]
-fn the_registry_has_six_methods(rt: HostRuntime) -> Result<(), Fail> {
+fn the_registry_has_seven_methods(rt: HostRuntime) -> Result<(), Fail> {
     let registry = demo_registry(rt.alloc())?;
     let rows = [
         (ECHO, Kind::Unary),
@@ -185,6 +246,13 @@ fn the_registry_has_six_methods(rt: HostRuntime) -> Result<(), Fail> {
         };
         assert_eq!(rt; registry.find(DEMO, method), Some(row));
     }
+    let text = MethodRef {
+        service: LOG,
+        method: TEXT,
+        kind: Kind::Bidi,
+        ticks: false,
+    };
+    assert_eq!(rt; registry.find(LOG, TEXT), Some(text));
     for method in [READ, WRITE] {
         let row = MethodRef {
             service: TRANSFER,
@@ -195,6 +263,7 @@ fn the_registry_has_six_methods(rt: HostRuntime) -> Result<(), Fail> {
         assert_eq!(rt; registry.find(TRANSFER, method), Some(row));
     }
     assert_eq!(rt; registry.find(DEMO, READ), None);
+    assert_eq!(rt; registry.find(DEMO, TEXT), None);
     Ok(())
 }
 
