@@ -1,0 +1,5 @@
+pub mod Disjoint
+pub mod FieldLemmas
+pub mod LineLemmas
+pub mod ScriptLemmas
+pub mod SettingLemmas
