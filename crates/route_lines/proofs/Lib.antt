@@ -1,0 +1,5 @@
+mod DrainLemmas
+mod FeedLemmas
+mod LineLemmas
+mod ReadLemmas
+mod StepLemmas

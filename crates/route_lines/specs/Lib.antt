@@ -1,0 +1,4 @@
+pub mod Flows
+pub mod Following
+pub mod Lines
+pub mod Printed
