@@ -11,13 +11,13 @@ use Rattle.rpc_journal.specs.declared.setting.Setting.{Setting}
 use Rattle.rpc_handlers.specs.declared.event.Event.TheVariants.{Request, Message, Completion, Ended, Tick}
 use Rattle.rpc_handlers.specs.Limits.{is_long}
 use Rattle.demo_services.specs.declared.call.DemoCall.{DemoCall}
-use Rattle.demo_services.specs.declared.call.DemoCall.TheVariants.{Echo, Count, Sum, Chat, Transfer}
+use Rattle.demo_services.specs.declared.call.DemoCall.TheVariants.{Echo, Count, Sum, Chat, Log, Transfer}
 use Rattle.demo_services.specs.Answers.{ends, says, too_long}
-use Rattle.demo_services.specs.Chat.{chat_answer}
 use Rattle.demo_services.specs.Count.{count_answer, count_to}
 use Rattle.demo_services.specs.DemoCall.{answer_of, call_of}
 use Rattle.demo_services.specs.DemoRule.{demo_rule}
 use Rattle.demo_services.specs.Echo.{echo_answer}
+use Rattle.demo_services.specs.Log.{log_line}
 use Rattle.schedule_size.specs.Size.{AnswersWithin, answer_items}
 use Rattle.pw_run.proofs.GoodCalls.{demo_stays, is_demo, is_demo_call}
 
@@ -36,8 +36,8 @@ echo_one payload = at (is_long payload)
     at true = omega arith
     at false = omega arith
 
-chat_one : (payload : List ℕ) → answer_items (chat_answer (Message payload)) ≤ 1
-chat_one payload = at (is_long payload)
+one_said : (payload : List ℕ) → answer_items (if is_long payload then too_long else says payload) ≤ 1
+one_said payload = at (is_long payload)
   where
     at : (b : Bool) → answer_items (if b then too_long else says payload) ≤ 1
     at true = omega arith
@@ -89,10 +89,17 @@ answer_few (Sum _) (Tick _) good = omega arith
 answer_few (Chat _) (Request []) good = omega arith
 answer_few (Chat _) (Request (n ∷ [])) good = omega arith
 answer_few (Chat _) (Request (n ∷ m ∷ rest)) good = omega arith
-answer_few (Chat _) (Message payload) good = chat_one payload
+answer_few (Chat _) (Message payload) good = one_said payload
 answer_few (Chat _) Completion good = omega arith
 answer_few (Chat _) (Ended _) good = omega arith
 answer_few (Chat _) (Tick _) good = omega arith
+answer_few (Log _) (Request []) good = omega arith
+answer_few (Log _) (Request (n ∷ [])) good = omega arith
+answer_few (Log _) (Request (n ∷ m ∷ rest)) good = omega arith
+answer_few (Log _) (Message payload) good = one_said (log_line payload)
+answer_few (Log _) Completion good = omega arith
+answer_few (Log _) (Ended _) good = omega arith
+answer_few (Log _) (Tick _) good = omega arith
 answer_few (Transfer b) ev good = absurd (true≢false (sym good))
 
 pub demo_within : AnswersWithin demo_rule is_demo demo_most

@@ -16,7 +16,7 @@ use Rattle.load_stream.proofs.LoadLaws.{load_heard}
 use Rattle.schedule_size.specs.Size.{arrival_entries, history_entries}
 use Rattle.schedule_size.proofs.HistoryLemmas.{full_entries}
 use Rattle.pw_run.specs.declared.command.TheConstants.{MAX_LOAD}
-use Rattle.rpc_server.specs.Served.{heard}
+use Rattle.rpc_schedule.specs.ends.EndState.{heard}
 use Rattle.pw_run.proofs.DemoSizes.{demo_most, demo_within}
 use Rattle.pw_run.proofs.GoodCalls.{is_demo, load_begins}
 use Rattle.pw_run.proofs.LoadSizes.{load_entries}
@@ -27,22 +27,22 @@ beginning_brings front whole begins =
 
 -- what a server hears of a load, up to any place, brings fewer than a full journal's entries
 heard_begins : (calls seed : ℕ) (bytes rest : List ℕ) → calls ≤ MAX_LOAD → load_stream calls seed ≡ bytes ++ rest
-    → IsPrefix (heard bytes) (load_packets calls seed)
+    → IsPrefix (heard Server bytes) (load_packets calls seed)
 heard_begins calls seed bytes rest few stream =
-    subst (IsPrefix (heard bytes)) (ap heard (sym stream) ∙ load_heard calls seed (omega (arith, few))) (packets_begin Server bytes rest)
+    subst (IsPrefix (heard Server bytes)) (ap (heard Server) (sym stream) ∙ load_heard calls seed (omega (arith, few))) (packets_begin Server bytes rest)
 
 heard_entries : (calls seed : ℕ) (bytes rest : List ℕ) → calls ≤ MAX_LOAD → load_stream calls seed ≡ bytes ++ rest
-    → history_entries demo_most (heard bytes) ≤ 32 * calls + 16
+    → history_entries demo_most (heard Server bytes) ≤ 32 * calls + 16
 heard_entries calls seed bytes rest few stream =
     omega (
       arith,
       load_entries calls seed,
-      beginning_brings (heard bytes) (load_packets calls seed) (heard_begins calls seed bytes rest few stream),
+      beginning_brings (heard Server bytes) (load_packets calls seed) (heard_begins calls seed bytes rest few stream),
     )
 
 pub never_full : (calls seed : ℕ) (set : Setting) (entries : List Entry) (bytes rest : List ℕ) → calls ≤ MAX_LOAD → set.role ≡ Server
-    → load_stream calls seed ≡ bytes ++ rest → IsFullBeginning demo_rule set (heard bytes) entries → ⊥
+    → load_stream calls seed ≡ bytes ++ rest → IsFullBeginning demo_rule set (heard Server bytes) entries → ⊥
 never_full calls seed set entries bytes rest few role stream full =
-    let most : length entries ≤ history_entries demo_most (heard bytes) + 1 = full_entries demo_rule set is_demo demo_most role refl demo_within (heard bytes) entries (load_begins set calls seed (heard bytes) (heard_begins calls seed bytes rest few stream)) full in
+    let most : length entries ≤ history_entries demo_most (heard Server bytes) + 1 = full_entries demo_rule set is_demo demo_most role refl demo_within (heard Server bytes) entries (load_begins set calls seed (heard Server bytes) (heard_begins calls seed bytes rest few stream)) full in
     let least : MAX_ENTRIES ≤ length entries = leb-true MAX_ENTRIES (length entries) full.full in
     omega (arith, most, least, few, heard_entries calls seed bytes rest few stream)

@@ -1,4 +1,4 @@
--- The calls of a load are of demo.Demo alone, and stay so.
+-- The calls of a load are of demo.Demo alone, and none of them becomes a transfer.
 use Rattle.std.proofs.Common.{◌≡◌, ℕ, zero, suc, ◌%◌, Bool, true, false, ◌==◌, ◌&&◌, List, [], ◌∷◌, ◌++◌, map, find, Option, Some, None, cond, if◌then◌else◌, refl, ap, sym, ◌∙◌, subst}
 use Rattle.std.proofs.lemmas.Bool.{true≢false, and_parts, eqb-true}
 use mathlib.Core.List.{IsPrefix}
@@ -13,9 +13,9 @@ use Rattle.rpc_handlers.specs.declared.event.Event.{Event}
 use Rattle.rpc_handlers.specs.declared.event.Memo.{Memo}
 use Rattle.rpc_journal.specs.declared.setting.Setting.{Setting}
 use Rattle.rpc_journal.specs.Rows.{method_named}
-use Rattle.rpc_journal.proofs.TableLemmas.{some_same}
+use Rattle.rpc_journal.proofs.PlaceLemmas.{some_same}
 use Rattle.demo_services.specs.declared.call.DemoCall.{DemoCall}
-use Rattle.demo_services.specs.declared.call.DemoCall.TheVariants.{Echo, Count, Sum, Chat, Transfer}
+use Rattle.demo_services.specs.declared.call.DemoCall.TheVariants.{Echo, Count, Sum, Chat, Log, Transfer}
 use Rattle.demo_services.specs.declared.ids.TheConstants.{DEMO, ECHO, COUNT, SUM, CHAT}
 use Rattle.demo_services.specs.DemoCall.{call_after, call_of, memo_of}
 use Rattle.demo_services.specs.DemoRule.{demo_rule, first_by, first_call, plain_call, transfer_side}
@@ -24,7 +24,7 @@ use Rattle.load_stream.specs.Generator.{number_after}
 use Rattle.load_stream.specs.Load.{call_name, call_packets, count_in, highest_bytes, load_packets, messages, packet, streamed}
 use Rattle.schedule_size.specs.Size.{BeginGood}
 
--- a call of demo.Demo
+-- a call of demo.Demo or of demo.Log
 abbrev pub is_demo_call : DemoCall → Bool
 is_demo_call (Transfer b) = false
 is_demo_call call = true
@@ -37,6 +37,7 @@ remembered (Echo _) is = refl
 remembered (Count _) is = refl
 remembered (Sum total) is = refl
 remembered (Chat _) is = refl
+remembered (Log _) is = refl
 remembered (Transfer b) is = absurd (true≢false (sym is))
 
 after_demo : (call : DemoCall) (event : Event) → is_demo_call call ≡ true → is_demo_call (call_after call event) ≡ true
@@ -44,19 +45,21 @@ after_demo (Echo _) event is = refl
 after_demo (Count _) event is = refl
 after_demo (Sum total) event is = refl
 after_demo (Chat _) event is = refl
+after_demo (Log _) event is = refl
 after_demo (Transfer b) event is = absurd (true≢false (sym is))
 
 pub demo_stays : (state : Memo) (event : Event) → is_demo state ≡ true → is_demo (demo_rule.next state event) ≡ true
 demo_stays state event is = remembered (call_after (call_of state) event) (after_demo (call_of state) event is)
 
 plain_is_demo : (m : MethodRef) → is_demo_call (plain_call m) ≡ true
-plain_is_demo m = at _ _ _
+plain_is_demo m = at _ _ _ _
   where
-    at : (a b c : Bool) → is_demo_call (if a then Count tt else if b then Sum 0 else if c then Chat tt else Echo tt) ≡ true
-    at true b c = refl
-    at false true c = refl
-    at false false true = refl
-    at false false false = refl
+    at : (log a b c : Bool) → is_demo_call (if log then Log tt else if a then Count tt else if b then Sum 0 else if c then Chat tt else Echo tt) ≡ true
+    at true a b c = refl
+    at false true b c = refl
+    at false false true c = refl
+    at false false false true = refl
+    at false false false false = refl
 
 no_side : (m : MethodRef) → m.service ≡ DEMO → transfer_side m ≡ None
 unfolding name_id

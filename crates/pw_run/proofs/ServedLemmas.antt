@@ -4,10 +4,12 @@ use Rattle.std.proofs.lemmas.List.{append-nil}
 use Rattle.rpc_packet.specs.declared.owned.Packet.{Packet}
 use Rattle.rpc_handlers.specs.HandlerRule.{HandlerRule}
 use Rattle.rpc_journal.specs.declared.item.Item.{Item}
-use Rattle.rpc_journal.specs.Table.{Table}
+use Rattle.rpc_journal.specs.CallTable.{Table}
 use Rattle.rpc_schedule.specs.declared.ending.Ending.{Ending}
 use Rattle.rpc_schedule.specs.declared.ending.Ending.TheVariants.{AtEnd, SourceFault, StoreFault, InputLimit, JournalLimit}
+use Rattle.rpc_schedule.specs.OneThread.{AreOfOneThread}
 use Rattle.rpc_schedule.specs.Replays.{FillsJournal, Replayed, Replays, StopsBehind}
+use Rattle.rpc_schedule.proofs.OneThreadLemmas.{full_all, store_all, whole_all}
 
 replays_as : {rule : HandlerRule} {heard : List ℕ → List Packet} (P Q : List ℕ → Type 0)
     {left_old left_new : Option (List ℕ)} {ending : Ending} {table : Table} {items : List Item}
@@ -52,6 +54,16 @@ replayed_as rule heard P Q left_old left_new InputLimit table items so r = repla
 replayed_as rule heard P Q left_old left_new JournalLimit table items so r =
     record { read = stops_as P Q so r.read; beginning = r.beginning; items_are = r.items_are }
 replayed_as rule heard P Q left_old left_new StoreFault table items so r = record { read = stops_as P Q so r.read; stop = r.stop }
+
+-- what was served of a stream has only the entries of one thread
+pub replayed_entries : (rule : HandlerRule) (heard : List ℕ → List Packet) (P : List ℕ → Type 0)
+    (left_old left_new : Option (List ℕ)) (ending : Ending) (table : Table) (items : List Item)
+    → Replayed rule heard P left_old left_new ending table items → AreOfOneThread table.entries
+replayed_entries rule heard P left_old left_new AtEnd table items r = whole_all rule table.setting (heard r.bytes) table.entries r.history
+replayed_entries rule heard P left_old left_new SourceFault table items r = whole_all rule table.setting (heard r.bytes) table.entries r.history
+replayed_entries rule heard P left_old left_new InputLimit table items r = whole_all rule table.setting (heard r.bytes) table.entries r.history
+replayed_entries rule heard P left_old left_new JournalLimit table items r = full_all rule table.setting (heard r.read.bytes) table.entries r.beginning
+replayed_entries rule heard P left_old left_new StoreFault table items r = store_all rule table.setting (heard r.read.bytes) table.entries items r.stop
 
 -- all of a stream was taken
 pub all_taken : (stream left bytes : List ℕ) → stream ≡ bytes ++ left → left ≡ [] → bytes ≡ stream

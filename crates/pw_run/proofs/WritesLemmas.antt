@@ -1,26 +1,45 @@
 -- What is written of a text, by outcome.
-use Rattle.std.proofs.Common.{◌≡◌, ℕ, List, [], Option, IfSome, refl, subst, inl, inr}
+use Rattle.std.proofs.Common.{◌≡◌, ℕ, ◌≤◌, Bool, List, [], length, Option, IfSome, refl, subst, inl, inr, arith}
+use Rattle.std.specs.Io.KnownBytes.{Consumes}
+use Rattle.link_io.specs.Reading.{ConsumesUpTo}
 use Rattle.link_io.specs.declared.shelf.Shelf.{Shelf}
 use Rattle.link_io.specs.Stored.{Stored, shelf_of}
 use Rattle.rpc_frames.specs.declared.counts.Counts.{Counts}
 use Rattle.rpc_journal.specs.declared.item.Item.{Item}
-use Rattle.rpc_journal.specs.Table.{Table}
+use Rattle.rpc_journal.specs.CallTable.{Table}
 use Rattle.rpc_schedule.specs.declared.ending.Ending.{Ending}
 use Rattle.rpc_schedule.specs.Kept.{Holds}
 use Rattle.rpc_schedule.specs.declared.ending.Ending.TheVariants as ended
-use Rattle.run_report.specs.Lines.{ending_line}
 use Rattle.pw_run.specs.declared.command.Form.{Form}
 use Rattle.pw_run.specs.declared.outcome.Outcome.{Outcome}
 use Rattle.pw_run.specs.declared.outcome.Outcome.TheVariants.{NoMemory, InputLimit}
-use Rattle.pw_run.specs.Check.{WritesLimit}
 use Rattle.pw_run.specs.Load.{DidLoad, ServesLoad, WritesLoad}
 use Rattle.pw_run.specs.Replay.{DidReplay, ServesDemo, ServesShelf, ServesStream, WritesRun, no_counts, no_table}
+use Rattle.pw_run.specs.declared.text_command.TextCommand.{TextCommand}
+use Rattle.pw_run.specs.Tells.{DidText, Tells, WritesTold}
+use Rattle.pw_run.specs.Texts.{WritesLimit, limit_line, limit_of, outcome_on}
 use Rattle.pw_run.specs.Writes.{Writes}
 
-pub limit_told : (old new : Option (List ℕ)) (outcome : Outcome)
-    → Writes old new (ending_line ended.InputLimit) InputLimit outcome → WritesLimit old new outcome
-limit_told old new NoMemory writes = tt
-limit_told old new _ writes = writes
+pub limit_told : (limit : ℕ) (old new : Option (List ℕ)) (outcome : Outcome)
+    → Writes old new (limit_line limit) InputLimit outcome → WritesLimit limit old new outcome
+limit_told limit old new NoMemory writes = tt
+limit_told limit old new _ writes = writes
+
+-- what was written of a text that was read, where what is told of it is so
+pub all_told : (command : TextCommand) (text told : List ℕ) (good : Bool) (old new : Option (List ℕ)) (outcome : Outcome) → Tells command text told good
+    → Writes old new told (outcome_on good) outcome → WritesTold command text old new outcome
+all_told command text told good old new NoMemory tells writes = tt
+all_told command text told good old new _ tells writes = record { told = told; good = good; tells = tells; writes = writes }
+
+-- what a run did whose text met the limit
+pub limit_did : (command : TextCommand) (left_old left_new old new : Option (List ℕ)) (outcome : Outcome) (text : List ℕ) → Consumes left_old left_new text
+    → length text ≡ limit_of command → WritesLimit (limit_of command) old new outcome → DidText command left_old left_new old new outcome
+limit_did command left_old left_new old new NoMemory text taken many told = tt
+limit_did command left_old left_new old new _ text taken many told = inr (inl (record { text = text; taken = taken; many = many; told = told }))
+
+-- what takes at most so many bytes takes at most more
+pub up_to_more : (few many : ℕ) (old new : Option (List ℕ)) → few ≤ many → ConsumesUpTo few old new → ConsumesUpTo many old new
+up_to_more few many old new more taken = record { bytes = taken.bytes; within = omega (arith, taken.within, more); consumed = taken.consumed }
 
 -- what a run did, where what was written of its text is so
 pub shelf_served : (form : Form) (shelf : Shelf) (left_old left_new : Option (List ℕ)) (store_old store_new : Option Stored) (counts : Counts) (table : Table)

@@ -1,8 +1,11 @@
 pub mod Check
 pub mod Command
 pub mod Demo
+pub mod Detoken
 pub mod Load
 pub mod Outcome
 pub mod Recorded
 pub mod Replay
+pub mod Tells
+pub mod Texts
 pub mod Writes

@@ -2,20 +2,20 @@
 use Rattle.std.specs.Prelude.{◌≡◌, ℕ, ◌≤◌, List, Option}
 use Rattle.link_io.specs.Stored.{Stored}
 use Rattle.pw_run.specs.declared.command.Command.{Command}
-use Rattle.pw_run.specs.declared.command.Command.TheVariants.{Replay, Check, Load}
+use Rattle.pw_run.specs.declared.command.Command.TheVariants.{Replay, Text, Load}
 use Rattle.pw_run.specs.declared.command.TheConstants.{MAX_LOAD}
 use Rattle.pw_run.specs.declared.outcome.Outcome.{Outcome}
 use Rattle.pw_run.specs.Outcome.{code_of}
-use Rattle.pw_run.specs.Check.{DidCheck}
 use Rattle.pw_run.specs.Load.{DidLoad}
 use Rattle.pw_run.specs.Replay.{DidReplay}
+use Rattle.pw_run.specs.Tells.{DidText}
 
 -- what is left of the input, what is written and what the store holds, before and after a command with this outcome
 abbrev pub Did : Command → Option (List ℕ) → Option (List ℕ) → Option (List ℕ) → Option (List ℕ) → Option Stored → Option Stored → Outcome → Type 0
 Did (Replay form) left_old left_new written_old written_new store_old store_new outcome =
     DidReplay form left_old left_new written_old written_new store_old store_new outcome
-Did Check left_old left_new written_old written_new store_old store_new outcome =
-    DidCheck left_old left_new written_old written_new outcome
+Did (Text command) left_old left_new written_old written_new store_old store_new outcome =
+    DidText command left_old left_new written_old written_new outcome
 Did (Load calls seed) left_old left_new written_old written_new store_old store_new outcome =
     DidLoad calls seed written_old written_new outcome
 
@@ -26,7 +26,7 @@ EndsWith status DidSo = (outcome : Outcome) × (status ≡ code_of outcome) × D
 -- the command doesn't touch the store that it is handed
 abbrev pub IsStoreless : Command → Type 0
 IsStoreless (Replay form) = ⊥
-IsStoreless Check = Unit {0}
+IsStoreless (Text command) = Unit {0}
 IsStoreless (Load calls seed) = Unit {0}
 
 -- a load has at most 30,000 calls

@@ -7,13 +7,13 @@ use Rattle.rpc_frames.specs.declared.counts.Counts.{Counts}
 use Rattle.rpc_frames.specs.Heard.{counts_of}
 use Rattle.rpc_journal.specs.declared.item.Item.{Item}
 use Rattle.rpc_journal.specs.Lawful.{IsLegal}
-use Rattle.rpc_journal.specs.Table.{Table}
+use Rattle.rpc_journal.specs.CallTable.{Table}
 use Rattle.rpc_schedule.specs.declared.ending.Ending.{Ending}
 use Rattle.rpc_schedule.specs.declared.ending.Ending.TheVariants.{StoreFault}
 use Rattle.rpc_schedule.specs.Kept.{Holds}
 use Rattle.rpc_schedule.specs.Replays.{Replayed}
-use Rattle.rpc_server.specs.OwnEntries.{AreOwn}
-use Rattle.rpc_server.specs.Served.{heard}
+use Rattle.rpc_schedule.specs.OneThread.{AreOfOneThread}
+use Rattle.rpc_schedule.specs.ends.EndState.{heard}
 use Rattle.demo_services.specs.DemoRule.{demo_rule}
 use Rattle.journal_text.specs.Printed.{journal_text}
 use Rattle.run_report.specs.Items.{frames_of_items}
@@ -31,12 +31,12 @@ abbrev pub AreCountsOf : Counts → List ℕ → Type 0
 AreCountsOf counts bytes = counts ≡ counts_of Server bytes
 
 -- The demo service was served over a shelf what the source gave, to this ending: the table has the history of one thread
--- that hears the packets in it, which is legal and has only a server's own entries, and these items went out.
+-- that hears the packets in it, which is legal and has only the entries of one thread, and these items went out.
 pub record ServesDemo (shelf : Shelf) (left_old left_new : Option (List ℕ)) (ending : Ending) (counts : Counts) (table : Table) (items : List Item) : Type 0 where
   pub setting : table.setting ≡ demo_setting shelf
-  pub served : Replayed demo_rule heard (AreCountsOf counts) left_old left_new ending table items
+  pub served : Replayed demo_rule (heard Server) (AreCountsOf counts) left_old left_new ending table items
   pub legal : IsLegal demo_rule table.setting table.entries
-  pub own : AreOwn table.entries
+  pub own : AreOfOneThread table.entries
 
 -- what `replay` writes of a run: its report, the frames of the packets that went out, or the journal's text
 abbrev pub text_of : Form → Counts → Table → List Item → Ending → List ℕ

@@ -2,6 +2,7 @@
 ghost use Rattle.std.specs.Prelude.{◌≡◌, [], ◌∷◌, map, string_bytes, IfSome, Some};
 ghost use Rattle.pw_run.specs.Command.{IsCommand};
 
+use crate::TextCommand;
 use text_fields::{number, small_number};
 
 /// The most calls that `load` makes.
@@ -23,8 +24,8 @@ pub enum Form {
 pub enum Command {
     /// A recorded stream of a client is served.
     Replay(Form),
-    /// A journal's text is judged.
-    Check,
+    /// A text is read, and what is found in it is told.
+    Text(TextCommand),
     /// A stream of so many calls, made from this number, is served.
     Load { calls: u32, seed: u64 },
 }
@@ -50,7 +51,8 @@ fn of_one(word: &str) -> Option<Command>
 {
     match word {
         "replay" => Some(Command::Replay(Form::Report)),
-        "check" => Some(Command::Check),
+        "check" => Some(Command::Text(TextCommand::Check)),
+        "detoken" => Some(Command::Text(TextCommand::Detoken)),
         _ => None,
     }
 }

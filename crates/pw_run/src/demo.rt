@@ -1,7 +1,8 @@
 //! What the recorded commands serve: the demo service, on channels 1 to 8, over what a store lists.
 ghost use Rattle.std.specs.Prelude.{◌≡◌, ◌≢◌, [], None, IfOk, OnOk};
 ghost use Rattle.rpc_channel.specs.Rising.{with_id};
-ghost use Rattle.rpc_server.specs.Served.{WasFed};
+ghost use Rattle.rpc_ids.specs.declared.method.Role.TheVariants.{Server as server_role};
+ghost use Rattle.rpc_schedule.specs.ends.EndState.{WasFed};
 ghost use Rattle.pw_run.specs.Demo.{demo_channels, demo_setting, no_shelf};
 
 use demo_services::{DemoMaker, demo_registry};
@@ -19,7 +20,7 @@ pub(crate) fn server(alloc: Global, shelf: Shelf) -> Result<Server<DemoMaker>, A
     ensures setting { IfOk result (λ s. s.serving.table.setting ≡ demo_setting shelf) }
     ensures entries { IfOk result (λ s. s.serving.table.entries ≡ []) }
     ensures begins { IfOk result (λ s. (s.serving.kept ≡ None) × (s.serving.refused ≡ None)) }
-    ensures fed { IfOk result (λ s. WasFed s []) }
+    ensures fed { IfOk result (λ s. WasFed server_role s []) }
 {
     let channels = channels(alloc)?;
     let registry = demo_registry(alloc)?;

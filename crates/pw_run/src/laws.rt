@@ -1,10 +1,11 @@
 //! The numbers of the program. Nothing runs here.
 ghost use Rattle.std.specs.Prelude.{◌≡◌};
 
-use crate::{LAST_CHANNEL, MAX_LOAD};
+use crate::{LAST_CHANNEL, MAX_LOAD, TEXT_LIMIT};
 
-/// How many calls a load has at most, and the last channel that is in.
+/// How many calls a load has at most, the last channel that is in, and how many bytes are too many for a text of lines.
 pub fn numbers_of_the_program()
     ensures load { MAX_LOAD ≡ 30000 }
     ensures channels { LAST_CHANNEL ≡ 8 }
+    ensures text { TEXT_LIMIT ≡ 1048576 }
 {}

@@ -6,17 +6,22 @@
 mod check;
 mod command;
 mod demo;
+mod detoken;
 pub mod laws;
 mod load;
 mod no_store;
 mod outcome;
 mod recorded;
 mod replay;
+mod telling;
 #[cfg(test)]
 mod tests;
+mod text_command;
+mod told;
 mod writing;
 
 pub use command::{Command, Form, MAX_LOAD};
 pub use demo::LAST_CHANNEL;
 pub use outcome::Outcome;
 pub use recorded::run_recorded;
+pub use text_command::{TEXT_LIMIT, TextCommand};

@@ -6,11 +6,14 @@ mod devices;
 mod journals;
 mod limits;
 mod loads;
+mod log_service;
 mod methods;
 mod other_words;
 mod stores;
 mod streams;
+mod tokens;
 mod uploads;
+mod uploads_served;
 
 use crate::run_recorded;
 use bytes::Bytes;

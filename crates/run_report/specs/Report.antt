@@ -4,7 +4,7 @@ use Rattle.std.specs.List.{flat_map, enumerate_from}
 use Rattle.rpc_journal.specs.declared.item.Item.{Item}
 use Rattle.rpc_journal.specs.Calls.{calls, end_of}
 use Rattle.rpc_journal.specs.Effect.{Deed, Opening}
-use Rattle.rpc_journal.specs.Table.{Table, past}
+use Rattle.rpc_journal.specs.CallTable.{Table, past}
 use Rattle.rpc_frames.specs.declared.counts.Counts.{Counts}
 use Rattle.rpc_schedule.specs.declared.ending.Ending.{Ending}
 use Rattle.run_report.specs.Items.{item_lines}

@@ -1,7 +1,7 @@
 //! The report of a run.
 
 ghost use Rattle.std.specs.Prelude.{◌≡◌, ◌++◌, IfOk, OnOk, string_bytes};
-ghost use Rattle.rpc_journal.specs.Table.{past};
+ghost use Rattle.rpc_journal.specs.CallTable.{past};
 ghost use Rattle.run_report.specs.Lines.{ending_line};
 ghost use Rattle.run_report.specs.Report.{report, call_lines};
 

@@ -52,6 +52,9 @@ fn an_input_ends_at_the_limit(rt: HostRuntime) -> Result<(), AllocError> {
         ("check", 67_108_863, 7, "journal line 1\n"),
         ("check", 67_108_864, 8, "limit input 67108864\n"),
         ("check", 67_108_865, 8, "limit input 67108864\n"),
+        ("detoken", 1_048_575, 7, "token line 1\n"),
+        ("detoken", 1_048_576, 8, "limit input 1048576\n"),
+        ("detoken", 1_048_577, 8, "limit input 1048576\n"),
     ];
     for (line, left, status, written) in rows {
         let mut input = Idle { left };
@@ -68,7 +71,11 @@ fn an_input_ends_at_the_limit(rt: HostRuntime) -> Result<(), AllocError> {
         // No byte behind the limit is taken.
         assert_eq!(rt;
             input.left,
-            left.saturating_sub(67_108_864),
+            left.saturating_sub(if line == "detoken" {
+                1_048_576
+            } else {
+                67_108_864
+            }),
             "{line}, {left} bytes"
         );
     }

@@ -26,6 +26,8 @@ fn other_words_are_refused(rt: HostRuntime) -> Result<(), AllocError> {
         "raw|replay",
         "check|check",
         "Check",
+        "detoken|detoken",
+        "Detoken",
         "load",
         "load|1",
         "load|1|1|1",

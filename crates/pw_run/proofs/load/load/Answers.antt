@@ -3,8 +3,9 @@ use Rattle.rpc_journal.specs.declared.item.Item.{Item}
 use Rattle.rpc_journal.specs.declared.setting.Setting.{Setting}
 use Rattle.rpc_journal.specs.History.{history}
 use Rattle.rpc_journal.specs.Items.{items_sent}
-use Rattle.rpc_journal.specs.Table.{Table}
+use Rattle.rpc_journal.specs.CallTable.{Table}
 use Rattle.rpc_packet.specs.declared.owned.Packet.{Packet}
+use Rattle.rpc_ids.specs.declared.method.Role.TheVariants.{Server}
 use Rattle.rpc_schedule.specs.OneThread.{IsOneThreadHistory}
 use Rattle.demo_services.specs.DemoRule.{demo_rule}
 use Rattle.load_stream.specs.Load.{load_packets, load_stream}
@@ -12,7 +13,7 @@ use Rattle.load_stream.proofs.LoadLaws.{load_heard, load_most}
 use Rattle.run_report.specs.Load.{load_report}
 use Rattle.pw_run.specs.declared.outcome.Outcome.TheVariants.{Done}
 use Rattle.pw_run.specs.Demo.{demo_setting, no_shelf}
-use Rattle.rpc_server.specs.Served.{heard}
+use Rattle.rpc_schedule.specs.ends.EndState.{heard}
 use Rattle.pw_run.specs.Writes.{Writes}
 use Rattle.pw_run.proofs.FullLemmas.{never_full}
 use Rattle.pw_run.proofs.ServedLemmas.{all_taken, at_end_of, at_full_of, at_limit_of}
@@ -31,7 +32,7 @@ returns-in-Ok-AtEnd-clause-did g c =
     let setting : table.setting ≡ demo_setting no_shelf = c.in-Ok-AtEnd.ensures.setting ∙ c.in-Ok.ensures.setting ∙ ap demo_setting c.no_shelf.ensures in
     let whole : done.bytes ≡ load_stream calls seed =
     all_taken _ c.replay.new.input done.bytes done.taken (done.at_end refl) ∙ c.in-Ok-new.ensures in
-    let packets : heard done.bytes ≡ load_packets calls seed = ap heard whole ∙ load_heard calls seed (omega (arith, c.requires.fits)) in
+    let packets : heard Server done.bytes ≡ load_packets calls seed = ap (heard Server) whole ∙ load_heard calls seed (omega (arith, c.requires.fits)) in
     let was_served = subst (λ (set : Setting). IsOneThreadHistory demo_rule set (load_packets calls seed) table.entries) setting
     (subst (λ (ps : List Packet). IsOneThreadHistory demo_rule table.setting ps table.entries) packets done.history) in
     let went : items ≡ items_sent (history (demo_setting no_shelf) table.entries) =

@@ -1,14 +1,14 @@
 use Rattle.std.proofs.Common.{◌≡◌, List, sym, ◌∙◌, ap, subst}
 use Rattle.rpc_journal.specs.declared.item.Item.{Item}
 use Rattle.rpc_journal.specs.Lawful.{IsLegal}
-use Rattle.rpc_journal.specs.Table.{Table}
+use Rattle.rpc_journal.specs.CallTable.{Table}
 use Rattle.rpc_schedule.specs.Kept.{Holds}
 use Rattle.rpc_schedule.specs.Replays.{Replayed}
 use Rattle.demo_services.specs.DemoRule.{demo_rule}
-use Rattle.rpc_server.specs.OwnEntries.{AreOwn}
-use Rattle.rpc_server.specs.Served.{WasFed, heard}
+use Rattle.rpc_ids.specs.declared.method.Role.TheVariants.{Server}
+use Rattle.rpc_schedule.specs.ends.EndState.{WasFed, heard}
 use Rattle.pw_run.specs.Replay.{AreCountsOf}
-use Rattle.pw_run.proofs.ServedLemmas.{replayed_as}
+use Rattle.pw_run.proofs.ServedLemmas.{replayed_as, replayed_entries}
 use Rattle.pw_run.proofs.WritesLemmas.{shelf_served}
 use Rattle.pw_run.proofs.replay.serve.Goals as goal
 
@@ -23,11 +23,11 @@ returns-clause-did g c =
     let same : table ≡ served = c.calls.ensures.table in
     let ending = c.in-Ok-replay.ending in
     let items : List Item = c.deref.result.now in
-    let went = replayed_as demo_rule heard (WasFed c.replay.new.server) (AreCountsOf c.counts-counts.result) left_old left_new ending
+    let went = replayed_as demo_rule (heard Server) (WasFed Server c.replay.new.server) (AreCountsOf c.counts-counts.result) left_old left_new ending
     served c.replay.new.items.items c.counts-counts.ensures.counts c.in-Ok-replay.ensures.replayed in
-    let told : Replayed demo_rule heard (AreCountsOf c.counts-counts.result) left_old left_new ending table items =
-    subst (λ (t : Table). Replayed demo_rule heard (AreCountsOf c.counts-counts.result) left_old left_new ending t items) (sym same)
-    (subst (λ (is : List Item). Replayed demo_rule heard (AreCountsOf c.counts-counts.result) left_old left_new ending served is)
+    let told : Replayed demo_rule (heard Server) (AreCountsOf c.counts-counts.result) left_old left_new ending table items =
+    subst (λ (t : Table). Replayed demo_rule (heard Server) (AreCountsOf c.counts-counts.result) left_old left_new ending t items) (sym same)
+    (subst (λ (is : List Item). Replayed demo_rule (heard Server) (AreCountsOf c.counts-counts.result) left_old left_new ending served is)
     (sym c.deref.ensures.value) went) in
     let holds : Holds items store_old store_new = subst (λ (is : List Item). Holds is store_old store_new) (sym c.deref.ensures.value) c.in-Ok-replay.ensures.holds in
     shelf_served c.args.form c.args.shelf left_old left_new store_old store_new c.counts-counts.result table items ending
@@ -36,6 +36,6 @@ returns-clause-did g c =
       setting = ap (λ (t : Table). t.setting) same ∙ c.in-Ok-replay.ensures.setting ∙ c.in-Ok.ensures.setting;
       served = told;
       legal = subst (λ (t : Table). IsLegal demo_rule t.setting t.entries) (sym same) c.calls.ensures.legal;
-      own = subst (λ (t : Table). AreOwn t.entries) (sym same) c.calls.ensures.own;
+      own = replayed_entries demo_rule (heard Server) (AreCountsOf c.counts-counts.result) left_old left_new ending table items told;
     })
     holds c.write_run.ensures.writes

@@ -3,7 +3,7 @@ use Rattle.std.specs.List.{flat_map, enumerate_from}
 use Rattle.std.proofs.lemmas.List.{take_all}
 use Rattle.std.proofs.lemmas.List.FromFn.{length-enumerate_from}
 use Rattle.rpc_journal.specs.Calls.{calls, call_at}
-use Rattle.rpc_journal.specs.Table.{past}
+use Rattle.rpc_journal.specs.CallTable.{past}
 use Rattle.run_report.specs.Report.{line_of_call}
 use Rattle.run_report.proofs.CallLemmas.{opening_of, line_of_opening, flat_map-numbered}
 use Rattle.run_report.proofs.report.add_call_lines.Goals as goal

@@ -1,7 +1,7 @@
 use Rattle.std.proofs.Common.{◌≡◌, ◌++◌, take, string_bytes}
 use Rattle.std.specs.List.{flat_map, enumerate_from}
 use Rattle.rpc_journal.specs.Calls.{calls}
-use Rattle.rpc_journal.specs.Table.{past}
+use Rattle.rpc_journal.specs.CallTable.{past}
 use Rattle.run_report.specs.Report.{line_of_call}
 use Rattle.run_report.proofs.report.add_call_lines.Given as goal
 

@@ -1,0 +1,44 @@
+//! A call of the log service.
+
+use super::{run, unhex};
+use bytes::Bytes;
+use rpc_frames::write_frame;
+use rpc_packet::{CallName, Packet, PacketType};
+use std::alloc::AllocError;
+
+// A call of Text on channel 1 with the message of -3, and its completion.
+#[test]
+fn the_log_service_tells_a_message(rt: HostRuntime) -> Result<(), AllocError> {
+    let alloc = rt.alloc();
+    let name = CallName {
+        channel: 1,
+        service: 0xA9C4_1521,
+        method: 0xC85D_1891,
+        call: 1,
+    };
+    let mut content = Vec::new(alloc);
+    for (ptype, payload) in [
+        (PacketType::Request, ""),
+        (PacketType::ClientStream, "8117633105"),
+        (PacketType::Completion, ""),
+    ] {
+        let packet = Packet {
+            ptype,
+            name,
+            payload: Bytes::from_vec(unhex(alloc, payload)?).map_err(|_| AllocError)?,
+            status: 0,
+        };
+        write_frame(alloc, &packet, &mut content)?;
+    }
+    let ran = run(alloc, "replay", content)?;
+    assert_eq!(rt; ran.status, 0);
+    // A SERVER_STREAM with `-3`, and a RESPONSE.
+    let report = "frames 3 bad 0 other 0 dropped 0
+call 0 1 a9c41521 c85d1891 1 bidi OK
+out 7ea503080710011d2115c4a92591185dc82a022d333801d9841e127e
+out 7ea503080110011d2115c4a92591185dc83801efc1fdcb7e
+done
+";
+    assert_eq!(rt; ran.output.as_slice(), report.as_bytes());
+    Ok(())
+}
