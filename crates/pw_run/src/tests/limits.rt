@@ -52,9 +52,6 @@ fn an_input_ends_at_the_limit(rt: HostRuntime) -> Result<(), AllocError> {
         ("check", 67_108_863, 7, "journal line 1\n"),
         ("check", 67_108_864, 8, "limit input 67108864\n"),
         ("check", 67_108_865, 8, "limit input 67108864\n"),
-        ("detoken", 1_048_575, 7, "token line 1\n"),
-        ("detoken", 1_048_576, 8, "limit input 1048576\n"),
-        ("detoken", 1_048_577, 8, "limit input 1048576\n"),
     ];
     for (line, left, status, written) in rows {
         let mut input = Idle { left };
@@ -71,13 +68,35 @@ fn an_input_ends_at_the_limit(rt: HostRuntime) -> Result<(), AllocError> {
         // No byte behind the limit is taken.
         assert_eq!(rt;
             input.left,
-            left.saturating_sub(if line == "detoken" {
-                1_048_576
-            } else {
-                67_108_864
-            }),
+            left.saturating_sub(67_108_864),
             "{line}, {left} bytes"
         );
+    }
+    Ok(())
+}
+
+#[test]
+fn a_text_of_lines_ends_at_its_limit(rt: HostRuntime) -> Result<(), AllocError> {
+    let alloc = rt.alloc();
+    let rows = [
+        (1_048_575, 7, "token line 1\n"),
+        (1_048_576, 8, "limit input 1048576\n"),
+        (1_048_577, 8, "limit input 1048576\n"),
+    ];
+    for (left, status, written) in rows {
+        let mut input = Idle { left };
+        let mut output = MemSink::new(Vec::new(alloc), Vec::new(alloc));
+        let got = run_recorded(
+            alloc,
+            &words(alloc, "detoken")?,
+            &mut input,
+            &mut output,
+            &mut no_store(alloc)?,
+        );
+        assert_eq!(rt; got, status, "{left} bytes");
+        assert_eq!(rt; output.bytes(), written.as_bytes(), "{left} bytes");
+        // No byte behind the limit is taken.
+        assert_eq!(rt; input.left, left.saturating_sub(1_048_576), "{left} bytes");
     }
     Ok(())
 }
