@@ -60,6 +60,20 @@ fn formats_have_tokens(rt: HostRuntime) {
     assert_eq!(rt; book.add(&wrong), Err(FormRefused::Form(280)));
 }
 
+// Two formats of which each has the token of the other.
+#[test]
+fn the_second_of_two_formats_with_one_token_clashes(rt: HostRuntime) -> Result<(), Fail> {
+    let alloc = rt.alloc();
+    let mut book = added(alloc, &[b"camera sent now"])?;
+    assert_eq!(rt; book.add(b"frame was up %s"), Err(FormRefused::Clash));
+    let text = printed(alloc, &book, b"\x06\x62\x17\xA8")?;
+    assert_eq!(rt; text.as_slice(), b"camera sent now".as_slice());
+    let other = added(alloc, &[b"frame was up %s"])?;
+    let text = printed(alloc, &other, b"\x06\x62\x17\xA8\x02hi")?;
+    assert_eq!(rt; text.as_slice(), b"frame was up hi".as_slice());
+    Ok(())
+}
+
 #[test]
 fn messages_have_texts(rt: HostRuntime) -> Result<(), Fail> {
     let alloc = rt.alloc();
@@ -197,7 +211,7 @@ fn long_texts_are_cut(rt: HostRuntime) -> Result<(), Fail> {
         assert_eq!(rt; text.len(), if cut { 132 } else { length });
         assert_eq!(rt; text.ends_with(b"~[...]"), cut);
     }
-    for byte in [0, 0x1F, 0x7F, 0xFF] {
+    for byte in (0..0x20).chain(0x7F..=0xFF) {
         let args = vec![in alloc; Arg::Text(Bytes::copy_from_slice(alloc, &[b'a', byte])?)]?;
         let mut message = Vec::new(alloc);
         assert_eq!(rt;
