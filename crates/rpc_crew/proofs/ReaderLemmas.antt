@@ -302,6 +302,21 @@ pub of_err : {A E X : Type 0} (result : Result A E) → is_err result ≡ true �
 of_err (Ok a) is x = absurd (cc is)
 of_err (Err e) is x = x
 
+-- nothing was read, since the table was halted first
+pub read_none : (set : Setting) (left : Option (List ℕ)) (l : Listening) (p q : Seat) → Fed l p [] → arrivals q.view.known.mine ≡ arrivals p.view.known.mine → is_halted set q.view.known.seen ≡ true
+    → HasRead set left left None 0 l q
+read_none set left l p q fed same halted = record {
+  bytes = [];
+  taken = Consumes-nil left;
+  count = refl;
+  within = omega arith;
+  at_end = λ is. absurd (cc is);
+  at_limit = λ is. absurd (cc is);
+  cut = cut_fed l q [] (record { role = fed.role; listener = fed.listener; arrived = same ∙ fed.arrived });
+  cause = inr halted;
+  stopped = λ _. halted;
+}
+
 -- the three ways in which reading ends
 module _ (set : Setting) (left_old left_mid left_new : Option (List ℕ)) (total : ℕ) (l : Listening) (p : Seat) (so : HasFed left_old left_mid total l p) where
   pub read_failed : Keeps left_mid left_new → HasRead set left_old left_new (Some Failed) total l p

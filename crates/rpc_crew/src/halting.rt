@@ -9,9 +9,10 @@ ghost use Rattle.rpc_shared.specs.Steps.{IsOwn};
 ghost use Rattle.rpc_crew.specs.Crew.{Adds};
 ghost use Rattle.rpc_crew.specs.Sessions.{is_halted, is_halting};
 
+use crate::table::Table;
 use link_io::Why;
 use rpc_handlers::Handler;
-use rpc_shared::{Pass, Shared};
+use rpc_shared::Pass;
 use std::sync::Wait;
 
 /// The table is halted: its threads end.
@@ -19,7 +20,7 @@ use std::sync::Wait;
 pub(crate) struct Halted;
 
 /// Halts the table, where it isn't halted already.
-pub(crate) fn halt<H: Handler, R: Wait>(rt: &R, shared: &Shared<H>, pass: &mut Pass<H>, why: Why)
+pub(crate) fn halt<H: Handler, R: Wait>(rt: &R, shared: &Table<H>, pass: &mut Pass<H>, why: Why)
     requires own { IsOwn shared.now pass.old }
     requires why { is_halting why ≡ true }
     requires full { why ≡ JournalLimit → MAX_ENTRIES ≤ length pass.old.view.known.seen }

@@ -2,6 +2,7 @@
 //! what goes out, and a writer. docs/CREW.md shows who holds what, and how a session ends. Enter at [`session`].
 #![tactic(auto)]
 
+mod bell;
 mod gate;
 mod halting;
 mod item_log;
@@ -11,6 +12,7 @@ mod pumping;
 mod reading;
 mod running;
 mod serving;
+mod table;
 #[cfg(test)]
 mod tests;
 mod threads;

@@ -10,18 +10,23 @@ ghost use Rattle.rpc_crew.specs.Sessions.{AreSpaced, is_halted, last_from};
 ghost use Rattle.rpc_crew.specs.declared.parcel.Parcel.{Parcel};
 ghost use Rattle.rpc_crew.specs.declared.parcel.Parcel.TheVariants.{End};
 
+use crate::bell::Bell;
 use crate::halting::{Halted, halt};
 use crate::parcel::Parcel;
+use crate::table::Table;
 use link_io::{Clock, Why};
 use rpc_calls::StartRefused;
 use rpc_handlers::Handler;
-use rpc_shared::{Look, Pass, Shared};
+use rpc_shared::{Look, Pass};
 use rtrb::{Producer, PushError};
 use std::sync::Wait;
-use std::thread;
 
 /// The time goes on in steps of at least so many milliseconds.
 pub(crate) const TICK: u64 = 500;
+
+// The pump waits so many milliseconds at most before it asks the clock again. So a Tick comes 2 ms late at most, a thousand rounds
+// take about 2 s, and a pump that finds nothing to do takes less than a hundredth of a processor.
+const ROUND: u64 = 2;
 
 /// The pump is done: the end is in the ring, or the table is halted.
 #[derive(Clone, Copy, Debug)]
@@ -31,7 +36,7 @@ struct Ended;
 /// flushed only when the one before it is in the ring.
 pub(crate) fn pump<H: Handler, C: Clock, R: Wait>(
     rt: &R,
-    shared: &Shared<H>,
+    shared: &Table<H>,
     pass: &mut Pass<H>,
     ring: &mut Producer<Parcel>,
     clock: &mut C,
@@ -44,6 +49,7 @@ pub(crate) fn pump<H: Handler, C: Clock, R: Wait>(
     ensures spaced { AreSpaced (C.last clock.old) (moments pass.new.view.known.mine) }
     ensures past { last_from (C.last clock.old) (moments pass.new.view.known.mine) ≤ C.last clock.new }
 {
+    shared.bells().begun.ring();
     let mut ticked = clock.now();
     let mut hand = None;
     for _ in rt.forever() {
@@ -61,7 +67,7 @@ pub(crate) fn pump<H: Handler, C: Clock, R: Wait>(
 // Tells the time, where it has gone on far enough.
 fn tick<H: Handler, C: Clock, R: Wait>(
     rt: &R,
-    shared: &Shared<H>,
+    shared: &Table<H>,
     pass: &mut Pass<H>,
     clock: &mut C,
     ticked: &mut u64,
@@ -97,7 +103,7 @@ fn tick<H: Handler, C: Clock, R: Wait>(
 // The parcel in the hand goes first; then the next item.
 fn go_on<H: Handler, R: Wait>(
     rt: &R,
-    shared: &Shared<H>,
+    shared: &Table<H>,
     pass: &mut Pass<H>,
     ring: &mut Producer<Parcel>,
     hand: Option<Parcel>,
@@ -118,7 +124,7 @@ fn go_on<H: Handler, R: Wait>(
 // Flushes an item, and puts it into the ring.
 fn flush<H: Handler, R: Wait>(
     rt: &R,
-    shared: &Shared<H>,
+    shared: &Table<H>,
     pass: &mut Pass<H>,
     ring: &mut Producer<Parcel>,
 ) -> Result<Option<Parcel>, Ended>
@@ -129,16 +135,17 @@ fn flush<H: Handler, R: Wait>(
     ensures pumps { IfOk result (λ next. Pumps H.rule shared.now (sent ring.new) next pass.new) }
     ensures ended { OnErr result (PumpEnded H.rule shared.now (sent ring.new) pass.new) }
 {
+    let heard = shared.bells().pump.rings();
     match shared.flush_front(rt, pass) {
         Some(item) => offer(rt, shared, pass, ring, Parcel::Put(item)),
-        None => rest(rt, shared, pass, ring),
+        None => rest(rt, shared, pass, ring, heard),
     }
 }
 
 // Puts a parcel into the ring, or keeps it in the hand where the ring is full.
 fn offer<H: Handler, R: Wait>(
     rt: &R,
-    shared: &Shared<H>,
+    shared: &Table<H>,
     pass: &mut Pass<H>,
     ring: &mut Producer<Parcel>,
     parcel: Parcel,
@@ -151,20 +158,29 @@ fn offer<H: Handler, R: Wait>(
     ensures ended { OnErr result (PumpEnded H.rule shared.now (sent ring.new) pass.new) }
 {
     match ring.push(parcel) {
-        Ok(()) => Ok(None),
-        Err(refused) => keep(shared.look(rt, pass), refused),
+        Ok(()) => {
+            shared.bells().writer.ring();
+            Ok(None)
+        }
+        Err(refused) => keep(rt, &shared.bells().pump, shared.look(rt, pass), refused),
     }
 }
 
-// The parcel that the ring gave back stays in the hand, unless the table is halted.
-fn keep(look: Look, refused: PushError<Parcel>) -> Result<Option<Parcel>, Ended>
+// The parcel that the ring gave back stays in the hand, unless the table is halted. The writer doesn't ring for each place: while
+// the pump waits out its round, it has a whole ring to write.
+fn keep<R: Wait>(
+    rt: &R,
+    bell: &Bell,
+    look: Look,
+    refused: PushError<Parcel>,
+) -> Result<Option<Parcel>, Ended>
     ensures kept { IfOk result (λ hand. (parcel : Parcel) → refused ≡ Full parcel → hand ≡ Some parcel) }
     ensures halted { OnErr result (is_some look.halted ≡ true) }
 {
     if look.halted.is_some() {
         return Err(Ended);
     }
-    thread::yield_now();
+    bell.wait_for(rt, bell.rings(), ROUND);
     match refused {
         PushError::Full(parcel) => Ok(Some(parcel)),
     }
@@ -173,9 +189,10 @@ fn keep(look: Look, refused: PushError<Parcel>) -> Result<Option<Parcel>, Ended>
 // No item waits: the end goes into the ring where the table is settled.
 fn rest<H: Handler, R: Wait>(
     rt: &R,
-    shared: &Shared<H>,
+    shared: &Table<H>,
     pass: &mut Pass<H>,
     ring: &mut Producer<Parcel>,
+    heard: u32,
 ) -> Result<Option<Parcel>, Ended>
     requires pumps { Pumps H.rule shared.now (sent ring.old) None pass.old }
     ensures same { IsSame pass.old pass.new }
@@ -190,12 +207,13 @@ fn rest<H: Handler, R: Wait>(
     }
     if look.settled {
         if close(ring) {
+            shared.bells().writer.ring();
             return Err(Ended);
         }
-        thread::yield_now();
+        shared.bells().pump.wait_for(rt, heard, ROUND);
         return Ok(None);
     }
-    thread::yield_now();
+    shared.bells().pump.wait_for(rt, heard, ROUND);
     Ok(None)
 }
 

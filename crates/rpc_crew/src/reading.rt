@@ -15,17 +15,18 @@ ghost use Rattle.rpc_crew.specs.Crew.{Adds, Cut, Fed, HasRead, Reader, ReaderEnd
 ghost use Rattle.rpc_crew.specs.Sessions.{is_halted};
 
 use crate::Gate;
+use crate::bell::Bell;
 use crate::halting::{Halted, halt};
 use crate::running::run;
+use crate::table::Table;
 use link_io::{Ending, Source, Why};
 use rpc_calls::{ArriveRefused, StartOfRefused};
 use rpc_frames::Listener;
 use rpc_handlers::{Handler, Maker};
 use rpc_packet::Packet;
 use rpc_schedule::INPUT_LIMIT;
-use rpc_shared::{Look, Pass, Shared};
+use rpc_shared::{Look, Pass};
 use std::sync::Wait;
-use std::thread;
 
 // How many bytes are asked for in one read.
 const PIECE: usize = 4_096;
@@ -42,7 +43,7 @@ pub(crate) struct Reading {
 /// Feeds the source to its end, a fault, or the limit, and ends the input there; a halt of the table cuts it short.
 pub(crate) fn read<M: Maker, I: Source, R: Wait, G: Gate>(
     rt: &R,
-    shared: &Shared<M::H>,
+    shared: &Table<M::H>,
     pass: &mut Pass<M::H>,
     listener: &mut Listener,
     input: &mut I,
@@ -59,15 +60,45 @@ pub(crate) fn read<M: Maker, I: Source, R: Wait, G: Gate>(
     ensures fault { result.ending ≡ Some Failed → Rose (I.faults input.old) (I.faults input.new) }
     ensures later { I.faults input.old ≤ I.faults input.new }
 {
-    let reading = feed_stream(rt, shared, pass, listener, input, maker, gate);
+    let reading = feed_source(rt, shared, pass, listener, input, maker, gate);
     shared.end_in(rt, pass);
     reading
+}
+
+// Feeds the source, once all other threads have begun. Where one couldn't be made, nothing is read.
+fn feed_source<M: Maker, I: Source, R: Wait, G: Gate>(
+    rt: &R,
+    shared: &Table<M::H>,
+    pass: &mut Pass<M::H>,
+    listener: &mut Listener,
+    input: &mut I,
+    maker: &M,
+    gate: &G,
+) -> Reading
+    requires reader { Reader M.H.rule shared.now pass.old }
+    requires fed { Fed listener.old pass.old [] }
+    requires server { shared.now.base.role ≡ Server }
+    requires seed { M.seed_memo maker.now ≡ shared.now.base.seed }
+    ensures reader { Reader M.H.rule shared.now pass.new }
+    ensures same { IsSame pass.old pass.new }
+    ensures read { HasRead shared.now.base (I.left input.old) (I.left input.new) result.ending result.read listener.new pass.new }
+    ensures fault { result.ending ≡ Some Failed → Rose (I.faults input.old) (I.faults input.new) }
+    ensures later { I.faults input.old ≤ I.faults input.new }
+{
+    if !shared.have_begun(rt) {
+        halt(rt, shared, pass, Why::Memory);
+        return Reading {
+            ending: None,
+            read: 0,
+        };
+    }
+    feed_stream(rt, shared, pass, listener, input, maker, gate)
 }
 
 // Feeds the source piece by piece.
 fn feed_stream<M: Maker, I: Source, R: Wait, G: Gate>(
     rt: &R,
-    shared: &Shared<M::H>,
+    shared: &Table<M::H>,
     pass: &mut Pass<M::H>,
     listener: &mut Listener,
     input: &mut I,
@@ -118,7 +149,7 @@ fn feed_stream<M: Maker, I: Source, R: Wait, G: Gate>(
 // Feeds a piece frame by frame.
 fn feed_all<M: Maker, R: Wait, G: Gate>(
     rt: &R,
-    shared: &Shared<M::H>,
+    shared: &Table<M::H>,
     pass: &mut Pass<M::H>,
     listener: &mut Listener,
     piece: &[u8],
@@ -146,7 +177,7 @@ fn feed_all<M: Maker, R: Wait, G: Gate>(
 // Feeds the front of a piece, up to the end of the first segment in it, and answers how many bytes that were.
 fn feed<M: Maker, R: Wait, G: Gate>(
     rt: &R,
-    shared: &Shared<M::H>,
+    shared: &Table<M::H>,
     pass: &mut Pass<M::H>,
     listener: &mut Listener,
     piece: &[u8],
@@ -181,7 +212,7 @@ fn feed<M: Maker, R: Wait, G: Gate>(
 // The packet that was heard arrives, where there was one.
 fn take_heard<M: Maker, R: Wait, G: Gate>(
     rt: &R,
-    shared: &Shared<M::H>,
+    shared: &Table<M::H>,
     pass: &mut Pass<M::H>,
     heard: &Option<Packet>,
     maker: &M,
@@ -205,7 +236,7 @@ fn take_heard<M: Maker, R: Wait, G: Gate>(
 // A packet arrives, at once or when its call has room for its event.
 fn take_in<M: Maker, R: Wait, G: Gate>(
     rt: &R,
-    shared: &Shared<M::H>,
+    shared: &Table<M::H>,
     pass: &mut Pass<M::H>,
     packet: &Packet,
     maker: &M,
@@ -231,7 +262,7 @@ fn take_in<M: Maker, R: Wait, G: Gate>(
 // A packet arrives. False where its call's queue is full: the reader has run the call's handler then, where it was ready.
 fn try_in<M: Maker, R: Wait, G: Gate>(
     rt: &R,
-    shared: &Shared<M::H>,
+    shared: &Table<M::H>,
     pass: &mut Pass<M::H>,
     packet: &Packet,
     maker: &M,
@@ -247,10 +278,11 @@ fn try_in<M: Maker, R: Wait, G: Gate>(
     ensures lost { OnErr result (arrivals pass.new.view.known.mine ≡ arrivals pass.old.view.known.mine) }
     ensures halted { OnErr result (is_halted shared.now.base pass.new.view.known.seen ≡ true) }
 {
+    let heard = shared.bells().reader.rings();
     match shared.arrive(rt, pass, packet, maker) {
         Ok(_) => Ok(true),
         Err(ArriveRefused::QueueFull(call)) => {
-            make_room(rt, shared, pass, call, gate)?;
+            make_room(rt, shared, pass, call, heard, gate)?;
             Ok(false)
         }
         Err(ArriveRefused::JournalFull) => {
@@ -264,12 +296,14 @@ fn try_in<M: Maker, R: Wait, G: Gate>(
     }
 }
 
-// Runs the handler of a call whose queue is full, where it is ready; another thread may run it just now.
+// Runs the handler of a call whose queue is full, where it is ready. Where another thread runs it just now, this one waits for a
+// ring past those heard before the packet was refused.
 fn make_room<H: Handler, R: Wait, G: Gate>(
     rt: &R,
-    shared: &Shared<H>,
+    shared: &Table<H>,
     pass: &mut Pass<H>,
     call: u32,
+    heard: u32,
     gate: &G,
 ) -> Result<(), Halted>
     requires { IsOwn shared.now pass.old }
@@ -278,7 +312,9 @@ fn make_room<H: Handler, R: Wait, G: Gate>(
 {
     match shared.start_of(rt, pass, call) {
         Ok(running) => run(rt, shared, pass, gate, running),
-        Err(StartOfRefused::NotReady) => rest(shared.look(rt, pass)),
+        Err(StartOfRefused::NotReady) => {
+            rest(rt, &shared.bells().reader, heard, shared.look(rt, pass))
+        }
         Err(StartOfRefused::JournalFull) => {
             halt(rt, shared, pass, Why::JournalLimit);
             Err(Halted)
@@ -290,13 +326,13 @@ fn make_room<H: Handler, R: Wait, G: Gate>(
     }
 }
 
-// Lets others go on, unless the table is halted.
-fn rest(look: Look) -> Result<(), Halted>
+// Waits for a place in a queue, unless the table is halted.
+fn rest<R: Wait>(rt: &R, bell: &Bell, heard: u32, look: Look) -> Result<(), Halted>
     ensures { OnErr result (is_some look.halted ≡ true) }
 {
     if look.halted.is_some() {
         return Err(Halted);
     }
-    thread::yield_now();
+    bell.wait(rt, heard);
     Ok(())
 }

@@ -7,10 +7,11 @@ ghost use Rattle.rpc_crew.specs.Sessions.{is_halted};
 
 use crate::Gate;
 use crate::halting::{Halted, halt};
+use crate::table::Table;
 use link_io::Why;
 use rpc_calls::Running;
 use rpc_handlers::Handler;
-use rpc_shared::{Pass, Shared};
+use rpc_shared::Pass;
 use std::sync::Wait;
 
 /// Asks the handler of a run outside the lock, and finishes the run.
@@ -20,7 +21,7 @@ use std::sync::Wait;
 /// Where there was no memory for the answer. The table is halted then, and the call stays running.
 pub(crate) fn run<H: Handler, R: Wait, G: Gate>(
     rt: &R,
-    shared: &Shared<H>,
+    shared: &Table<H>,
     pass: &mut Pass<H>,
     gate: &G,
     mut running: Running<H>,

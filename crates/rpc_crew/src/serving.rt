@@ -11,6 +11,7 @@ ghost use Rattle.rpc_crew.specs.Sessions.{Begins, Explains, IsSessionHistory, Ti
 
 use crate::item_log::ItemLog;
 use crate::parcel::Parcel;
+use crate::table::Table;
 use crate::threads::run_threads;
 use crate::working::Workers;
 use crate::{Gate, Served, Session};
@@ -20,7 +21,7 @@ use rpc_channel::Channels;
 use rpc_frames::{Counts, Listener};
 use rpc_handlers::{Handler, Maker};
 use rpc_ids::{Registry, Role};
-use rpc_shared::{Pass, Shared};
+use rpc_shared::Pass;
 use rtrb::RingBuffer;
 use std::alloc::{AllocError, Global};
 use std::sync::Wait;
@@ -30,9 +31,10 @@ use std::thread::Threads;
 const PLACES: usize = 256;
 
 /// Serves one link until its input has ended and all that it asked for is done, or the table is halted. A reader, a pump, a writer
-/// and 1 to 16 workers share one table of calls, each in a thread of its own where one can be made. The time is asked of the clock
-/// alone, and the gate stands at each run of a handler. A fault of the source and the limit of 67,108,864 bytes end the input, and
-/// the session still settles; a fault of the sink or the store, a full journal and want of memory halt it.
+/// and 1 to 16 workers share one table of calls, each in a thread of its own; where one can't be made the table is halted for want
+/// of memory, with nothing read. The time is asked of the clock alone, and the gate stands at each run of a handler. A fault of the
+/// source and the limit of 67,108,864 bytes end the input, and the session still settles; a fault of the sink or the store, a full
+/// journal and want of memory halt it.
 ///
 /// # Errors
 ///
@@ -205,10 +207,7 @@ where
     let (mut ring, mut end) = RingBuffer::new(alloc, PLACES)?;
     let seed = maker.seed()?;
     let calls = Calls::new(alloc, Role::Server, channels, registry, seed)?;
-    let (shared, passes) = match Shared::with(alloc, calls, workers + 3) {
-        Ok(made) => made,
-        Err(_) => return Err(AllocError),
-    };
+    let (shared, passes) = Table::with(alloc, calls, workers + 3)?;
     let Passes {
         mut reader,
         mut pumper,

@@ -22,6 +22,7 @@ use std::{thread, time};
 
 mod clocks;
 mod gates;
+mod queues;
 
 // A gate or a device turns at most so often, a millisecond each time.
 const TURNS: u32 = 10_000;
@@ -168,21 +169,48 @@ fn serve_echoes<
     requires workers { (0 < workers) × (workers ≤ 16) }
     requires open { O.finished link_out.old ≡ false }
 {
-    let mut store = MemStore::new(alloc, Fulls::new(alloc), Fulls::new(alloc), Vec::new(alloc))?;
-    let channels = channel_one(alloc)?;
     let registry = echo_alone(alloc)?;
-    let did = session(
+    serve_by(
         rt,
         alloc,
         link_in,
         link_out,
-        &mut store,
-        channels,
         registry,
         &Echoes { alloc },
         workers,
         clock,
         gate,
+    )
+}
+
+// Serves a link on channel 1, with an empty store.
+fn serve_by<
+    R: Threads + Wait + Sync,
+    I: Source + Send,
+    O: Sink + Send,
+    M: Maker + Sync,
+    C: Clock + Send,
+    G: Gate + Sync,
+>(
+    rt: &R,
+    alloc: Global,
+    link_in: &mut I,
+    link_out: &mut O,
+    registry: Registry,
+    maker: &M,
+    workers: u32,
+    clock: &mut C,
+    gate: &G,
+) -> Result<Session, Fail>
+where
+    M::H: Send,
+    requires workers { (0 < workers) × (workers ≤ 16) }
+    requires open { O.finished link_out.old ≡ false }
+{
+    let mut store = MemStore::new(alloc, Fulls::new(alloc), Fulls::new(alloc), Vec::new(alloc))?;
+    let channels = channel_one(alloc)?;
+    let did = session(
+        rt, alloc, link_in, link_out, &mut store, channels, registry, maker, workers, clock, gate,
     )?;
     Ok(did)
 }

@@ -18,12 +18,13 @@ use crate::item_log::ItemLog;
 use crate::parcel::Parcel;
 use crate::pumping::pump;
 use crate::reading::{Reading, read};
+use crate::table::Table;
 use crate::working::Workers;
 use crate::writing::write;
 use link_io::{Clock, Sink, Source, Store};
 use rpc_frames::Listener;
 use rpc_handlers::Maker;
-use rpc_shared::{Pass, Shared};
+use rpc_shared::Pass;
 use rtrb::{Consumer, Producer};
 use std::alloc::Global;
 use std::sync::Wait;
@@ -42,7 +43,7 @@ pub(crate) fn run_threads<
 >(
     rt: &'a R,
     alloc: Global,
-    shared: &'a Shared<M::H>,
+    shared: &'a Table<M::H>,
     reader: &'a mut Pass<M::H>,
     pumper: &'a mut Pass<M::H>,
     writer: &'a mut Pass<M::H>,
@@ -120,7 +121,7 @@ fn pumped_any<
 >(
     rt: &R,
     alloc: Global,
-    shared: &Shared<M::H>,
+    shared: &Table<M::H>,
     reader: &mut Pass<M::H>,
     pumper: &mut Pass<M::H>,
     workers: &mut Workers<M::H>,
@@ -167,7 +168,7 @@ fn pumped<
 >(
     rt: &'a R,
     alloc: Global,
-    shared: &'a Shared<M::H>,
+    shared: &'a Table<M::H>,
     reader: &'a mut Pass<M::H>,
     pumper: &'a mut Pass<M::H>,
     workers: &'a mut Workers<M::H>,
@@ -221,7 +222,7 @@ where
 fn readers_any<R: Threads + Wait + Sync, I: Source, M: Maker + Sync, G: Gate + Sync>(
     rt: &R,
     alloc: Global,
-    shared: &Shared<M::H>,
+    shared: &Table<M::H>,
     reader: &mut Pass<M::H>,
     workers: &mut Workers<M::H>,
     listener: &mut Listener,
@@ -252,7 +253,7 @@ where
 fn readers<'a, R: Threads + Wait + Sync, I: Source, M: Maker + Sync, G: Gate + Sync>(
     rt: &'a R,
     alloc: Global,
-    shared: &'a Shared<M::H>,
+    shared: &'a Table<M::H>,
     reader: &'a mut Pass<M::H>,
     workers: &'a mut Workers<M::H>,
     listener: &'a mut Listener,

@@ -6,16 +6,18 @@ ghost use Rattle.rpc_shared.specs.Steps.{IsOwn};
 ghost use Rattle.rpc_crew.specs.Crew.{Adds, AllWorked, AreWorkers, Worker, is_workers};
 
 use crate::Gate;
+use crate::bell::Bell;
 use crate::halting::halt;
 use crate::running::run;
+use crate::table::Table;
 use link_io::Why;
 use rpc_calls::StartRefused;
 use rpc_handlers::Handler;
-use rpc_shared::{Look, Pass, Shared};
+use rpc_shared::{Look, Pass};
 use std::alloc::Global;
+use std::mem;
 use std::sync::Wait;
 use std::thread::{Threads, join};
-use std::{mem, thread};
 
 /// The passes of the workers.
 pub(crate) struct Workers<H: Handler> {
@@ -28,7 +30,7 @@ impl<H: Handler + Send> Workers<H> {
         &mut self,
         rt: &R,
         alloc: Global,
-        shared: &Shared<H>,
+        shared: &Table<H>,
         gate: &G,
     )
         requires workers { AreWorkers H.rule shared.now self.old.passes.items }
@@ -43,7 +45,7 @@ impl<H: Handler + Send> Workers<H> {
 // All passes work, the last one in this thread.
 fn work_all<H: Handler + Send, R: Threads + Wait + Sync, G: Gate + Sync>(
     rt: &R,
-    shared: &Shared<H>,
+    shared: &Table<H>,
     mut passes: Vec<Pass<H>>,
     gate: &G,
 ) -> Vec<Pass<H>>
@@ -72,7 +74,7 @@ fn work_all<H: Handler + Send, R: Threads + Wait + Sync, G: Gate + Sync>(
 // One pass works until the input has ended and nothing is left to run, or the table is halted.
 fn work<H: Handler, R: Wait, G: Gate>(
     rt: &R,
-    shared: &Shared<H>,
+    shared: &Table<H>,
     mut pass: Pass<H>,
     gate: &G,
 ) -> Pass<H>
@@ -80,6 +82,7 @@ fn work<H: Handler, R: Wait, G: Gate>(
     ensures worker { Worker H.rule shared.now result }
     ensures same { IsSame pass result }
 {
+    shared.bells().begun.ring();
     for _ in rt.forever() {
         if !work_once(rt, shared, &mut pass, gate) {
             return pass;
@@ -91,16 +94,18 @@ fn work<H: Handler, R: Wait, G: Gate>(
 // One run, where a call is ready. False where there is nothing more to do.
 fn work_once<H: Handler, R: Wait, G: Gate>(
     rt: &R,
-    shared: &Shared<H>,
+    shared: &Table<H>,
     pass: &mut Pass<H>,
     gate: &G,
 ) -> bool
     requires { IsOwn shared.now pass.old }
     ensures { Adds H.rule shared.now is_workers pass.old pass.new }
 {
+    let bell = &shared.bells().workers;
+    let heard = bell.rings();
     match shared.start(rt, pass) {
         Ok(Some(running)) => run(rt, shared, pass, gate, running).is_ok(),
-        Ok(None) => waits(shared.look(rt, pass)),
+        Ok(None) => waits(rt, bell, heard, shared.look(rt, pass)),
         Err(StartRefused::JournalFull) => {
             halt(rt, shared, pass, Why::JournalLimit);
             false
@@ -112,11 +117,12 @@ fn work_once<H: Handler, R: Wait, G: Gate>(
     }
 }
 
-// Lets others go on where a call may yet become ready.
-fn waits(look: Look) -> bool {
+// Waits where a call may yet become ready. A worker that ends rings for the others, which end as well.
+fn waits<R: Wait>(rt: &R, bell: &Bell, heard: u32, look: Look) -> bool {
     if look.idle || look.halted.is_some() {
+        bell.ring();
         return false;
     }
-    thread::yield_now();
+    bell.wait(rt, heard);
     true
 }

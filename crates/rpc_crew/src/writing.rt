@@ -14,27 +14,28 @@ ghost use Rattle.rpc_crew.specs.Log.{Logs};
 ghost use Rattle.rpc_crew.specs.Ring.{HaltsFor, Made, Writes, WriterEnded};
 ghost use Rattle.rpc_crew.specs.Sessions.{is_halting, wire};
 
+use crate::bell::Bell;
 use crate::halting::halt;
 use crate::item_log::ItemLog;
 use crate::parcel::Parcel;
+use crate::table::Table;
 use link_io::{Sink, Store, StoreRefused, Why, write_whole};
 use rpc_frames::write_frame;
 use rpc_handlers::Handler;
 use rpc_journal::{Act, Item};
 use rpc_packet::Packet;
 use rpc_schedule::make_action;
-use rpc_shared::{Look, Pass, Shared};
+use rpc_shared::{Look, Pass};
 use rtrb::Consumer;
 use std::alloc::Global;
 use std::sync::Wait;
-use std::thread;
 
 /// Makes the items that come through the ring, until its end, a failure, or a halt of the table, and answers how many were made
 /// whole.
 pub(crate) fn write<H: Handler, O: Sink, S: Store, R: Wait>(
     rt: &R,
     alloc: Global,
-    shared: &Shared<H>,
+    shared: &Table<H>,
     pass: &mut Pass<H>,
     ring: &mut Consumer<Parcel>,
     output: &mut O,
@@ -51,8 +52,10 @@ pub(crate) fn write<H: Handler, O: Sink, S: Store, R: Wait>(
     ensures later { (O.faults output.old ≤ O.faults output.new) × (S.faults store.old ≤ S.faults store.new) }
     ensures open { O.finished output.new ≡ false }
 {
+    shared.bells().begun.ring();
     let mut done: u64 = 0;
     for _ in rt.forever() {
+        let heard = shared.bells().writer.rings();
         match ring.pop() {
             Ok(Parcel::Put(item)) => match put(alloc, item, output, store, log) {
                 Ok(()) => done = done.saturating_add(1),
@@ -63,7 +66,7 @@ pub(crate) fn write<H: Handler, O: Sink, S: Store, R: Wait>(
             },
             Ok(Parcel::End) => return done,
             Err(_) => {
-                if !waits(shared.look(rt, pass)) {
+                if !waits(rt, &shared.bells().writer, heard, shared.look(rt, pass)) {
                     return done;
                 }
             }
@@ -146,13 +149,13 @@ fn send<O: Sink>(alloc: Global, packet: &Packet, output: &mut O) -> Result<(), W
     }
 }
 
-// Lets others go on, unless the table is halted.
-fn waits(look: Look) -> bool
+// Waits for the next parcel, unless the table is halted.
+fn waits<R: Wait>(rt: &R, bell: &Bell, heard: u32, look: Look) -> bool
     ensures { result ≡ false → is_some look.halted ≡ true }
 {
     if look.halted.is_some() {
         return false;
     }
-    thread::yield_now();
+    bell.wait(rt, heard);
     true
 }

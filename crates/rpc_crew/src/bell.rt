@@ -1,0 +1,94 @@
+//! A bell for threads that have nothing to do.
+
+use std::sync::Wait;
+use std::sync::atomic::{AtomicU64, Ordering};
+use std::time::Duration;
+
+/// Counts its rings, for threads that wait for the next one. Take the count before you look for something to do, and wait with it
+/// where you find nothing: where a ring came in between, the wait is over at once, so none is lost. A wait may also end for no
+/// reason.
+#[derive(Drop)]
+pub(crate) struct Bell {
+    rings: AtomicU64,
+    waiting: AtomicU64,
+}
+
+impl Bell {
+    pub fn new() -> Bell {
+        Bell {
+            rings: AtomicU64::new(0),
+            waiting: AtomicU64::new(0),
+        }
+    }
+
+    /// How often it was rung, modulo 2^32.
+    pub fn rings(&self) -> u32 {
+        (self.rings.load(Ordering::SeqCst) % 4_294_967_296) as u32
+    }
+
+    /// Rings for one of those who wait.
+    pub fn ring_for_one(&self) {
+        self.rings.fetch_add(1, Ordering::SeqCst);
+        if self.waiting.load(Ordering::SeqCst) != 0 {
+            self.rings.wake_one();
+        }
+    }
+
+    /// Rings for all who wait.
+    pub fn ring(&self) {
+        self.rings.fetch_add(1, Ordering::SeqCst);
+        if self.waiting.load(Ordering::SeqCst) != 0 {
+            self.rings.wake_all();
+        }
+    }
+
+    /// Sleeps while the count is this one.
+    pub fn wait<R: Wait>(&self, rt: &R, heard: u32) {
+        self.waiting.fetch_add(1, Ordering::SeqCst);
+        self.rings.park(rt, heard);
+        self.waiting.fetch_sub(1, Ordering::SeqCst);
+    }
+
+    /// The same, for so many milliseconds at most.
+    pub fn wait_for<R: Wait>(&self, rt: &R, heard: u32, millis: u64) {
+        self.waiting.fetch_add(1, Ordering::SeqCst);
+        self.rings
+            .park_timeout(rt, heard, Duration::from_millis(millis));
+        self.waiting.fetch_sub(1, Ordering::SeqCst);
+    }
+}
+
+/// The bells of a session, by who waits for them.
+#[derive(Drop)]
+pub(crate) struct Bells {
+    /// A worker waits where no call is ready.
+    pub workers: Bell,
+    /// The reader waits where a queue is full.
+    pub reader: Bell,
+    /// The pump waits where no item does.
+    pub pump: Bell,
+    /// The writer waits where the ring is empty.
+    pub writer: Bell,
+    /// Each thread but the reader rings it when it begins, and the reader waits for all.
+    pub begun: Bell,
+}
+
+impl Bells {
+    pub fn new() -> Bells {
+        Bells {
+            workers: Bell::new(),
+            reader: Bell::new(),
+            pump: Bell::new(),
+            writer: Bell::new(),
+            begun: Bell::new(),
+        }
+    }
+
+    /// Rings for each thread.
+    pub fn ring_all(&self) {
+        self.workers.ring();
+        self.reader.ring();
+        self.pump.ring();
+        self.writer.ring();
+    }
+}
