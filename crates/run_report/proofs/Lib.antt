@@ -1,1 +1,3 @@
+mod ByCallLemmas
 mod CallLemmas
+mod Examples

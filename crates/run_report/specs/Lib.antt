@@ -1,4 +1,7 @@
+pub mod ConnectionReport
+pub mod CrewReport
 pub mod Items
+pub mod ItemsByCall
 pub mod Lines
 pub mod Load
 pub mod Report

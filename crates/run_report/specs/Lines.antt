@@ -14,6 +14,8 @@ use Rattle.rpc_packet.specs.Message.{message_of}
 use Rattle.rpc_frames.specs.declared.counts.Counts.{Counts}
 use Rattle.rpc_schedule.specs.declared.ending.Ending.{Ending}
 use Rattle.rpc_schedule.specs.declared.ending.Ending.TheVariants.{AtEnd, SourceFault, StoreFault, InputLimit, JournalLimit}
+use Rattle.link_io.specs.declared.why.Why.{Why}
+use Rattle.link_io.specs.declared.why.Why.TheVariants as why
 use Rattle.rpc_frames.specs.Written.{frame_of_packet}
 
 -- these words with a blank between each two, and a newline
@@ -55,6 +57,25 @@ out_line packet = line (codes "out" ∷ encode_lower (frame_of_packet (message_o
 unfoldable pub stored_line : ℕ → ℕ → List ℕ
 stored_line resource length = line (codes "stored" ∷ decimal resource ∷ decimal length ∷ [])
 
+-- the number of a call; what belongs to no call has a dash
+abbrev pub number_of : Option ℕ → List ℕ
+number_of None = codes "-"
+number_of (Some call) = decimal call
+
+-- a packet that went out, behind the number of its call
+unfoldable pub numbered_out_line : Option ℕ → Packet → List ℕ
+numbered_out_line call packet =
+    line (codes "out" ∷ number_of call ∷ encode_lower (frame_of_packet (message_of packet)) ∷ [])
+
+-- an upload that ended well, behind the number of its call
+unfoldable pub numbered_stored_line : ℕ → ℕ → ℕ → List ℕ
+numbered_stored_line call resource length =
+    line (codes "stored" ∷ decimal call ∷ decimal resource ∷ decimal length ∷ [])
+
+-- a connection, by its number
+unfoldable pub connection_line : ℕ → List ℕ
+connection_line number = line (codes "conn" ∷ decimal number ∷ [])
+
 -- how the reading of the stream ended
 abbrev pub ending_text : Ending → List ℕ
 ending_text AtEnd = codes "done"
@@ -65,3 +86,13 @@ ending_text JournalLimit = codes "limit journal 1000000"
 
 abbrev pub ending_line : Ending → List ℕ
 ending_line ending = line (ending_text ending ∷ [])
+
+-- why a session ended, in the words of a stream's ending where it has some; want of memory has no line
+abbrev pub why_line : Why → List ℕ
+why_line why.Settled = ending_line AtEnd
+why_line why.Source = ending_line SourceFault
+why_line why.Sink = line (codes "sink fault" ∷ [])
+why_line why.Store = ending_line StoreFault
+why_line why.InputLimit = ending_line InputLimit
+why_line why.JournalLimit = ending_line JournalLimit
+why_line why.Memory = []

@@ -81,8 +81,8 @@ fn add_stored(upload: Option<Upload>, text: &mut String) -> Result<(), AllocErro
     }
 }
 
-// What an item does to the uploads under way.
-fn go_behind(uploads: &mut Uploads, item: &Item) -> Result<(), AllocError>
+/// What an item does to the uploads under way.
+pub(crate) fn go_behind(uploads: &mut Uploads, item: &Item) -> Result<(), AllocError>
     ensures { OnOk result (uploads.new ≡ behind_item item.now.call item.now.act uploads.old) }
 {
     let Some(call) = item.call else {
@@ -114,7 +114,7 @@ fn go_behind_out(uploads: &mut Uploads, call: u32, out: &Out) -> Result<(), Allo
     Ok(())
 }
 
-fn key(call: u32, session: u32) -> StoreKey
+pub(crate) fn key(call: u32, session: u32) -> StoreKey
     ensures { result ≡ key call session }
 {
     StoreKey { call, session }

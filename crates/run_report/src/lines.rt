@@ -1,8 +1,12 @@
 //! The lines of a report, each a function that appends it.
 
-ghost use Rattle.std.specs.Prelude.{◌≡◌, ◌++◌, OnOk, string_bytes};
-ghost use Rattle.run_report.specs.Lines.{frames_line, call_line, out_line, stored_line, ending_line, ending_text, kind_name, end_name};
+ghost use Rattle.std.specs.Prelude.{◌≡◌, ◌++◌, IfOk, OnOk, string_bytes};
+ghost use Rattle.run_report.specs.Lines.{frames_line, call_line, out_line, stored_line, numbered_out_line, numbered_stored_line, connection_line, ending_line, ending_text, why_line, kind_name, end_name};
+ghost use Rattle.hex.specs.Hex.{encode_lower};
+ghost use Rattle.rpc_frames.specs.Written.{frame_of_packet};
+ghost use Rattle.rpc_packet.specs.Message.{message_of};
 
+use link_io::Why;
 use rpc_frames::{Counts, write_frame};
 use rpc_ids::{Kind, Status};
 use rpc_packet::{CallName, Packet};
@@ -77,10 +81,34 @@ pub(crate) fn add_out_line(
 ) -> Result<(), AllocError>
     ensures { OnOk result (string_bytes text.new ≡ string_bytes text.old ++ out_line packet.now) }
 {
+    let digits = frame_digits(alloc, packet)?;
+    writeln!(text, "out {digits}")
+}
+
+/// A packet behind the number of its call, or behind a dash.
+#[tactic(auto, unfolding(crate::specs::Lines::numbered_out_line))]
+pub(crate) fn add_numbered_out_line(
+    alloc: Global,
+    call: Option<u32>,
+    packet: &Packet,
+    text: &mut String,
+) -> Result<(), AllocError>
+    ensures { OnOk result (string_bytes text.new ≡ string_bytes text.old ++ numbered_out_line call packet.now) }
+{
+    let digits = frame_digits(alloc, packet)?;
+    match call {
+        None => writeln!(text, "out - {digits}"),
+        Some(call) => writeln!(text, "out {call} {digits}"),
+    }
+}
+
+// The digits of a packet's frame.
+fn frame_digits(alloc: Global, packet: &Packet) -> Result<String, AllocError>
+    ensures { IfOk result (λ digits. string_bytes digits ≡ encode_lower (frame_of_packet (message_of packet.now))) }
+{
     let mut frame = Vec::new(alloc);
     write_frame(alloc, packet, &mut frame)?;
-    let digits = hex::encode(alloc, frame.as_slice())?;
-    writeln!(text, "out {digits}")
+    hex::encode(alloc, frame.as_slice())
 }
 
 /// An upload that ended well.
@@ -95,12 +123,47 @@ pub(crate) fn add_stored_line(
     writeln!(text, "stored {resource} {length}")
 }
 
+/// The same behind the number of its call.
+#[tactic(auto, unfolding(crate::specs::Lines::numbered_stored_line))]
+pub(crate) fn add_numbered_stored_line(
+    call: u32,
+    resource: u32,
+    length: u64,
+    text: &mut String,
+) -> Result<(), AllocError>
+    ensures { OnOk result (string_bytes text.new ≡ string_bytes text.old ++ numbered_stored_line call resource length) }
+{
+    writeln!(text, "stored {call} {resource} {length}")
+}
+
+#[tactic(auto, unfolding(crate::specs::Lines::connection_line))]
+pub(crate) fn add_connection_line(number: u32, text: &mut String) -> Result<(), AllocError>
+    ensures { OnOk result (string_bytes text.new ≡ string_bytes text.old ++ connection_line number) }
+{
+    writeln!(text, "conn {number}")
+}
+
 /// The last line.
 pub(crate) fn add_ending_line(ending: Ending, text: &mut String) -> Result<(), AllocError>
     ensures { OnOk result (string_bytes text.new ≡ string_bytes text.old ++ ending_line ending) }
 {
     let ending = ending_text(ending);
     writeln!(text, "{ending}")
+}
+
+/// The last line by the reason of a session's end. Want of memory has none.
+pub(crate) fn add_why_line(why: Why, text: &mut String) -> Result<(), AllocError>
+    ensures { OnOk result (string_bytes text.new ≡ string_bytes text.old ++ why_line why) }
+{
+    match why {
+        Why::Settled => add_ending_line(Ending::AtEnd, text),
+        Why::Source => add_ending_line(Ending::SourceFault, text),
+        Why::Sink => writeln!(text, "sink fault"),
+        Why::Store => add_ending_line(Ending::StoreFault, text),
+        Why::InputLimit => add_ending_line(Ending::InputLimit, text),
+        Why::JournalLimit => add_ending_line(Ending::JournalLimit, text),
+        Why::Memory => Ok(()),
+    }
 }
 
 fn ending_text(ending: Ending) -> &'static str

@@ -42,8 +42,8 @@ pub fn last_line(alloc: Global, ending: Ending) -> Result<String, AllocError>
     Ok(text)
 }
 
-// A line for each call, by number.
-fn add_call_lines<H: Handler>(
+/// A line for each call, by number.
+pub(crate) fn add_call_lines<H: Handler>(
     alloc: Global,
     calls: &Calls<H>,
     text: &mut String,

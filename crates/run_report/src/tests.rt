@@ -2,6 +2,8 @@
 ghost use Rattle.std.specs.Prelude.{◌≡◌, ◌≢◌, [], IfOk};
 ghost use Rattle.rpc_ids.specs.declared.method.Role.TheVariants.{Server};
 
+mod by_calls;
+
 use crate::{frame_bytes, load_text, report_text};
 use bytes::Bytes;
 use demo_services::{DemoCall, DemoMaker, demo_registry};
