@@ -10,6 +10,8 @@ mod loss;
 mod report;
 mod script;
 mod stock;
+#[cfg(test)]
+mod tests;
 
 pub use command::{Command, MAX_MESSAGE};
 pub use laws::numbers_of_a_script;

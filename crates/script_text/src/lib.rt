@@ -14,6 +14,8 @@ mod read_loss;
 mod read_setting;
 mod reading;
 mod stand;
+#[cfg(test)]
+mod tests;
 
 pub use printing::{add_bad_line, print_report};
 pub use reading::{BadLine, read_script};

@@ -11,6 +11,8 @@ mod machine;
 mod polling;
 mod read_task;
 mod stages;
+#[cfg(test)]
+mod tests;
 mod upload;
 mod write_task;
 
