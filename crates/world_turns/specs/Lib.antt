@@ -1,0 +1,11 @@
+pub mod World
+pub mod Setup
+pub mod Committed
+pub mod Client
+pub mod Starts
+pub mod Lines
+pub mod Turns
+pub mod Limits
+pub mod Reports
+pub mod Sound
+pub mod Rows
