@@ -1,0 +1,10 @@
+pub mod Growing
+pub mod Links
+pub mod Keeping
+pub mod Parts
+pub mod Ways
+pub mod Unknown
+pub mod Speaking
+pub mod OneWork
+pub mod OneRun
+pub mod Order
