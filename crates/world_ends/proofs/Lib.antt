@@ -1,0 +1,4 @@
+pub mod OutLemmas
+pub mod RestLemmas
+mod ChannelLemmas
+mod StockLemmas

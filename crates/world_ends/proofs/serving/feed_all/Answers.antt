@@ -1,0 +1,42 @@
+use Rattle.std.proofs.Common.{◌≡◌, ℕ, ◌++◌, arith, subst, sym, ap, length-take, length-drop}
+use Rattle.std.proofs.lemmas.List.{append-nil}
+use Rattle.rpc_ids.specs.declared.method.Role.TheVariants.{Server as server_role}
+use Rattle.rpc_schedule.proofs.InputLemmas.{feed_steps}
+use Rattle.rpc_schedule.proofs.StreamLemmas.{piece_parts}
+use Rattle.world_ends.proofs.OutLemmas.{goes_out_none, goes_out_then}
+use Rattle.world_ends.proofs.RestLemmas.{resting_fed, takes_fed, takes_none}
+use Rattle.world_ends.proofs.serving.feed_all.Goals as goal
+
+pub frames-init : goal.frames-init
+frames-init g c = record {
+  within = omega arith;
+  rest = c.requires.rest;
+  takes = takes_none g.T.Serves.rule (g.T.Serves.seen c.args.server.now);
+  items = c.requires.items;
+  out = goes_out_none server_role c.args.items.now.items c.args.wires.now;
+  holds = λ st before. before;
+  fed = λ s stands. subst (g.T.Serves.stands c.args.server.now) (sym (append-nil s)) stands;
+}
+
+pub settle-requires-clause-orderly : goal.settle-requires-clause-orderly
+settle-requires-clause-orderly g c =
+    let seen = g.T.Serves.seen in
+    (feed_steps (seen c.frames.server) (seen c.feed.new.self) c.in_ok-count.count c.frames.invariant.rest.orderly c.in_ok-count.ensures.step).0
+
+pub frames-preserved : goal.frames-preserved
+frames-preserved g c =
+    let seen = g.T.Serves.seen in
+    let rule = g.T.Serves.rule in
+    let count = c.in_ok-count.count in
+    record {
+      within = omega (arith, c.in_ok-count.ensures.fed.within, c.frames.invariant.within, length-take {A = ℕ}, length-drop {A = ℕ});
+      rest = resting_fed rule (seen c.frames.server) (seen c.feed.new.self) (seen c.settle.new.server) count c.frames.invariant.rest c.in_ok-count.ensures.step c.in_ok-settle.ensures.ok;
+      takes = takes_fed rule (seen c.args.server.now) (seen c.frames.server) (seen c.feed.new.self) (seen c.settle.new.server) count c.frames.invariant.rest c.frames.invariant.takes
+          c.in_ok-count.ensures.step c.in_ok-settle.ensures.ok;
+      items = c.in_ok-settle.ensures.items;
+      out = goes_out_then server_role c.args.items.now.items c.frames.items.items c.settle.new.items.items c.args.wires.now c.frames.wires c.settle.new.wires
+          c.frames.invariant.out c.in_ok-settle.ensures.out;
+      holds = λ st before. c.in_ok-settle.ensures.holds st (c.frames.invariant.holds st before);
+      fed = λ s stood. subst (g.T.Serves.stands c.settle.new.server) (piece_parts s c.args.frame.now c.frames.done count)
+          (c.in_ok-settle.ensures.fed _ (c.in_ok-count.ensures.fed.fed _ (c.frames.invariant.fed s stood)));
+    }

@@ -1,0 +1,4 @@
+pub mod Stops
+pub mod Wiring
+pub mod Resting
+pub mod ServerSide
