@@ -1,0 +1,13 @@
+pub mod ByPackets
+pub mod Compare
+pub mod Drive
+pub mod Examples
+pub mod Follow
+pub mod Given
+pub mod Handling
+pub mod Phases
+pub mod ReportLemmas
+pub mod Rows
+pub mod Said
+pub mod Same
+pub mod Words
