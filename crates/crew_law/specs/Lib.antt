@@ -1,0 +1,2 @@
+pub mod CalmLoads
+pub mod CalmSessions
