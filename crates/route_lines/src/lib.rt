@@ -10,3 +10,4 @@ mod running;
 mod tests;
 
 pub use lines::{LinesRefused, route_text};
+pub use printing::push_tally;

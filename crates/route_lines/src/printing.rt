@@ -20,9 +20,9 @@ pub(crate) fn push_frame(
     writeln!(out, "{side} {digits}")
 }
 
-/// How the segments that came from a side were counted.
+/// Appends a line that tells how the segments that came from a side were counted.
 #[tactic(auto, unfolding(crate::specs::Printed::tally_line))]
-pub(crate) fn push_tally(from: Port, tally: Tally, out: &mut String) -> Result<(), AllocError>
+pub fn push_tally(from: Port, tally: Tally, out: &mut String) -> Result<(), AllocError>
     ensures { OnOk result (string_bytes out.new ≡ string_bytes out.old ++ tally_line from tally) }
 {
     let side = side_name(from);

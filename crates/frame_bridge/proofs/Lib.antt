@@ -1,0 +1,2 @@
+mod BridgeLemmas
+mod StartLemmas
