@@ -1,10 +1,11 @@
-//! The program over the real ends: the words of the command line, standard input and standard output, and the folder
-//! `store`, which is made where it isn't there. All that it does is [`pw_run::run_recorded`]; nothing goes to standard
+//! The program over the real ends: the words of the command line, standard input and standard output, the folder `store`, which is
+//! made where it isn't there, Unix sockets and the system's clock. All that it does is [`pw_run::run`]; nothing goes to standard
 //! error.
 #![tactic(auto)]
 
-use link_io::{FolderStore, StdIn, StdOut};
-use pw_run::{Outcome, run_recorded};
+use link_io::{FolderStore, StdIn, StdOut, UnixLinker, WallClock};
+use pw_run::{Outcome, run};
+use rpc_crew::Free;
 use std::process::ExitCode;
 use std::{env, fs, io};
 
@@ -14,25 +15,25 @@ const STORE: &str = "store";
 fn main(rt: HostRuntime) -> ExitCode {
     // Without the folder the store can't be listed, which the run tells.
     let _ = fs::create_dir_all(&rt, STORE);
-    let status = match words(&rt) {
-        Err(outcome) => outcome.code(),
-        Ok(words) => run(&rt, &words),
+    let words = match words(&rt) {
+        Ok(words) => words,
+        Err(outcome) => return ExitCode::from(outcome.code()),
     };
-    ExitCode::from(status)
-}
-
-// The exit status of a run over the real ends.
-fn run(rt: &HostRuntime, words: &[String]) -> u8 {
-    let Ok(mut store) = FolderStore::new(rt.alloc(), rt, STORE) else {
-        return Outcome::NoMemory.code();
+    let Ok(mut store) = FolderStore::new(rt.alloc(), &rt, STORE) else {
+        return ExitCode::from(Outcome::NoMemory.code());
     };
-    run_recorded(
+    let status = run(
+        &rt,
         rt.alloc(),
-        words,
+        &words,
         &mut StdIn::new(rt.stdin()),
         &mut StdOut::new(rt.stdout()),
         &mut store,
-    )
+        &mut UnixLinker::new(rt.alloc(), &rt),
+        &mut WallClock::new(&rt),
+        &Free,
+    );
+    ExitCode::from(status)
 }
 
 // The words behind the program's name. Words that are no text are no command.

@@ -4,10 +4,7 @@ use Rattle.std.proofs.lemmas.Bool.{leb-true, true≢false}
 use Rattle.std.proofs.lemmas.List.FromFn.{length-map-range_with_len}
 use Rattle.rpc_ids.specs.declared.status.Status.TheVariants.{Okay, InvalidArgument}
 use Rattle.rpc_handlers.specs.declared.answer.Out.TheVariants.{Say}
-use Rattle.rpc_packet.specs.declared.owned.Packet.{Packet}
 use Rattle.rpc_handlers.specs.declared.event.Event.{Event}
-use Rattle.rpc_handlers.specs.declared.event.Memo.{Memo}
-use Rattle.rpc_journal.specs.declared.setting.Setting.{Setting}
 use Rattle.rpc_handlers.specs.declared.event.Event.TheVariants.{Request, Message, Completion, Ended, Tick}
 use Rattle.rpc_handlers.specs.Limits.{is_long}
 use Rattle.demo_services.specs.declared.call.DemoCall.{DemoCall}

@@ -1,5 +1,5 @@
 -- The calls of a load are of demo.Demo alone, and none of them becomes a transfer.
-use Rattle.std.proofs.Common.{◌≡◌, ℕ, zero, suc, ◌%◌, Bool, true, false, ◌==◌, ◌&&◌, List, [], ◌∷◌, ◌++◌, map, find, Option, Some, None, cond, if◌then◌else◌, refl, ap, sym, ◌∙◌, subst}
+use Rattle.std.proofs.Common.{◌≡◌, ℕ, zero, suc, ◌%◌, Bool, true, false, ◌==◌, List, [], ◌∷◌, ◌++◌, Some, None, cond, if◌then◌else◌, refl, ap, sym, ◌∙◌, subst}
 use Rattle.std.proofs.lemmas.Bool.{true≢false, and_parts, eqb-true}
 use mathlib.Core.List.{IsPrefix}
 use Rattle.rpc_ids.specs.declared.method.MethodRef.{MethodRef}
@@ -8,18 +8,17 @@ use Rattle.rpc_ids.specs.Names.{name_id}
 use Rattle.rpc_ids.specs.Registry.{has_ids, method_of}
 use Rattle.rpc_packet.specs.declared.call_name.CallName.{CallName}
 use Rattle.rpc_packet.specs.declared.owned.Packet.{Packet}
-use Rattle.rpc_packet.specs.declared.packet_type.PacketType.TheVariants.{ClientStream, Completion, Request}
+use Rattle.rpc_packet.specs.declared.packet_type.PacketType.TheVariants.{Completion, Request}
 use Rattle.rpc_handlers.specs.declared.event.Event.{Event}
 use Rattle.rpc_handlers.specs.declared.event.Memo.{Memo}
 use Rattle.rpc_journal.specs.declared.setting.Setting.{Setting}
-use Rattle.rpc_journal.specs.Rows.{method_named}
 use Rattle.rpc_journal.proofs.PlaceLemmas.{some_same}
 use Rattle.demo_services.specs.declared.call.DemoCall.{DemoCall}
 use Rattle.demo_services.specs.declared.call.DemoCall.TheVariants.{Echo, Count, Sum, Chat, Log, Transfer}
 use Rattle.demo_services.specs.declared.ids.TheConstants.{DEMO, ECHO, COUNT, SUM, CHAT}
 use Rattle.demo_services.specs.DemoCall.{call_after, call_of, memo_of}
-use Rattle.demo_services.specs.DemoRule.{demo_rule, first_by, first_call, plain_call, transfer_side}
-use Rattle.demo_services.specs.Methods.{is_named, is_transfer, transfer_id}
+use Rattle.demo_services.specs.DemoRule.{demo_rule, first_by, plain_call, transfer_side}
+use Rattle.demo_services.specs.Methods.{transfer_id}
 use Rattle.load_stream.specs.Generator.{number_after}
 use Rattle.load_stream.specs.Load.{call_name, call_packets, count_in, highest_bytes, load_packets, messages, packet, streamed}
 use Rattle.schedule_size.specs.Size.{BeginGood}

@@ -1,7 +1,12 @@
 mod ChannelLemmas
+mod CrewLemmas
 mod DemoSizes
 mod FullLemmas
 mod GoodCalls
+mod LinkCounts
+mod LinkLemmas
 mod LoadSizes
+mod ServeLemmas
 mod ServedLemmas
+mod WordLemmas
 mod WritesLemmas

@@ -2,8 +2,10 @@
 use Rattle.std.specs.Prelude.{ℕ}
 use Rattle.rpc_schedule.specs.declared.ending.Ending.{Ending}
 use Rattle.rpc_schedule.specs.declared.ending.Ending.TheVariants as ended
+use Rattle.link_io.specs.declared.why.Why.{Why}
+use Rattle.link_io.specs.declared.why.Why.TheVariants as reason
 use Rattle.pw_run.specs.declared.outcome.Outcome.{Outcome}
-use Rattle.pw_run.specs.declared.outcome.Outcome.TheVariants.{Done, NoMemory, BadWords, SourceFault, SinkFault, StoreFault, BadLine, InputLimit, JournalLimit}
+use Rattle.pw_run.specs.declared.outcome.Outcome.TheVariants.{Done, NoMemory, BadWords, SourceFault, SinkFault, StoreFault, LinkFault, BadLine, InputLimit, JournalLimit}
 
 abbrev pub code_of : Outcome → ℕ
 code_of Done = 0
@@ -12,6 +14,7 @@ code_of BadWords = 2
 code_of SourceFault = 3
 code_of SinkFault = 4
 code_of StoreFault = 5
+code_of LinkFault = 6
 code_of BadLine = 7
 code_of InputLimit = 8
 code_of JournalLimit = 8
@@ -23,6 +26,16 @@ outcome_of ended.SourceFault = SourceFault
 outcome_of ended.StoreFault = StoreFault
 outcome_of ended.InputLimit = InputLimit
 outcome_of ended.JournalLimit = JournalLimit
+
+-- the outcome of a session that ended for this reason, and whose text was written whole
+abbrev pub outcome_for : Why → Outcome
+outcome_for reason.Settled = Done
+outcome_for reason.Source = SourceFault
+outcome_for reason.Sink = SinkFault
+outcome_for reason.Store = StoreFault
+outcome_for reason.InputLimit = InputLimit
+outcome_for reason.JournalLimit = JournalLimit
+outcome_for reason.Memory = NoMemory
 
 -- with these outcomes nothing was written
 abbrev pub IsSilent : Outcome → Type 0

@@ -4,9 +4,10 @@ use Rattle.std.specs.Io.KnownBytes.{Consumes, IsAtEnd}
 use Rattle.pw_run.specs.declared.outcome.Outcome.{Outcome}
 use Rattle.pw_run.specs.declared.outcome.Outcome.TheVariants.{NoMemory}
 use Rattle.pw_run.specs.declared.text_command.TextCommand.{TextCommand}
-use Rattle.pw_run.specs.declared.text_command.TextCommand.TheVariants.{Check, Detoken}
+use Rattle.pw_run.specs.declared.text_command.TextCommand.TheVariants.{Check, Detoken, Route}
 use Rattle.pw_run.specs.Check.{TellsVerdict}
 use Rattle.pw_run.specs.Detoken.{TellsMessages}
+use Rattle.pw_run.specs.Route.{TellsRoutes}
 use Rattle.pw_run.specs.Texts.{FailsToRead, MeetsLimit, limit_of, outcome_on}
 use Rattle.pw_run.specs.Writes.{Writes}
 
@@ -14,6 +15,7 @@ use Rattle.pw_run.specs.Writes.{Writes}
 abbrev pub Tells : TextCommand → List ℕ → List ℕ → Bool → Type 0
 Tells Check text told good = TellsVerdict text told good
 Tells Detoken text told good = TellsMessages text told good
+Tells Route text told good = TellsRoutes text told good
 
 -- what the command tells of this text was written
 pub record WritesAll (command : TextCommand) (text : List ℕ) (written_old written_new : Option (List ℕ)) (outcome : Outcome) : Type 0 where

@@ -7,7 +7,7 @@ use Rattle.run_report.specs.Lines.{line}
 use Rattle.pw_run.specs.declared.outcome.Outcome.{Outcome}
 use Rattle.pw_run.specs.declared.outcome.Outcome.TheVariants.{Done, NoMemory, SourceFault, BadLine, InputLimit}
 use Rattle.pw_run.specs.declared.text_command.TextCommand.{TextCommand}
-use Rattle.pw_run.specs.declared.text_command.TextCommand.TheVariants.{Check, Detoken}
+use Rattle.pw_run.specs.declared.text_command.TextCommand.TheVariants.{Check, Detoken, Route}
 use Rattle.pw_run.specs.declared.text_command.TheConstants.{TEXT_LIMIT}
 use Rattle.pw_run.specs.Writes.{Writes}
 
@@ -15,6 +15,7 @@ use Rattle.pw_run.specs.Writes.{Writes}
 abbrev pub limit_of : TextCommand → ℕ
 limit_of Check = INPUT_LIMIT
 limit_of Detoken = TEXT_LIMIT
+limit_of Route = TEXT_LIMIT
 
 -- the outcome of a run that has told of a text whose lines were good or not
 abbrev pub outcome_on : Bool → Outcome

@@ -1,13 +1,15 @@
-//! What the recorded commands serve: the demo service, on channels 1 to 8, over what a store lists.
+//! What the commands serve: the demo service, on channels 1 to 8, over what a store lists.
 ghost use Rattle.std.specs.Prelude.{◌≡◌, ◌≢◌, [], None, IfOk, OnOk};
 ghost use Rattle.rpc_channel.specs.Rising.{with_id};
 ghost use Rattle.rpc_ids.specs.declared.method.Role.TheVariants.{Server as server_role};
 ghost use Rattle.rpc_schedule.specs.ends.EndState.{WasFed};
+ghost use Rattle.demo_services.specs.Transfer.{demo_seed};
 ghost use Rattle.pw_run.specs.Demo.{demo_channels, demo_setting, no_shelf};
 
 use demo_services::{DemoMaker, demo_registry};
 use link_io::{Fulls, Lefts, Shelf};
 use rpc_channel::Channels;
+use rpc_handlers::Maker;
 use rpc_server::Server;
 use std::alloc::{AllocError, Global};
 use transfer_chunk::Tuning;
@@ -24,15 +26,22 @@ pub(crate) fn server(alloc: Global, shelf: Shelf) -> Result<Server<DemoMaker>, A
 {
     let channels = channels(alloc)?;
     let registry = demo_registry(alloc)?;
-    let maker = DemoMaker::new(
+    let maker = maker(alloc, shelf)?;
+    Server::new(alloc, channels, registry, maker)
+}
+
+/// The maker of the calls of the demo service over this shelf.
+pub(crate) fn maker(alloc: Global, shelf: Shelf) -> Result<DemoMaker, AllocError>
+    ensures { IfOk result (λ maker. ⟦<DemoMaker as Maker>⟧.seed_memo maker ≡ demo_seed shelf 4 256) }
+{
+    DemoMaker::new(
         alloc,
         shelf,
         Tuning {
             window: 4,
             chunk: 256,
         },
-    )?;
-    Server::new(alloc, channels, registry, maker)
+    )
 }
 
 /// A shelf without a resource.

@@ -1,18 +1,27 @@
 //! The program: the words of its command line, what it reads, what it writes, and its exit status.
-//! It waits for nobody and touches no device of its own: [`run_recorded`] works over any source, sink and store, and says
-//! of each command and each exit status what was read, written and stored. Enter there.
+//! It touches no device of its own: [`run`] works over any source, sink, store, linker and clock, and says of each command and
+//! each exit status what was read, written and stored. Enter there. [`run_recorded`] has the commands that wait for nobody.
 #![tactic(auto)]
 
+mod bridge;
 mod check;
 mod command;
+mod crew;
 mod demo;
 mod detoken;
 pub mod laws;
+mod link_served;
+mod live_command;
 mod load;
 mod no_store;
+mod nowhere;
 mod outcome;
 mod recorded;
 mod replay;
+mod route;
+mod running;
+mod serve;
+mod served_text;
 mod telling;
 #[cfg(test)]
 mod tests;
@@ -22,6 +31,8 @@ mod writing;
 
 pub use command::{Command, Form, MAX_LOAD};
 pub use demo::LAST_CHANNEL;
+pub use live_command::{LiveCommand, MAX_CONNECTIONS, MAX_WORKERS};
 pub use outcome::Outcome;
 pub use recorded::run_recorded;
+pub use running::run;
 pub use text_command::{TEXT_LIMIT, TextCommand};

@@ -3,7 +3,7 @@ ghost use Rattle.std.specs.Prelude.{◌≡◌, ◌≢◌, ◌≤◌, false};
 ghost use Rattle.link_io.specs.Causes.{Rose};
 ghost use Rattle.run_report.specs.Load.{load_report};
 ghost use Rattle.pw_run.specs.declared.command.TheConstants.{MAX_LOAD};
-ghost use Rattle.pw_run.specs.declared.outcome.Outcome.TheVariants.{BadWords, SinkFault, SourceFault, StoreFault};
+ghost use Rattle.pw_run.specs.declared.outcome.Outcome.TheVariants.{BadWords, LinkFault, SinkFault, SourceFault, StoreFault};
 ghost use Rattle.pw_run.specs.Load.{DidLoad, WritesLoad};
 ghost use Rattle.pw_run.specs.Outcome.{IsSilent};
 
@@ -23,6 +23,7 @@ pub(crate) fn load<O: Sink>(alloc: Global, calls: u32, seed: u64, output: &mut O
     requires fits { calls ≤ MAX_LOAD }
     requires open { O.finished output.old ≡ false }
     ensures words { result ≢ BadWords }
+    ensures link { result ≢ LinkFault }
     ensures store { result ≢ StoreFault }
     ensures fault { result ≢ SourceFault }
     ensures did { DidLoad calls seed (O.written output.old) (O.written output.new) result }
@@ -57,6 +58,7 @@ fn write_load<O: Sink>(
     output: &mut O,
 ) -> Outcome
     requires open { O.finished output.old ≡ false }
+    ensures link { result ≢ LinkFault }
     ensures writes { WritesLoad (load_report calls seed items.now) Outcome.Done (O.written output.old) (O.written output.new) result }
     ensures silent { IsSilent result → output.new ≡ output.old }
     ensures sink { result ≡ SinkFault → Rose (O.faults output.old) (O.faults output.new) }

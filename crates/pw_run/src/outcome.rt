@@ -1,5 +1,6 @@
 ghost use Rattle.std.specs.Prelude.{◌≡◌};
 
+use link_io::Why;
 use rpc_schedule::Ending;
 
 /// How a run of the program ended.
@@ -7,16 +8,18 @@ use rpc_schedule::Ending;
 pub enum Outcome {
     /// The input was read to its end, and what belongs to it was written.
     Done,
-    /// There was no memory. Nothing was written.
+    /// There was no memory. Nothing was written, but for the lines of connections that were served before.
     NoMemory,
     /// The words are no command. Nothing was read or written.
     BadWords,
-    /// A read of the input failed, and what belongs to the bytes before it was written.
+    /// A read of the input or of a link failed, and what belongs to the bytes before it was written.
     SourceFault,
-    /// A write of the output failed.
+    /// A write of the output or of a link failed.
     SinkFault,
     /// The store failed. What belongs to the items that went out before was written.
     StoreFault,
+    /// There was no place to listen at, or a connection couldn't be accepted or made.
+    LinkFault,
     /// A line of the text that was read is bad, and its number was written.
     BadLine,
     /// So many bytes were read as an input may have, and what belongs to them was written.
@@ -26,7 +29,7 @@ pub enum Outcome {
 }
 
 impl Outcome {
-    ghost use Rattle.pw_run.specs.Outcome.{code_of, outcome_of};
+    ghost use Rattle.pw_run.specs.Outcome.{code_of, outcome_for, outcome_of};
 
     /// The exit status of the program.
     pub fn code(self) -> u8
@@ -39,6 +42,7 @@ impl Outcome {
             Outcome::SourceFault => 3,
             Outcome::SinkFault => 4,
             Outcome::StoreFault => 5,
+            Outcome::LinkFault => 6,
             Outcome::BadLine => 7,
             Outcome::InputLimit | Outcome::JournalLimit => 8,
         }
@@ -54,6 +58,21 @@ impl Outcome {
             Ending::StoreFault => Outcome::StoreFault,
             Ending::InputLimit => Outcome::InputLimit,
             Ending::JournalLimit => Outcome::JournalLimit,
+        }
+    }
+
+    /// The outcome of a session that ended for this reason, and whose text was written whole.
+    pub(crate) fn of_session(why: Why) -> Outcome
+        ensures { result ≡ outcome_for why }
+    {
+        match why {
+            Why::Settled => Outcome::Done,
+            Why::Source => Outcome::SourceFault,
+            Why::Sink => Outcome::SinkFault,
+            Why::Store => Outcome::StoreFault,
+            Why::InputLimit => Outcome::InputLimit,
+            Why::JournalLimit => Outcome::JournalLimit,
+            Why::Memory => Outcome::NoMemory,
         }
     }
 }

@@ -4,7 +4,7 @@ ghost use Rattle.link_io.specs.Reading.{ConsumesUpTo};
 ghost use Rattle.rpc_schedule.specs.declared.stream.TheConstants.{INPUT_LIMIT};
 ghost use Rattle.pw_run.specs.declared.command.Command.TheVariants.{Load};
 ghost use Rattle.pw_run.specs.declared.outcome.Outcome.{Outcome};
-ghost use Rattle.pw_run.specs.declared.outcome.Outcome.TheVariants.{BadWords, SinkFault, SourceFault, StoreFault};
+ghost use Rattle.pw_run.specs.declared.outcome.Outcome.TheVariants.{BadWords, LinkFault, SinkFault, SourceFault, StoreFault};
 ghost use Rattle.pw_run.specs.Command.{IsCommand, IsNoCommand};
 ghost use Rattle.pw_run.specs.Outcome.{code_of, IsSilent};
 ghost use Rattle.pw_run.specs.Recorded.{Did, EndsWith, Fits, IsStoreless};
@@ -21,9 +21,9 @@ use std::alloc::{AllocError, Global};
 ///
 /// `replay` serves the input as a recorded stream from a client, over the resources that the store lists, and writes a
 /// report, the frames that are sent, or the journal's text; uploads end in the store. `check` judges the input as such a
-/// text; `detoken` prints the log messages in the input by the formats in front of them; `load` serves a stream of its own
-/// making, and touches no input. Up to 67,108,864 bytes are read. The answer is the program's exit status, as
-/// [`Outcome::code`] tells it.
+/// text; `detoken` prints the log messages in the input by the formats in front of them; `route` routes the frames in the
+/// input by the routes in front of them; `load` serves a stream of its own making, and touches no input. Up to 67,108,864
+/// bytes are read. The answer is the program's exit status, as [`Outcome::code`] tells it.
 pub fn run_recorded<I: Source, O: Sink, S: Store>(
     alloc: Global,
     words: &[String],
@@ -34,6 +34,7 @@ pub fn run_recorded<I: Source, O: Sink, S: Store>(
     requires open { O.finished output.old ≡ false }
     ensures status { (outcome : Outcome) × (result ≡ code_of outcome) }
     ensures words { (result ≡ code_of BadWords) ↔ IsNoCommand (map string_bytes words.now) }
+    ensures link { result ≢ code_of LinkFault }
     ensures idle { result ≡ code_of BadWords → (input.new ≡ input.old) × (store.new ≡ store.old) }
 
     // What each command read, what it wrote behind what the output held, and what the store held and holds.
@@ -71,6 +72,7 @@ fn run<I: Source, O: Sink, S: Store>(
     requires fits { Fits command }
     requires open { O.finished output.old ≡ false }
     ensures words { result ≢ BadWords }
+    ensures link { result ≢ LinkFault }
     ensures read { ConsumesUpTo INPUT_LIMIT (I.left input.old) (I.left input.new) }
     ensures did { Did command (I.left input.old) (I.left input.new) (O.written output.old) (O.written output.new)
         (S.holds store.old) (S.holds store.new) result }

@@ -4,7 +4,7 @@ ghost use Rattle.link_io.specs.Causes.{Rose};
 ghost use Rattle.link_io.specs.Reading.{ConsumesUpTo};
 ghost use Rattle.rpc_schedule.specs.declared.stream.TheConstants.{INPUT_LIMIT};
 ghost use Rattle.journal_text.specs.Printed.{journal_text};
-ghost use Rattle.pw_run.specs.declared.outcome.Outcome.TheVariants.{BadWords, SinkFault, SourceFault, StoreFault};
+ghost use Rattle.pw_run.specs.declared.outcome.Outcome.TheVariants.{BadWords, LinkFault, SinkFault, SourceFault, StoreFault};
 ghost use Rattle.pw_run.specs.Outcome.{IsSilent};
 ghost use Rattle.pw_run.specs.Replay.{DidReplay, ServesShelf, WritesRun, no_counts, no_table, text_of};
 
@@ -30,6 +30,7 @@ pub(crate) fn replay<I: Source, O: Sink, S: Store>(
 ) -> Outcome
     requires open { O.finished output.old ≡ false }
     ensures words { result ≢ BadWords }
+    ensures link { result ≢ LinkFault }
     ensures read { ConsumesUpTo INPUT_LIMIT (I.left input.old) (I.left input.new) }
     ensures did { DidReplay form (I.left input.old) (I.left input.new) (O.written output.old) (O.written output.new)
         (S.holds store.old) (S.holds store.new) result }
@@ -59,6 +60,7 @@ fn serve<I: Source, O: Sink, S: Store>(
 ) -> Outcome
     requires open { O.finished output.old ≡ false }
     ensures words { result ≢ BadWords }
+    ensures link { result ≢ LinkFault }
     ensures read { ConsumesUpTo INPUT_LIMIT (I.left input.old) (I.left input.new) }
     ensures did { ServesShelf form shelf (I.left input.old) (I.left input.new) (O.written output.old) (O.written output.new)
         (S.holds store.old) (S.holds store.new) result }
@@ -88,6 +90,7 @@ fn write_nothing<O: Sink>(alloc: Global, form: Form, output: &mut O) -> Outcome
     requires open { O.finished output.old ≡ false }
     ensures writes { WritesRun form no_counts no_table [] Ending.StoreFault (O.written output.old) (O.written output.new) result }
     ensures words { result ≢ BadWords }
+    ensures link { result ≢ LinkFault }
     ensures source { result ≢ SourceFault }
     ensures silent { IsSilent result → output.new ≡ output.old }
     ensures sink { result ≡ SinkFault → Rose (O.faults output.old) (O.faults output.new) }
@@ -126,6 +129,7 @@ fn write_run<O: Sink>(
     requires open { O.finished output.old ≡ false }
     ensures writes { WritesRun form counts calls.now items.now ending (O.written output.old) (O.written output.new) result }
     ensures words { result ≢ BadWords }
+    ensures link { result ≢ LinkFault }
     ensures source { result ≡ SourceFault → ending ≡ Ending.SourceFault }
     ensures store { result ≡ StoreFault → ending ≡ Ending.StoreFault }
     ensures silent { IsSilent result → output.new ≡ output.old }

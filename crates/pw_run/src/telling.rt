@@ -3,13 +3,14 @@ ghost use Rattle.std.specs.Prelude.{◌≡◌, ◌≢◌, ◌≤◌, false, IfOk
 ghost use Rattle.link_io.specs.Causes.{Rose};
 ghost use Rattle.link_io.specs.Reading.{ConsumesUpTo};
 ghost use Rattle.rpc_schedule.specs.declared.stream.TheConstants.{INPUT_LIMIT};
-ghost use Rattle.pw_run.specs.declared.outcome.Outcome.TheVariants.{BadWords, SinkFault, SourceFault, StoreFault};
+ghost use Rattle.pw_run.specs.declared.outcome.Outcome.TheVariants.{BadWords, LinkFault, SinkFault, SourceFault, StoreFault};
 ghost use Rattle.pw_run.specs.Outcome.{IsSilent};
 ghost use Rattle.pw_run.specs.Texts.{limit_line, WritesLimit};
 ghost use Rattle.pw_run.specs.Tells.{DidText, Tells, WritesTold};
 
 use crate::check::check;
 use crate::detoken::detoken;
+use crate::route::route;
 use crate::told::{Told, outcome_on};
 use crate::writing::write_text;
 use crate::{Outcome, TextCommand};
@@ -26,6 +27,7 @@ pub(crate) fn tell<I: Source, O: Sink>(
 ) -> Outcome
     requires open { O.finished output.old ≡ false }
     ensures words { result ≢ BadWords }
+    ensures link { result ≢ LinkFault }
     ensures store { result ≢ StoreFault }
     ensures read { ConsumesUpTo INPUT_LIMIT (I.left input.old) (I.left input.new) }
     ensures did { DidText command (I.left input.old) (I.left input.new) (O.written output.old) (O.written output.new) result }
@@ -50,6 +52,7 @@ pub(crate) fn tell<I: Source, O: Sink>(
 fn write_limit<O: Sink>(alloc: Global, limit: usize, output: &mut O) -> Outcome
     requires open { O.finished output.old ≡ false }
     ensures words { result ≢ BadWords }
+    ensures link { result ≢ LinkFault }
     ensures source { result ≢ SourceFault }
     ensures store { result ≢ StoreFault }
     ensures writes { WritesLimit limit (O.written output.old) (O.written output.new) result }
@@ -75,6 +78,7 @@ fn limit_line(alloc: Global, limit: usize) -> Result<String, AllocError>
 fn write_told<O: Sink>(alloc: Global, command: TextCommand, text: &[u8], output: &mut O) -> Outcome
     requires open { O.finished output.old ≡ false }
     ensures words { result ≢ BadWords }
+    ensures link { result ≢ LinkFault }
     ensures source { result ≢ SourceFault }
     ensures store { result ≢ StoreFault }
     ensures writes { WritesTold command text.now (O.written output.old) (O.written output.new) result }
@@ -94,5 +98,6 @@ fn told_of(alloc: Global, command: TextCommand, text: &[u8]) -> Result<Told, All
     match command {
         TextCommand::Check => check(alloc, text),
         TextCommand::Detoken => detoken(alloc, text),
+        TextCommand::Route => route(alloc, text),
     }
 }

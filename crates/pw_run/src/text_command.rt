@@ -15,6 +15,8 @@ pub enum TextCommand {
     Check,
     /// Log messages are printed by their formats.
     Detoken,
+    /// Frames are routed between two sides.
+    Route,
 }
 
 impl TextCommand {
@@ -25,7 +27,7 @@ impl TextCommand {
     {
         match self {
             TextCommand::Check => INPUT_LIMIT,
-            TextCommand::Detoken => TEXT_LIMIT,
+            TextCommand::Detoken | TextCommand::Route => TEXT_LIMIT,
         }
     }
 }

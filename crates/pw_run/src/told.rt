@@ -1,6 +1,6 @@
 //! What a command tells of a text.
 ghost use Rattle.std.specs.Prelude.{◌≡◌, ◌≢◌, IfOk, string_bytes};
-ghost use Rattle.pw_run.specs.declared.outcome.Outcome.TheVariants.{BadWords, SinkFault, SourceFault, StoreFault};
+ghost use Rattle.pw_run.specs.declared.outcome.Outcome.TheVariants.{BadWords, LinkFault, SinkFault, SourceFault, StoreFault};
 ghost use Rattle.pw_run.specs.Outcome.{IsSilent};
 ghost use Rattle.pw_run.specs.Texts.{bad_line, outcome_on};
 
@@ -18,6 +18,7 @@ pub(crate) struct Told {
 pub(crate) fn outcome_on(is_good: bool) -> Outcome
     ensures value { result ≡ outcome_on is_good }
     ensures words { result ≢ BadWords }
+    ensures link { result ≢ LinkFault }
     ensures source { result ≢ SourceFault }
     ensures sink { result ≢ SinkFault }
     ensures store { result ≢ StoreFault }

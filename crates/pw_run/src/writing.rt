@@ -22,11 +22,13 @@ pub(crate) fn write_text<O: Sink>(output: &mut O, text: &[u8], outcome: Outcome)
     }
 }
 
-fn write_out<O: Sink>(output: &mut O, text: &[u8]) -> Result<(), Failed>
+/// Writes all of a text, and then flushes the output.
+pub(crate) fn write_out<O: Sink>(output: &mut O, text: &[u8]) -> Result<(), Failed>
     requires open { O.finished output.old ≡ false }
     ensures whole { OnOk result (Appends (O.written output.old) (O.written output.new) text.now) }
     ensures begun { AppendsSome (O.written output.old) (O.written output.new) text.now }
     ensures cause { HasCause (O.faults output.old) (O.faults output.new) result }
+    ensures open { O.finished output.new ≡ false }
 {
     write_whole(output, text)?;
     output.flush()
