@@ -161,7 +161,10 @@ fn both_directions_run_at_once(rt: HostRuntime) -> Result<(), Fail> {
     };
     let done = bridge(&rt, rt.alloc(), &mut net, "left", "right", 123, 82)?;
     assert_eq!(rt; done.why(), Why::Settled);
-    assert_eq!(rt; (done.from_left.tally.passed, done.from_right.tally.passed), (1, 1));
+    assert_eq!(rt;
+        (done.from_left.tally.passed, done.from_right.tally.passed),
+        (1, 1)
+    );
     assert_eq!(rt; left.late.load(Ordering::SeqCst), 0);
     assert_eq!(rt; right.late.load(Ordering::SeqCst), 0);
     Ok(())
