@@ -1,14 +1,19 @@
-//! The recorded commands over sources and sinks in memory. What they should write is what a server in plain Rust, with
+//! The commands over devices in memory. What they should write is what a server in plain Rust, with
 //! nothing proved, writes of the same bytes (`bench/replay`).
 
+mod bridges;
+mod crews;
 mod cuts;
 mod devices;
 mod journals;
 mod limits;
+mod live;
 mod loads;
 mod log_service;
 mod methods;
 mod other_words;
+mod routes;
+mod serve_clock;
 mod stores;
 mod streams;
 mod tokens;

@@ -79,24 +79,31 @@ fn an_input_ends_at_the_limit(rt: HostRuntime) -> Result<(), AllocError> {
 fn a_text_of_lines_ends_at_its_limit(rt: HostRuntime) -> Result<(), AllocError> {
     let alloc = rt.alloc();
     let rows = [
-        (1_048_575, 7, "token line 1\n"),
-        (1_048_576, 8, "limit input 1048576\n"),
-        (1_048_577, 8, "limit input 1048576\n"),
+        ("detoken", 1_048_575, 7, "token line 1\n"),
+        ("detoken", 1_048_576, 8, "limit input 1048576\n"),
+        ("detoken", 1_048_577, 8, "limit input 1048576\n"),
+        ("route", 1_048_575, 7, "route line 1\n"),
+        ("route", 1_048_576, 8, "limit input 1048576\n"),
+        ("route", 1_048_577, 8, "limit input 1048576\n"),
     ];
-    for (left, status, written) in rows {
+    for (line, left, status, written) in rows {
         let mut input = Idle { left };
         let mut output = MemSink::new(Vec::new(alloc), Vec::new(alloc));
         let got = run_recorded(
             alloc,
-            &words(alloc, "detoken")?,
+            &words(alloc, line)?,
             &mut input,
             &mut output,
             &mut no_store(alloc)?,
         );
-        assert_eq!(rt; got, status, "{left} bytes");
-        assert_eq!(rt; output.bytes(), written.as_bytes(), "{left} bytes");
+        assert_eq!(rt; got, status, "{line}, {left} bytes");
+        assert_eq!(rt; output.bytes(), written.as_bytes(), "{line}, {left} bytes");
         // No byte behind the limit is taken.
-        assert_eq!(rt; input.left, left.saturating_sub(1_048_576), "{left} bytes");
+        assert_eq!(rt;
+            input.left,
+            left.saturating_sub(1_048_576),
+            "{line}, {left} bytes"
+        );
     }
     Ok(())
 }

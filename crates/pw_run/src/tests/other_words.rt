@@ -28,6 +28,8 @@ fn other_words_are_refused(rt: HostRuntime) -> Result<(), AllocError> {
         "Check",
         "detoken|detoken",
         "Detoken",
+        "route|route",
+        "Route",
         "load",
         "load|1",
         "load|1|1|1",
