@@ -4,22 +4,15 @@
 #![tactic(auto)]
 
 mod client_end;
-mod committed;
-mod desk;
 mod outcome;
-mod plain_call;
 mod quiet;
-mod server_end;
 mod start;
-mod stores;
 mod transfer;
 mod turn;
 mod under;
-mod wires;
 mod world;
 
 pub use outcome::{Outcome, WorldRefused};
-pub use quiet::Quiet;
 pub use world::World;
 
 #[cfg(test)]

@@ -1,9 +1,11 @@
 //! What a run gives.
+ghost use Rattle.std.specs.Prelude.{◌≡◌};
 
-use link_io::{MemStore, StoreRefused};
+use link_io::MemStore;
 use link_script::Report;
 use rpc_journal::{Journal, StartRefused};
 use std::alloc::AllocError;
+use world_ends::Stopped;
 
 /// The run of a script.
 #[derive(Drop)]
@@ -35,10 +37,23 @@ impl From<AllocError> for WorldRefused {
     }
 }
 
-impl From<StartRefused> for WorldRefused {
-    ghost use Rattle.link_world.specs.Refused.{refused_by};
+impl From<Stopped> for WorldRefused {
+    ghost use Rattle.link_world.specs.Refused.{by_stop};
 
-    ghost from_gives = { λ refused e. e ≡ refused_by refused };
+    ghost from_gives = { λ stopped e. e ≡ by_stop stopped };
+
+    fn from(stopped: Stopped) -> WorldRefused {
+        match stopped {
+            Stopped::Journal => WorldRefused::Journal,
+            Stopped::Memory => WorldRefused::Memory,
+        }
+    }
+}
+
+impl From<StartRefused> for WorldRefused {
+    ghost use Rattle.link_world.specs.Refused.{by_start};
+
+    ghost from_gives = { λ refused e. e ≡ by_start refused };
 
     fn from(refused: StartRefused) -> WorldRefused {
         match refused {

@@ -1,14 +1,16 @@
-//! The handler of a client's calls.
-ghost use Rattle.std.specs.Prelude.{◌≡◌, refl, [], None};
+//! The handler of the client's calls.
+ghost use Rattle.std.specs.Prelude.{◌≡◌, refl};
+ghost use Rattle.demo_services.specs.Answers.{empty_answer};
 ghost use Rattle.rpc_handlers.specs.HandlerRule.{empty_memo};
+ghost use Rattle.world_turns.specs.Setup.{quiet_rule};
 
 use rpc_handlers::{Acts, Answer, Event, Handler, Memo, Outs, Parts, Words};
 use std::alloc::{AllocError, Global};
 
 /// Answers nothing, and ends no call: what comes is handed on to the client's owner.
 #[derive(Drop)]
-pub struct Quiet {
-    pub alloc: Global,
+pub(crate) struct Quiet {
+    pub(crate) alloc: Global,
 }
 
 impl Acts for Quiet {
@@ -16,7 +18,7 @@ impl Acts for Quiet {
 
     ghost now = { λ _. empty_memo };
 
-    ghost gives = { λ _ _. record { items = []; end = None } };
+    ghost gives = { λ _ _. empty_answer };
 
     ghost moves = { λ _ _. empty_memo };
 
@@ -37,9 +39,7 @@ impl Acts for Quiet {
 }
 
 impl Handler for Quiet {
-    ghost use Rattle.std.specs.Prelude.{true};
-
-    ghost rule = { record { ruled = true; answer = λ _ _. record { items = []; end = None }; next = λ _ _. empty_memo; first = λ _ _. empty_memo } };
+    ghost rule = { quiet_rule };
 
     ghost answers_by_rule = { λ _ _ _. refl };
 

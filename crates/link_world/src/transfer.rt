@@ -1,30 +1,24 @@
 //! A transfer under way: its task, and how it is polled.
+ghost use Rattle.std.specs.Prelude.{◌≡◌};
+ghost use Rattle.task_core.specs.Tasks.{HasKey};
 
-use bytes::Bytes;
 use rpc_handlers::{Event, Out};
 use rpc_ids::Status;
 use std::alloc::{AllocError, Global};
 use task_core::{Dispatcher, Mail, Task};
 
 /// A task in a session of a call.
-pub(crate) struct Transfer<T: Task> {
+#[derive(Drop)]
+pub(crate) struct Transfer<T> {
     pub(crate) call: u32,
     pub(crate) session: u32,
     pub(crate) resource: u32,
+    // When it was polled last.
+    moment: u64,
     tasks: Dispatcher<T>,
     key: usize,
-}
-
-impl<T: Task + Drop> Drop for Transfer<T> {
-    fn drop(self) {
-        let Transfer {
-            call: _,
-            session: _,
-            resource: _,
-            tasks: _,
-            key: _,
-        } = self;
-    }
+    ghost there: { HasKey tasks key },
+    ghost past: { tasks.moment ≡ moment },
 }
 
 impl<T: Task + Drop> Transfer<T> {
@@ -42,6 +36,7 @@ impl<T: Task + Drop> Transfer<T> {
                 call,
                 session,
                 resource,
+                moment: 0,
                 tasks,
                 key,
             }),
@@ -62,9 +57,10 @@ impl<T: Task + Drop> Transfer<T> {
         }
     }
 
-    /// Polls the task once, at this moment. What it says comes behind `outs`.
+    /// Polls the task once, at this moment, which is not before that of the last poll. What it says comes behind `outs`.
     pub(crate) fn poll(&mut self, now: u64, outs: &mut Vec<Out>) -> Result<(), AllocError> {
-        self.tasks.advance(now);
+        self.moment = self.moment.max(now);
+        self.tasks.advance(self.moment);
         self.tasks.wake(self.key);
         let _stop = self.tasks.run_until_stalled(1)?;
         'outs: while let Some((_, out)) = self.tasks.take_out() {

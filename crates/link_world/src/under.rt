@@ -1,12 +1,9 @@
 //! The command under way.
 
-use crate::plain_call::PlainCall;
 use crate::transfer::Transfer;
 use bytes::Bytes;
-use link_script::ReportLine;
 use rpc_handlers::{Event, Out};
-use rpc_ids::Status;
-use std::alloc::AllocError;
+use std::alloc::{AllocError, Global};
 use transfer_client::{ReadTask, WriteTask};
 
 /// A command that has begun and hasn't ended.
@@ -15,13 +12,66 @@ pub(crate) enum Under {
     Read(Transfer<ReadTask>),
     Write(Transfer<WriteTask>),
     /// A write of this resource, which the client hasn't.
-    Missing(u32),
-    Echo(PlainCall),
-    Count(PlainCall),
-    Sum(PlainCall),
-    Chat(PlainCall),
+    Lacking(u32),
+    Call(PlainCall),
     /// A channel, and how many calls ended as it was closed; `None` where it was closed before.
-    Close(u32, Option<u32>),
+    Closing(u32, Option<u32>),
+}
+
+/// A method of the service `demo.Demo`.
+#[derive(Clone, Copy, Debug, PartialEq, Eq)]
+pub(crate) enum Plain {
+    Echo,
+    Count,
+    Sum,
+    Chat,
+}
+
+/// A call that is no transfer, with the messages that have come.
+#[derive(Drop)]
+pub(crate) struct PlainCall {
+    pub(crate) plain: Plain,
+    pub(crate) call: u32,
+    messages: Vec<Bytes>,
+}
+
+impl PlainCall {
+    /// A call to which nothing has come.
+    pub(crate) fn new(alloc: Global, plain: Plain, call: u32) -> PlainCall {
+        PlainCall {
+            plain,
+            call,
+            messages: Vec::new(alloc),
+        }
+    }
+
+    // An event of a call was handed on. A message of this call is kept.
+    fn hear(&mut self, call: u32, event: Event) -> Result<(), AllocError> {
+        if call != self.call {
+            return Ok(());
+        }
+        match event {
+            Event::Message(payload) => {
+                self.messages.push(payload)?;
+                Ok(())
+            }
+            Event::Request(_) | Event::Completion | Event::Ended(_) | Event::Tick(_) => Ok(()),
+        }
+    }
+
+    /// How many messages have come.
+    pub(crate) fn count(&self) -> u64 {
+        self.messages.len() as u64
+    }
+
+    /// The bytes of all messages, one behind another.
+    pub(crate) fn bytes(&self, alloc: Global) -> Result<Bytes, AllocError> {
+        let mut bytes = Vec::new(alloc);
+        for message in &self.messages {
+            bytes.extend_from_slice(message.as_slice())?;
+        }
+        Ok(Bytes::from_vec(bytes)?)
+    }
 }
 
 impl Under {
@@ -30,10 +80,8 @@ impl Under {
         match self {
             Under::Read(transfer) => transfer.post(call, event),
             Under::Write(transfer) => transfer.post(call, event),
-            Under::Echo(plain) | Under::Count(plain) | Under::Sum(plain) | Under::Chat(plain) => {
-                plain.hear(call, event)
-            }
-            Under::Missing(_) | Under::Close(_, _) => Ok(()),
+            Under::Call(plain) => plain.hear(call, event),
+            Under::Lacking(_) | Under::Closing(_, _) => Ok(()),
         }
     }
 
@@ -52,17 +100,15 @@ impl Under {
                 transfer.poll(now, outs)?;
                 Ok(Some(transfer.call))
             }
-            _ => Ok(None),
+            Under::Lacking(_) | Under::Call(_) | Under::Closing(_, _) => Ok(None),
         }
     }
 
     /// The call of a command that is no transfer.
     pub(crate) fn plain_call(&self) -> Option<u32> {
         match self {
-            Under::Echo(plain) | Under::Count(plain) | Under::Sum(plain) | Under::Chat(plain) => {
-                Some(plain.call)
-            }
-            _ => None,
+            Under::Call(plain) => Some(plain.call),
+            Under::Read(_) | Under::Write(_) | Under::Lacking(_) | Under::Closing(_, _) => None,
         }
     }
 }
