@@ -1,3 +1,0 @@
-pub mod Refused
-pub mod ClientSide
-pub mod Steady
