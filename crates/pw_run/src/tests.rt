@@ -2,6 +2,8 @@
 //! nothing proved, writes of the same bytes (`bench/replay`).
 
 mod bridges;
+mod crew_gates;
+mod crew_reports;
 mod crews;
 mod cuts;
 mod devices;
@@ -14,6 +16,7 @@ mod methods;
 mod other_words;
 mod routes;
 mod serve_clock;
+mod serve_links;
 mod stores;
 mod streams;
 mod tokens;

@@ -4,8 +4,8 @@ ghost use Rattle.link_io.specs.LinkDevice.{IsUnused};
 
 use super::{Ran, no_store, words};
 use crate::run;
-use link_io::{MemLinker, MemSink, MemSource, Still};
-use rpc_crew::Free;
+use link_io::{MemLinker, MemSink, MemSource, Source, Still};
+use rpc_crew::{Free, Gate};
 use std::alloc::{AllocError, Global};
 use std::sync::Wait;
 use std::sync::atomic::{AtomicU64, Ordering};
@@ -15,6 +15,32 @@ use std::{thread, time};
 
 // A gate or a device turns at most so often, a millisecond each time.
 const TURNS: u32 = 10_000;
+
+/// Runs a command on this input, with this gate at its handlers, no resource, no link, and an output that doesn't fail.
+pub(super) fn run_on<R: Threads + Wait + Sync, I: Source + Send, G: Gate + Sync>(
+    rt: &R,
+    alloc: Global,
+    line: &str,
+    input: &mut I,
+    gate: &G,
+) -> Result<Ran, AllocError> {
+    let mut output = MemSink::new(Vec::new(alloc), Vec::new(alloc));
+    let status = run(
+        rt,
+        alloc,
+        &words(alloc, line)?,
+        input,
+        &mut output,
+        &mut no_store(alloc)?,
+        &mut MemLinker::new(alloc, Vec::new(alloc), Vec::new(alloc))?,
+        &mut Still::new(),
+        gate,
+    );
+    Ok(Ran {
+        status,
+        output: Vec::from_slice(alloc, output.bytes())?,
+    })
+}
 
 /// Serves the links of this linker, with no resource and an output that doesn't fail.
 pub(super) fn serve_on<R: Threads + Wait + Sync>(

@@ -11,8 +11,8 @@ use rpc_packet::{CallName, Packet, PacketType};
 use std::alloc::{AllocError, Global};
 use transfer_chunk::ChunkRef;
 
-// What a client sends that uploads `hello, store` and a newline as resource 7 in two chunks: `examples/upload/recording`.
-const RECORDING: &str =
+/// What a client sends that uploads `hello, store` and a newline as resource 7 in two chunks: `examples/upload/recording`.
+pub(super) const RECORDING: &str =
     "7EA50310011D7BC8D65B25860563D438016B08F3627E7EA503080210011D7BC8D65B25860563D42A085001580768027001380111DFEF69\
 7E7EA503080210011D7BC8D65B25860563D42A065007600168023801949E72EF7E7EA503080210011D7BC8D65B25860563D42A0D320768\
 656C6C6F2C205000600138013D7F45FF7E7EA503080210011D7BC8D65B25860563D42A102807320673746F72650A38005000600138017F\
