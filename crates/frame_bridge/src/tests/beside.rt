@@ -1,5 +1,5 @@
 //! Both directions run beside each other.
-ghost use Rattle.std.specs.Prelude.{None, false};
+ghost use Rattle.std.specs.Prelude.{None};
 
 use super::{TO_82, TO_123};
 use crate::bridge;
@@ -100,6 +100,7 @@ struct TwoSides<'a, R> {
     rt: &'a R,
     left: &'a Side,
     right: &'a Side,
+    listens: bool,
     out: u64,
     faults: u64,
 }
@@ -109,7 +110,7 @@ impl<'a, R: time::Clock + Sync> Linker for TwoSides<'a, R> {
 
     type Out = Counting<'a>;
 
-    ghost links = { λ s. record { coming = None; gone = None; listens = false; out = s.out; faults = s.faults; in_faults = 0; out_faults = 0 } };
+    ghost links = { λ s. record { coming = None; gone = None; listens = s.listens; out = s.out; faults = s.faults; in_faults = 0; out_faults = 0 } };
 
     fn listen(&mut self, _path: &str) -> Result<(), Failed> {
         self.faults = self.faults.saturating_add(1);
@@ -117,7 +118,8 @@ impl<'a, R: time::Clock + Sync> Linker for TwoSides<'a, R> {
     }
 
     fn accept(&mut self) -> Result<(AfterWrite<'a, R>, Counting<'a>), Failed> {
-        unreachable!()
+        self.faults = self.faults.saturating_add(1);
+        Err(Failed)
     }
 
     fn connect(&mut self, path: &str) -> Result<(AfterWrite<'a, R>, Counting<'a>), Failed> {
@@ -156,6 +158,7 @@ fn both_directions_run_at_once(rt: HostRuntime) -> Result<(), Fail> {
         rt: &rt,
         left: &left,
         right: &right,
+        listens: false,
         out: 0,
         faults: 0,
     };
