@@ -123,7 +123,7 @@ module _ (rule : HandlerRule) (set : Setting) (ruled : IsTrue rule.ruled) where
           ap (λ x. adding (adding h run_seat (Start c)) run_seat (Finish c x)) (some_same a b (sym (first ruled) ∙ other ruled))
           ∙ ap (λ x. adding (adding h run_seat (Start x)) run_seat (Finish x b)) same
 
-  ran_same : (h a b : List Entry) → Ran rule set h a → Ran rule set h b → a ≡ b
+  pub ran_same : (h a b : List Entry) → Ran rule set h a → Ran rule set h b → a ≡ b
   ran_same h a b x y =
       x.adds ∙ (same_answer h x.call y.call x.answer y.answer (first_one _ _ _ x.first y.first) x.by_rule y.by_rule ∙ sym y.adds)
 
@@ -147,7 +147,7 @@ module _ (rule : HandlerRule) (set : Setting) (ruled : IsTrue rule.ruled) where
   turns_same (suc n) (suc m) s a b x over_a y over_b =
       turns_same n m x.0 a b x.2 over_a (subst (λ t. Turns rule set m t (flushing b)) (sym (turn_same s x.0 y.0 x.1 y.1)) y.2) over_b
 
-  settles_same : (h k a b : List Entry) → h ≡ k → Settles rule set h a → Settles rule set k b → a ≡ b
+  pub settles_same : (h k a b : List Entry) → h ≡ k → Settles rule set h a → Settles rule set k b → a ≡ b
   settles_same h k a b same x y =
       let z = subst (λ t. Settles rule set t b) (sym same) y in
       turns_same x.reaches.0 z.reaches.0 (running h) a b x.reaches.1 x.over z.reaches.1 z.over

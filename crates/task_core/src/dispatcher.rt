@@ -1,6 +1,6 @@
 //! The dispatcher.
-ghost use Rattle.std.specs.Prelude.{◌≡◌, ◌↔◌, ℕ, ◌<◌, ◌≤◌, List, [], ◌++◌, IsSome, IfOk, IfErr, OnOk, OnErr, option_to_list};
-ghost use Rattle.task_core.specs.Log.{Step, added, posted, woken, advanced, took};
+ghost use Rattle.std.specs.Prelude.{◌≡◌, ◌↔◌, ℕ, ◌<◌, ◌≤◌, List, [], ◌++◌, Some, IsSome, IfOk, IfErr, OnOk, OnErr, option_to_list};
+ghost use Rattle.task_core.specs.Log.{Step, added, posted, woken, advanced, took, task_of};
 ghost use Rattle.task_core.specs.Due.{result_of};
 ghost use Rattle.task_core.specs.Tasks.{StandsFor, HasKey, has_key, next_key, task_count, Keeps, Adds, AddsNothing};
 
@@ -124,6 +124,14 @@ impl<T: Task> Dispatcher<T> {
         ensures keeps { Keeps self.old self.new }
     {
         self.cx.take_out()
+    }
+
+    /// The task as its last poll left it; one that wasn't polled yet as it was added.
+    pub fn task(&self, key: usize) -> &T
+        requires { HasKey self.now key }
+        ensures { (log : List (Step T)) → StandsFor self.now log → task_of log key ≡ Some result.now }
+    {
+        &self.places[key].task
     }
 
     /// The status with which a task has ended; `None` while it lives.

@@ -97,13 +97,13 @@ further q s i w c = subst (Counted q s) (next i w) c
 
 -- What comes of one piece.
 
-not_less : (n : ℕ) → nat_lt n n ≡ false
+pub not_less : (n : ℕ) → nat_lt n n ≡ false
 not_less n = grind (arith, nat_tests)
 
-fits : (a b : ℕ) → a ≤ b → nat_lt b a ≡ false
+pub fits : (a b : ℕ) → a ≤ b → nat_lt b a ≡ false
 fits a b h = grind (arith, nat_tests)
 
-some_bytes : (c : ℕ) → 1 ≤ c → (c == 0) ≡ false
+pub some_bytes : (c : ℕ) → 1 ≤ c → (c == 0) ≡ false
 some_bytes c h = grind (arith, nat_tests)
 
 middle : (x : Receiver) (c : ℕ) → is_open x.phase ≡ true → 1 ≤ c → x.next + c ≤ x.window_end → x.next + c ≤ MAX_RESOURCE →
@@ -134,17 +134,17 @@ last_none : (x : Receiver) (size : ℕ) → asks_in (piece_outcome x x.next size
 last_none x size = closed_none x size (is_open x.phase)
 
 -- A receiver with so many chunks of its window left.
-record Asking (c : ℕ) (r : Receiver) (w : ℕ) : Type 0 where
-  opens : is_open r.phase ≡ true
-  window : r.window_end ≡ r.next + w * c
-  low : 1 ≤ w
-  high : w ≤ r.span
-  span_low : 1 ≤ r.span
-  span_high : r.span ≤ 64
-  chunk : r.chunk ≡ c
-  calm : r.shrunk ≡ false
+pub record Asking (c : ℕ) (r : Receiver) (w : ℕ) : Type 0 where
+  pub opens : is_open r.phase ≡ true
+  pub window : r.window_end ≡ r.next + w * c
+  pub low : 1 ≤ w
+  pub high : w ≤ r.span
+  pub span_low : 1 ≤ r.span
+  pub span_high : r.span ≤ 64
+  pub chunk : r.chunk ≡ c
+  pub calm : r.shrunk ≡ false
 
-one_more : (w c : ℕ) → suc w * c ≡ w * c + c
+pub one_more : (w c : ℕ) → suc w * c ≡ w * c + c
 one_more w c = omega arith
 
 -- where the piece is in the middle, half of the window is used exactly where twice the chunks that are left are at most the span
@@ -157,7 +157,7 @@ half_left s w c some h = le_of_mul-le-mul_right {m = 2 * w} {n = s} {k = c} (sub
 all_used : (s c : ℕ) → 2 * (0 * c) ≤ s * c
 all_used s c = omega arith
 
-outcome_is : (c now : ℕ) → 1 ≤ c → (r : Receiver) (p : Piece) (w : ℕ) → Asking c r (suc w) → p.offset ≡ r.next → length p.bytes ≡ c → p.last ≡ false →
+pub outcome_is : (c now : ℕ) → 1 ≤ c → (r : Receiver) (p : Piece) (w : ℕ) → Asking c r (suc w) → p.offset ≡ r.next → length p.bytes ≡ c → p.last ≡ false →
     r.next + c ≤ MAX_RESOURCE → outcome_of r p now ≡ going_on (keeping (active_at now r) (r.next + c))
 outcome_is c now some r p w a at size more within =
     ap (λ o. piece_outcome (active_at now r) o (length p.bytes) p.last) at
@@ -166,7 +166,7 @@ outcome_is c now some r p w a at size more within =
     ∙ middle (active_at now r) c a.opens some (omega (arith, a.window, one_more w c)) within))
 
 -- the receiver behind such a piece
-abbrev behind : ℕ → ℕ → Receiver → Receiver
+abbrev pub behind : ℕ → ℕ → Receiver → Receiver
 behind c now r = keeping (active_at now r) (r.next + c)
 
 left_of : (c now : ℕ) (r : Receiver) (w : ℕ) → Asking c r (suc w) → (behind c now r).window_end - (behind c now r).next ≡ w * c
@@ -185,7 +185,7 @@ some_left c b (suc w) h = omega arith
 above : (a b : ℕ) → nat_le a b ≡ false → b < a
 above a b e = grind (arith, nat_tests)
 
-unused : (c now : ℕ) (r : Receiver) (w : ℕ) → Asking c r (suc w) → is_half_used (behind c now r) ≡ false → 1 ≤ w
+pub unused : (c now : ℕ) (r : Receiver) (w : ℕ) → Asking c r (suc w) → is_half_used (behind c now r) ≡ false → 1 ≤ w
 unused c now r w a t =
     some_left c (r.span * r.chunk) w (subst (λ n. r.span * r.chunk < 2 * n) (left_of c now r w a) (above (2 * (r.window_end - (r.next + c))) (r.span * r.chunk) t))
 
@@ -193,7 +193,7 @@ grown : (c now : ℕ) (r : Receiver) → r.shrunk ≡ false → span_of_ask fals
 grown c now r calm = rw calm refl
 
 -- it has asked for more, or not
-asking_more : (c now : ℕ) (r : Receiver) (w : ℕ) → Asking c r (suc w) → Asking c (asking false (behind c now r)) (min 64 (2 * r.span))
+pub asking_more : (c now : ℕ) (r : Receiver) (w : ℕ) → Asking c r (suc w) → Asking c (asking false (behind c now r)) (min 64 (2 * r.span))
 asking_more c now r w a =
     let g = grown c now r a.calm in
     record {
@@ -207,7 +207,7 @@ asking_more c now r w a =
       calm = refl;
     }
 
-asking_still : (c now : ℕ) (r : Receiver) (w : ℕ) → Asking c r (suc w) → 1 ≤ w → Asking c (behind c now r) w
+pub asking_still : (c now : ℕ) (r : Receiver) (w : ℕ) → Asking c r (suc w) → 1 ≤ w → Asking c (behind c now r) w
 asking_still c now r w a low = record {
   opens = refl;
   window = omega (arith, a.window, one_more w c);
@@ -257,7 +257,7 @@ few c now some (p2 ∷ ps) p r i (suc w) q a counted consecutive whole last with
     subst (λ t. q + (asks_in t.answer + asks_over now t.after (p2 ∷ ps)) ≤ 5 + (i + 1 + length (p2 ∷ ps)) / 32) (sym is)
     (step c now some r i w q (suc (length ps)) (λ x. asks_over now x (p2 ∷ ps)) a counted later (is_half_used (behind c now r)) refl)
 
-first_asking : (offset window chunk now : ℕ) → 1 ≤ window → window ≤ 64 → Asking chunk (new_receiver offset window chunk now) window
+pub first_asking : (offset window chunk now : ℕ) → 1 ≤ window → window ≤ 64 → Asking chunk (new_receiver offset window chunk now) window
 first_asking offset window chunk now low high =
     record { opens = refl; window = refl; low = low; high = omega arith; span_low = low; span_high = high; chunk = refl; calm = refl }
 
