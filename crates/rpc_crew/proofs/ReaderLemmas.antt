@@ -1,5 +1,5 @@
 -- What the reader has fed.
-use Rattle.std.proofs.Common.{◌≡◌, ◌⊎◌, ℕ, ◌+◌, ◌-◌, ◌≤◌, Bool, true, false, List, [], ◌∷◌, ◌++◌, length, take, drop, Option, Some, None, Result, Ok, Err, OnErr, OnOk, is_err, is_some, refl, ap, sym, ◌∙◌, subst, inl, inr, arith, append_assoc, length-append, length-take}
+use Rattle.std.proofs.Common.{◌≡◌, ◌⊎◌, ℕ, ◌+◌, ◌-◌, ◌<◌, ◌≤◌, Bool, true, false, List, [], ◌∷◌, ◌++◌, length, take, drop, Option, Some, None, Result, Ok, Err, OnErr, OnOk, is_err, is_some, refl, ap, sym, ◌∙◌, subst, inl, inr, arith, append_assoc, length-append, length-take}
 use Rattle.std.proofs.lemmas.Bool.{false≢true}
 use Rattle.std.proofs.lemmas.List.{append-nil, take-append-drop, take_rest}
 use Rattle.std.specs.Option.{option_to_list}
@@ -173,6 +173,18 @@ cut_rest m q bytes piece done cut =
 
 -- ---- a stream so far
 
+-- a reading that ended by the end of the source or a fault didn't end at its limit
+no_limit : (ending : Ending) → (Some ending ≡ Some AtEnd) ⊎ (Some ending ≡ Some Failed) → ending ≡ AtLimit → ⊥
+no_limit AtEnd is limit = cc limit
+no_limit Failed is limit = cc limit
+no_limit AtLimit (inl is) limit = cc is
+no_limit AtLimit (inr is) limit = cc is
+
+none_ended : (ending : Option Ending) → ending ≡ None → (ending ≡ Some AtEnd) ⊎ (ending ≡ Some Failed) → ⊥
+none_ended None none (inl is) = cc is
+none_ended None none (inr is) = cc is
+none_ended (Some ending) none is = cc none
+
 -- all bytes that were taken from a source were fed
 pub record HasFed (left_old left : Option (List ℕ)) (total : ℕ) (l : Listening) (p : Seat) : Type 0 where
   pub bytes : List ℕ
@@ -211,6 +223,7 @@ module _ (left_old left_mid left_new : Option (List ℕ)) (total room count : �
         within = omega (arith, long, short, within);
         at_end = λ is. absurd (cc is);
         at_limit = λ is. absurd (cc is);
+        below = λ is. absurd (none_ended None refl is);
         cut = cuts so.bytes so.fed;
         cause = inr halted;
         stopped = λ _. halted;
@@ -219,14 +232,15 @@ module _ (left_old left_mid left_new : Option (List ℕ)) (total room count : �
 -- the reading ended, and all was fed
 pub has_read_all : (set : Setting) (left_old left_mid left_new : Option (List ℕ)) (ending : Ending) (total : ℕ) (l : Listening) (p : Seat)
     → HasFed left_old left_mid total l p → Consumes left_mid left_new [] → (ending ≡ AtEnd → IsAtEnd left_new) → (ending ≡ AtLimit → total ≡ INPUT_LIMIT)
-    → HasRead set left_old left_new (Some ending) total l p
-has_read_all set left_old left_mid left_new ending total l p so same at_end at_limit = record {
+    → ((ending ≡ AtLimit → ⊥) → total < INPUT_LIMIT) → HasRead set left_old left_new (Some ending) total l p
+has_read_all set left_old left_mid left_new ending total l p so same at_end at_limit below = record {
   bytes = so.bytes;
   taken = subst (Consumes left_old left_new) (append-nil so.bytes) (Consumes-trans left_old left_mid left_new so.bytes [] so.taken same);
   count = so.count;
   within = so.within;
   at_end = λ is. at_end (cc is);
   at_limit = λ is. at_limit (cc is);
+  below = λ is. below (no_limit ending is);
   cut = cut_fed l p so.bytes so.fed;
   cause = inl so.fed;
   stopped = λ is. absurd (cc is);
@@ -261,6 +275,7 @@ read_on rule r test left_old left_new ending read l p q adds same has = record {
   within = has.within;
   at_end = has.at_end;
   at_limit = has.at_limit;
+  below = has.below;
   cut = record {
     fed = has.cut.fed;
     within = has.cut.within;
@@ -312,6 +327,7 @@ read_none set left l p q fed same halted = record {
   within = omega arith;
   at_end = λ is. absurd (cc is);
   at_limit = λ is. absurd (cc is);
+  below = λ is. absurd (none_ended None refl is);
   cut = cut_fed l q [] (record { role = fed.role; listener = fed.listener; arrived = same ∙ fed.arrived });
   cause = inr halted;
   stopped = λ _. halted;
@@ -319,13 +335,14 @@ read_none set left l p q fed same halted = record {
 
 -- the three ways in which reading ends
 module _ (set : Setting) (left_old left_mid left_new : Option (List ℕ)) (total : ℕ) (l : Listening) (p : Seat) (so : HasFed left_old left_mid total l p) where
-  pub read_failed : Keeps left_mid left_new → HasRead set left_old left_new (Some Failed) total l p
-  read_failed kept = has_read_all set left_old left_mid left_new Failed total l p so (consumes_kept left_mid left_new kept) (λ is. absurd (cc is)) (λ is. absurd (cc is))
+  pub read_failed : total < INPUT_LIMIT → Keeps left_mid left_new → HasRead set left_old left_new (Some Failed) total l p
+  read_failed short kept = has_read_all set left_old left_mid left_new Failed total l p so (consumes_kept left_mid left_new kept) (λ is. absurd (cc is)) (λ is. absurd (cc is)) (λ _. short)
 
-  pub read_ended : Consumes left_mid left_new [] → IsAtEnd left_new → HasRead set left_old left_new (Some AtEnd) total l p
-  read_ended none end = has_read_all set left_old left_mid left_new AtEnd total l p so none (λ _. end) (λ is. absurd (cc is))
+  pub read_ended : total < INPUT_LIMIT → Consumes left_mid left_new [] → IsAtEnd left_new → HasRead set left_old left_new (Some AtEnd) total l p
+  read_ended short none end = has_read_all set left_old left_mid left_new AtEnd total l p so none (λ _. end) (λ is. absurd (cc is)) (λ _. short)
 
 pub read_limit : (set : Setting) (left_old left : Option (List ℕ)) (total : ℕ) (l : Listening) (p : Seat) → HasFed left_old left total l p → INPUT_LIMIT ≤ total
     → HasRead set left_old left (Some AtLimit) total l p
 read_limit set left_old left total l p so full =
     has_read_all set left_old left left AtLimit total l p so (Consumes-nil left) (λ is. absurd (cc is)) (λ _. omega (arith, so.within, full))
+    (λ other. absurd (other refl))

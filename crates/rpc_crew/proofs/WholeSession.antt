@@ -222,6 +222,10 @@ module _ (rule : HandlerRule) (r : Lock) (workers : ℕ) (left_old left_new w0 w
     pub read_limit : why ≡ InputLimit → read ≡ INPUT_LIMIT
     read_limit is = s.has_read.at_limit (at_its_limit ending (of_reading InputLimit is refl))
 
+    pub read_below : (why ≡ Settled) ⊎ (why ≡ Source) → read < INPUT_LIMIT
+    read_below (inl is) = s.has_read.below (inl (at_its_end ending (of_reading Settled is refl)))
+    read_below (inr is) = s.has_read.below (inr (with_fault ending (of_reading Source is refl)))
+
     pub read_failed : why ≡ Source → ending ≡ Some Failed
     read_failed is = with_fault ending (of_reading Source is refl)
 

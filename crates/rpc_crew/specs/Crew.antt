@@ -1,11 +1,11 @@
 -- What each thread of a session adds to the journal, and what its pass knows between two calls of the table.
-use Rattle.std.specs.Prelude.{◌≡◌, ◌⊎◌, ℕ, ◌≤◌, Bool, true, false, List, [], ◌∷◌, ◌++◌, length, Option, Some, None}
+use Rattle.std.specs.Prelude.{◌≡◌, ◌⊎◌, ℕ, ◌<◌, ◌≤◌, Bool, true, false, List, [], ◌∷◌, ◌++◌, length, Option, Some, None}
 use Rattle.std.specs.List.{AllByRecursion}
 use Rattle.std.specs.Io.KnownBytes.{Consumes, IsAtEnd}
 use mathlib.Core.List.{IsPrefix}
 use Rattle.entry_lists.specs.Entries.{made_by}
 use Rattle.link_io.specs.declared.reading.Ending.{Ending}
-use Rattle.link_io.specs.declared.reading.Ending.TheVariants.{AtEnd, AtLimit}
+use Rattle.link_io.specs.declared.reading.Ending.TheVariants.{AtEnd, AtLimit, Failed}
 use Rattle.link_io.specs.declared.why.Why.{Why}
 use Rattle.link_io.specs.declared.why.Why.TheVariants.{JournalLimit, Memory}
 use Rattle.turn_cell.specs.Passes.{IsSame, LockView, PassView}
@@ -151,6 +151,7 @@ pub record HasRead (set : Setting) (left_old left_new : Option (List ℕ)) (endi
   pub within : read ≤ INPUT_LIMIT
   pub at_end : ending ≡ Some AtEnd → IsAtEnd left_new
   pub at_limit : ending ≡ Some AtLimit → read ≡ INPUT_LIMIT
+  pub below : (ending ≡ Some AtEnd) ⊎ (ending ≡ Some Failed) → read < INPUT_LIMIT
   pub cut : Cut l p bytes
   pub cause : Fed l p bytes ⊎ (is_halted set p.view.known.seen ≡ true)
   pub stopped : ending ≡ None → is_halted set p.view.known.seen ≡ true

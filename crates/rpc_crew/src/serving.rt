@@ -1,5 +1,5 @@
 //! A session, from a table without an entry to what was done.
-ghost use Rattle.std.specs.Prelude.{◌≡◌, ◌+◌, ◌<◌, ◌≤◌, true, false, ◌∷◌, ◌++◌, [], List, IfOk, OnErr, Option, Some, None, is_none, vec_len, vec_capacity};
+ghost use Rattle.std.specs.Prelude.{◌≡◌, ◌⊎◌, ◌+◌, ◌<◌, ◌≤◌, true, false, ◌∷◌, ◌++◌, [], List, IfOk, OnErr, Option, Some, None, is_none, vec_len, vec_capacity};
 ghost use Rattle.std.specs.Io.KnownBytes.{IsAtEnd};
 ghost use Rattle.link_io.specs.Causes.{Rose};
 ghost use Rattle.link_io.specs.declared.why.Why.TheVariants.{Settled, Source as Read, Sink as Link, Store as Depot, InputLimit};
@@ -70,6 +70,7 @@ where
         Explains (session_setting channels registry (M.seed_memo maker.now)) (I.left link_in.old) (I.left link_in.new) (O.written link_out.old) (O.written link_out.new) (S.holds store.old) (S.holds store.new) s.counts s.read s.done s.journal.entries) }
     ensures at_end { IfOk result (λ s. s.why ≡ Settled → IsAtEnd (I.left link_in.new)) }
     ensures at_limit { IfOk result (λ s. s.why ≡ InputLimit → s.read ≡ INPUT_LIMIT) }
+    ensures below { IfOk result (λ s. (s.why ≡ Settled) ⊎ (s.why ≡ Read) → s.read < INPUT_LIMIT) }
     ensures source { IfOk result (λ s. s.why ≡ Read → Rose (I.faults link_in.old) (I.faults link_in.new)) }
     ensures sink { IfOk result (λ s. s.why ≡ Link → Rose (O.faults link_out.old) (O.faults link_out.new)) }
     ensures store { IfOk result (λ s. s.why ≡ Depot → Rose (S.faults store.old) (S.faults store.new)) }
@@ -128,6 +129,7 @@ where
         Explains (session_setting channels registry (M.seed_memo maker.now)) (I.left link_in.old) (I.left link_in.new) (O.written link_out.old) (O.written link_out.new) (S.holds store.old) (S.holds store.new) s.counts s.read s.done s.calls.entries) }
     ensures at_end { IfOk result (λ s. s.why ≡ Settled → IsAtEnd (I.left link_in.new)) }
     ensures at_limit { IfOk result (λ s. s.why ≡ InputLimit → s.read ≡ INPUT_LIMIT) }
+    ensures below { IfOk result (λ s. (s.why ≡ Settled) ⊎ (s.why ≡ Read) → s.read < INPUT_LIMIT) }
     ensures source { IfOk result (λ s. s.why ≡ Read → Rose (I.faults link_in.old) (I.faults link_in.new)) }
     ensures sink { IfOk result (λ s. s.why ≡ Link → Rose (O.faults link_out.old) (O.faults link_out.new)) }
     ensures store { IfOk result (λ s. s.why ≡ Depot → Rose (S.faults store.old) (S.faults store.new)) }
@@ -194,6 +196,7 @@ where
         Explains (session_setting channels registry (M.seed_memo maker.now)) (I.left link_in.old) (I.left link_in.new) (O.written link_out.old) (O.written link_out.new) (S.holds store.old) (S.holds store.new) s.counts s.read s.done s.calls.entries) }
     ensures at_end { IfOk result (λ s. s.why ≡ Settled → IsAtEnd (I.left link_in.new)) }
     ensures at_limit { IfOk result (λ s. s.why ≡ InputLimit → s.read ≡ INPUT_LIMIT) }
+    ensures below { IfOk result (λ s. (s.why ≡ Settled) ⊎ (s.why ≡ Read) → s.read < INPUT_LIMIT) }
     ensures source { IfOk result (λ s. s.why ≡ Read → Rose (I.faults link_in.old) (I.faults link_in.new)) }
     ensures sink { IfOk result (λ s. s.why ≡ Link → Rose (O.faults link_out.old) (O.faults link_out.new)) }
     ensures store { IfOk result (λ s. s.why ≡ Depot → Rose (S.faults store.old) (S.faults store.new)) }

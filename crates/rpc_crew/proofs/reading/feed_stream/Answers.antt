@@ -59,7 +59,7 @@ returns-then-is_err-clause-same g c = same_trans c.args.pass.now c.pieces.pass c
 pub returns-in-Err-clause-read : goal.returns-in-Err-clause-read
 returns-in-Err-clause-read g c =
     read_failed c.args.shared.now.base (g.I.Source.left c.args.input.now) (g.I.Source.left c.pieces.input) (g.I.Source.left c.read.new.self) c.pieces.total
-    c.pieces.listener c.pieces.pass c.pieces.invariant.fed c.in-Err.ensures.bytes
+    c.pieces.listener c.pieces.pass c.pieces.invariant.fed (omega (arith, c.pieces-test.true)) c.in-Err.ensures.bytes
 
 pub returns-in-Ok-eq0-clause-read : goal.returns-in-Ok-eq0-clause-read
 returns-in-Ok-eq0-clause-read g c =
@@ -67,6 +67,7 @@ returns-in-Ok-eq0-clause-read g c =
     let room : length c.read.new.buf ≡ length (take c.min-room.result c.pieces.buffer) = c.read.auto.buf in
     let filled : 0 < length c.read.new.buf = omega (arith, room, length-take c.min-room.result c.pieces.buffer, c.min-room.ensures, c.pieces-test.true) in
     read_ended c.args.shared.now.base (left c.args.input.now) (left c.pieces.input) (left c.read.new.self) c.pieces.total c.pieces.listener c.pieces.pass c.pieces.invariant.fed
+    (omega (arith, c.pieces-test.true))
     (subst (λ n. Consumes (left c.pieces.input) (left c.read.new.self) (take n c.read.new.buf)) c.in-Ok-eq0.field-0-test c.in-Ok-eq0.ensures.bytes.0)
     (c.in-Ok-eq0.ensures.bytes.1 c.in-Ok-eq0.field-0-test filled)
 

@@ -11,7 +11,7 @@ use Rattle.rpc_crew.specs.Sessions.{Begins, Explains, IsSessionHistory, is_halte
 use Rattle.rpc_crew.proofs.PumpLemmas.{pumps_none}
 use Rattle.rpc_crew.proofs.ReaderLemmas.{fed_nothing}
 use Rattle.rpc_crew.proofs.SessionLemmas.{given_out, new_pump, new_reader, new_stands}
-use Rattle.rpc_crew.proofs.WholeSession.{Whole, back_idle, begins, ended_history, explains, is_told, read_all, read_failed, read_limit, sink_halted, store_halted, ticks_between, whole_of}
+use Rattle.rpc_crew.proofs.WholeSession.{Whole, back_idle, begins, ended_history, explains, is_told, read_all, read_below, read_failed, read_limit, sink_halted, store_halted, ticks_between, whole_of}
 use Rattle.rpc_crew.proofs.WorkerLists.{worked_length}
 use Rattle.rpc_crew.proofs.WriterLemmas.{writes_none}
 use Rattle.rpc_crew.proofs.serving.serve.Given.{Over}
@@ -161,6 +161,11 @@ returns-clause-at_end g c =
 pub returns-clause-at_limit : goal.returns-clause-at_limit
 returns-clause-at_limit g c =
     read_limit g.M.H.Handler.rule c.in_ok-shared.shared c.args.workers (g.I.Source.left c.args.link_in.now) (g.I.Source.left c.run_threads-done.new.link_in) (g.O.Sink.written c.args.link_out.now) (g.O.Sink.written c.run_threads-done.new.link_out) (g.S.Store.holds c.args.store.now) (g.S.Store.holds c.run_threads-done.new.store) c.args.log.now c.run_threads-done.new.log c.run_threads-done.new.listener c.counts.result c.run_threads-done.result.1.ending c.run_threads-done.result.1.read c.run_threads-done.result.0 c.close-calls.result
+    c.run_threads-done.new.reader c.run_threads-done.new.pumper c.run_threads-done.new.writer c.run_threads-done.new.workers.passes.items (whole g c) c.why_of.result (why_is g c)
+
+pub returns-clause-below : goal.returns-clause-below
+returns-clause-below g c =
+    read_below g.M.H.Handler.rule c.in_ok-shared.shared c.args.workers (g.I.Source.left c.args.link_in.now) (g.I.Source.left c.run_threads-done.new.link_in) (g.O.Sink.written c.args.link_out.now) (g.O.Sink.written c.run_threads-done.new.link_out) (g.S.Store.holds c.args.store.now) (g.S.Store.holds c.run_threads-done.new.store) c.args.log.now c.run_threads-done.new.log c.run_threads-done.new.listener c.counts.result c.run_threads-done.result.1.ending c.run_threads-done.result.1.read c.run_threads-done.result.0 c.close-calls.result
     c.run_threads-done.new.reader c.run_threads-done.new.pumper c.run_threads-done.new.writer c.run_threads-done.new.workers.passes.items (whole g c) c.why_of.result (why_is g c)
 
 pub returns-clause-source : goal.returns-clause-source
