@@ -1,0 +1,3 @@
+pub mod Rest
+pub mod Rounds
+pub mod Streams
