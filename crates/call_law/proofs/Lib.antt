@@ -1,0 +1,4 @@
+pub mod Said
+pub mod Answered
+pub mod Reading
+pub mod Writing

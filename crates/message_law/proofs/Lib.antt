@@ -1,0 +1,4 @@
+pub mod Members
+pub mod OfCalls
+pub mod Arrived
+pub mod Methods

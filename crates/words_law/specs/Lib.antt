@@ -1,0 +1,3 @@
+pub mod Said
+pub mod Service
+pub mod Tasks
