@@ -1,0 +1,3 @@
+pub mod Parts
+pub mod ReadPhases
+pub mod WritePhases
