@@ -54,12 +54,12 @@ ran_goes rule set h after ran =
     let begun : List Entry = adding h run_seat (Start ran.call) in
     goes_then h begun after [] [] (goes_adding h run_seat (Start ran.call)) (goes_as begun run_seat (Finish ran.call ran.answer) after ran.adds)
 
-runs_go : (rule : HandlerRule) (set : Setting) (n : ℕ) (h after : List Entry) → RunsTo rule set n h after → GoesOnWith h [] after
+pub runs_go : (rule : HandlerRule) (set : Setting) (n : ℕ) (h after : List Entry) → RunsTo rule set n h after → GoesOnWith h [] after
 runs_go rule set zero h after same = goes_same h after same
 runs_go rule set (suc n) h after runs =
     goes_then h runs.0 after [] [] (ran_goes rule set h runs.0 runs.1) (runs_go rule set n runs.0 after runs.2)
 
-flushes_go : (set : Setting) (n : ℕ) (h after : List Entry) → FlushesTo set n h after → GoesOnWith h [] after
+pub flushes_go : (set : Setting) (n : ℕ) (h after : List Entry) → FlushesTo set n h after → GoesOnWith h [] after
 flushes_go set zero h after same = goes_same h after same
 flushes_go set (suc n) h after flushes =
     goes_then h flushes.0 after [] [] (goes_as h flush_seat Flush flushes.0 flushes.1.adds) (flushes_go set n flushes.0 after flushes.2)

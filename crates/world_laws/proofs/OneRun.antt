@@ -1,5 +1,5 @@
 -- A world has one next turn, and commands have one run.
-use Rattle.std.proofs.Common.{◌≡◌, ℕ, zero, suc, List, ◌++◌, Some, None, IsTrue, ap, sym, ◌∙◌, subst, arith}
+use Rattle.std.proofs.Common.{◌≡◌, ℕ, zero, suc, List, ◌++◌, Some, None, IsTrue, refl, ap, sym, ◌∙◌, subst, arith}
 use Rattle.std.proofs.lemmas.List.{append_cancel_left}
 use Rattle.link_script.specs.declared.command.Command.{Command}
 use Rattle.link_script.specs.declared.command.Command.TheVariants.{Read, Write, Echo, Count, Sum, Chat, Close}
@@ -9,6 +9,7 @@ use Rattle.rpc_frames.specs.Heard.{heard_packets}
 use Rattle.rpc_journal.specs.declared.entry.EntryKind.TheVariants.{Cancel, Tick, EndIn}
 use Rattle.rpc_journal.specs.History.{adding}
 use Rattle.rpc_schedule.specs.Schedule.{flush_seat, input_seat, run_seat}
+use Rattle.rpc_schedule.proofs.ScheduleLemmas.{settles_same}
 use Rattle.world_turns.specs.Lines.{finished}
 use Rattle.world_turns.specs.Starts.{Started, all_added, starts}
 use Rattle.world_turns.specs.Turns.{Asks, Cancels, ClientHears, Closes, Ends, Kind, ServerHears, ServerTakes, Starts, TimePasses, Turn, TurnOf, Turns, cancelling, closed_by, ended_under, ending, later, next_kind, starting, task_of, task_under, timing, to_client, to_server, with_command, with_frame_at_client, with_frame_at_server, with_task}
@@ -16,7 +17,7 @@ use Rattle.world_turns.specs.Client.{ClientTakes}
 use Rattle.world_turns.specs.World.{Setup, World, first_world, moment, with_client, with_server}
 use Rattle.world_turns.specs.declared.limits.TheConstants.{MAX_DELIVERIES}
 use Rattle.world_laws.specs.OneRun.{RunsAreOne, RunsStayWithin, TurnsAreOne}
-use Rattle.world_laws.proofs.OneWork.{client_settles_same, client_takes_same, server_takes_same, settles_same}
+use Rattle.world_laws.proofs.OneWork.{client_settles_same, client_takes_same, server_takes_same}
 
 -- what was heard with a frame
 heard_same : (before all : List Packet) (ps qs : List Packet) → all ≡ before ++ ps → all ≡ before ++ qs → ps ≡ qs
@@ -57,7 +58,7 @@ module _ (k : Setup) (ruled : IsTrue k.rule.ruled) (w a b : World) where
       let s : Started = starts k w (Close channel) in
       x.is
       ∙ (ap (λ h. finished k (with_server k (with_command w rest s) h))
-      (settles_same k.rule k.server ruled (closed_by channel (ended_under s.under) w.server) x.after y.after x.settles y.settles)
+      (settles_same k.rule k.server ruled (closed_by channel (ended_under s.under) w.server) (closed_by channel (ended_under s.under) w.server) x.after y.after refl x.settles y.settles)
       ∙ sym y.is)
 
   starts_same : (command : Command) (rest : List Command) → Starts k w command rest a → Starts k w command rest b → a ≡ b
@@ -78,7 +79,7 @@ module _ (k : Setup) (ruled : IsTrue k.rule.ruled) (w a b : World) where
 
   time_same : TimePasses k w a → TimePasses k w b → a ≡ b
   time_same x y =
-      let server : x.server ≡ y.server = settles_same k.rule k.server ruled (adding w.server flush_seat (Tick (moment (later w)))) x.server y.server x.ticks y.ticks in
+      let server : x.server ≡ y.server = settles_same k.rule k.server ruled (adding w.server flush_seat (Tick (moment (later w)))) (adding w.server flush_seat (Tick (moment (later w)))) x.server y.server refl x.ticks y.ticks in
       x.is
       ∙ (both_same (λ h t. finished k (with_server k (with_client k (with_task t (later w)) h) x.server))
       (client_settles_same k.client (moment (later w)) w.client (task_of w) x.client y.client x.task y.task x.polls y.polls)
@@ -86,7 +87,7 @@ module _ (k : Setup) (ruled : IsTrue k.rule.ruled) (w a b : World) where
 
   ends_same : Ends k w a → Ends k w b → a ≡ b
   ends_same x y =
-      let server : x.server ≡ y.server = settles_same k.rule k.server ruled (adding w.server input_seat EndIn) x.server y.server x.server_settles y.server_settles in
+      let server : x.server ≡ y.server = settles_same k.rule k.server ruled (adding w.server input_seat EndIn) (adding w.server input_seat EndIn) x.server y.server refl x.server_settles y.server_settles in
       let client = client_settles_same k.client (moment w) (adding w.client input_seat EndIn) None x.client y.client None None x.client_settles y.client_settles in
       x.is ∙ (ap (λ h. with_client k (with_server k w x.server) h) client.0 ∙ (ap (λ h. with_client k (with_server k w h) y.client) server ∙ sym y.is))
 

@@ -16,7 +16,7 @@ use Rattle.rpc_journal.specs.declared.entry.EntryKind.TheVariants.{Cancel, Tick,
 use Rattle.rpc_journal.specs.Items.{arrivals}
 use Rattle.rpc_schedule.specs.Schedule.{Settles, flush_seat, input_seat, run_seat}
 use Rattle.world_turns.specs.Lines.{finished}
-use Rattle.world_turns.specs.Sound.{NoFlips, SoundWithoutFlips}
+use Rattle.world_turns.specs.Sound.{AreSendable, IsSound, NoFlips, SoundWithoutFlips}
 use Rattle.world_turns.specs.Starts.{Started, all_added, starts}
 use Rattle.world_turns.specs.Turns.{Asks, Cancels, ClientHears, Closes, Ends, ServerHears, Starts, TimePasses, Turn, TurnOf, Turned, Turns, closed_by, ended_under, kind_by, later, task_of, task_under, with_command, with_frame_at_client, with_frame_at_server, with_task}
 use Rattle.world_turns.specs.World.{Setup, Under, World, calling, closing, first_world, flushed_since, lacking, moment, packets_flushed, transferring, with_client, with_server}
@@ -310,6 +310,19 @@ first_ways up down commands = record {
     nothing_carried : (sent : List Packet) → IsCarrying sent new_link
     nothing_carried sent = record { carried = []; kept = []; frames = refl; kept_back = refl; carried_in = tt; kept_in = tt }
 
+-- a run goes on
+pub turns_go_on : (k : Setup) → NoFlips k.losses → (n : ℕ) (w now : World) → Turns k n w now → GoesOn w now
+turns_go_on k calm n w now turns = (turns_carry k calm [] [] (All-from_recursion (IsSendable Server) [] tt) (All-from_recursion (IsSendable Client) [] tt) n w now turns).on
+
+-- a world that was reached without damage is sound
+pub reached_is_sound : (k : Setup) (commands : List Command) (n : ℕ) (w : World) → NoFlips k.losses → Turns k n (first_world commands) w → AreSendable k w → IsSound k w
+reached_is_sound k commands n w calm turns fits =
+    let up : List Packet = packets_flushed k.client w.client in
+    let down : List Packet = packets_flushed k.server w.server in
+    let carries = turns_carry k calm up down (All-from_recursion (IsSendable Server) up fits.client) (All-from_recursion (IsSendable Client) down fits.server) n (first_world commands) w turns in
+    let ways = carries.ways (record { server_sent = among_themselves down; client_sent = among_themselves up }) (first_ways up down commands) in
+    record { server = All-from_recursion (Contains up) (arrivals w.server) ways.server; client = All-from_recursion (Contains down) (arrivals w.client) ways.client }
+
 pub sound_without_flips : SoundWithoutFlips
 sound_without_flips k commands now calm run fits =
     let up : List Packet = packets_flushed k.client now.client in
@@ -317,3 +330,28 @@ sound_without_flips k commands now calm run fits =
     let carries = run_carries k calm up down (All-from_recursion (IsSendable Server) up fits.client) (All-from_recursion (IsSendable Client) down fits.server) commands now run in
     let ways = carries.ways (record { server_sent = among_themselves down; client_sent = among_themselves up }) (first_ways up down commands) in
     record { server = All-from_recursion (Contains up) (arrivals now.server) ways.server; client = All-from_recursion (Contains down) (arrivals now.client) ways.client }
+
+-- what a frame brings to an end was sent by the other
+module _ (k : Setup) (commands : List Command) (n : ℕ) (w now : World) (calm : NoFlips k.losses) (turns : Turns k n (first_world commands) w) (sendable : AreSendable k w) where
+  abbrev sent_up : List Packet
+  sent_up = packets_flushed k.client w.client
+
+  abbrev sent_down : List Packet
+  sent_down = packets_flushed k.server w.server
+
+  ways_at : AreWays sent_up sent_down w
+  ways_at =
+      (turns_carry k calm sent_up sent_down (All-from_recursion (IsSendable Server) sent_up sendable.client) (All-from_recursion (IsSendable Client) sent_down sendable.server) n (first_world commands) w turns).ways
+      (record { server_sent = among_themselves sent_down; client_sent = among_themselves sent_up }) (first_ways sent_up sent_down commands)
+
+  pub server_brings : (frame : List ℕ) (rest : List (List ℕ)) → w.to_server.frames ≡ frame ∷ rest → (t : ServerHears k w frame rest now) → AllByRecursion (IsSendable Server) t.packets
+  server_brings frame rest front t =
+      let f : IsFront sent_up w.to_server frame rest = front_of sent_up w.to_server frame rest front ways_at.to_server in
+      let fits : IsSendable Server f.packet = subst (IsSendable Server) f.is_sent.2 (All-from_recursion (IsSendable Server) sent_up sendable.client f.is_sent.0 f.packet f.is_sent.1) in
+      subst (AllByRecursion (IsSendable Server)) (sym (heard_front Server w.fed_server frame f.packet t.packets fits ways_at.fed_server f.is t.heard)) (fits, tt)
+
+  pub client_brings : (frame : List ℕ) (rest : List (List ℕ)) → w.to_client.frames ≡ frame ∷ rest → (t : ClientHears k w frame rest now) → AllByRecursion (IsSendable Client) t.packets
+  client_brings frame rest front t =
+      let f : IsFront sent_down w.to_client frame rest = front_of sent_down w.to_client frame rest front ways_at.to_client in
+      let fits : IsSendable Client f.packet = subst (IsSendable Client) f.is_sent.2 (All-from_recursion (IsSendable Client) sent_down sendable.server f.is_sent.0 f.packet f.is_sent.1) in
+      subst (AllByRecursion (IsSendable Client)) (sym (heard_front Client w.fed_client frame f.packet t.packets fits ways_at.fed_client f.is t.heard)) (fits, tt)

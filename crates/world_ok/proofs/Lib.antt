@@ -1,0 +1,11 @@
+pub mod Progress
+pub mod Items
+pub mod Speaks
+pub mod ServerSide
+pub mod Settles
+pub mod Named
+pub mod Lines
+pub mod Openings
+pub mod Runs
+pub mod Turning
+pub mod Whole
