@@ -1,0 +1,4 @@
+pub mod Saying
+pub mod Polling
+pub mod Opens
+pub mod Beside
