@@ -2,3 +2,5 @@ pub mod OutLemmas
 pub mod RestLemmas
 mod ChannelLemmas
 mod StockLemmas
+pub mod MadeLemmas
+pub mod StopLemmas

@@ -1,12 +1,17 @@
 -- The server of a world, between two things that come to it, and what they do to it.
-use Rattle.std.specs.Prelude.{◌≡◌, ℕ, List, ◌++◌}
+use Rattle.std.specs.Prelude.{◌≡◌, ℕ, List, ◌++◌, length, Option, Some, None, if◌then◌else◌}
 use Rattle.link_io.specs.Stored.{Stored}
 use Rattle.rpc_ids.specs.declared.method.Role.TheVariants.{Server}
 use Rattle.rpc_packet.specs.declared.owned.Packet.{Packet}
 use Rattle.rpc_frames.specs.Heard.{heard_packets}
 use Rattle.rpc_handlers.specs.HandlerRule.{HandlerRule}
 use Rattle.rpc_journal.specs.declared.item.Item.{Item}
+use Rattle.rpc_journal.specs.declared.setting.Setting.{Setting}
+use Rattle.rpc_journal.specs.Effect.{Deed}
+use Rattle.rpc_journal.specs.Entries.{close_effect}
 use Rattle.rpc_journal.specs.Items.{items_flushed}
+use Rattle.rpc_journal.specs.Rows.{channels_in}
+use Rattle.rpc_channel.specs.Rising.{has_id}
 use Rattle.rpc_schedule.specs.Kept.{kept}
 use Rattle.rpc_schedule.specs.Serving.{Serving, deeds}
 use Rattle.rpc_schedule.specs.ends.EndState.{EndState}
@@ -36,3 +41,7 @@ pub record ServerHears (rule : HandlerRule) (before after : Serving) (fed frame 
   pub packets : List Packet
   pub heard : heard_packets Server (fed ++ frame) ≡ heard_packets Server fed ++ packets
   pub takes : ServerTakes rule before.table.setting packets before.table.entries after.table.entries
+
+-- how many calls end where a channel is closed, if it is in
+abbrev pub ended_at_close : Setting → List Deed → ℕ → Option ℕ
+ended_at_close set ds channel = if has_id (channels_in set ds) channel then Some (length (close_effect set.role ds channel).ends) else None

@@ -1,11 +1,11 @@
 //! What a server does with what comes to it, until nothing is left to do.
-ghost use Rattle.std.specs.Prelude.{◌≡◌, ℕ, ◌∷◌, [], ◌++◌, List, OnOk, Option};
+ghost use Rattle.std.specs.Prelude.{◌≡◌, ℕ, ◌∷◌, [], ◌++◌, List, IfErr, OnOk, Option};
 ghost use Rattle.link_io.specs.Stored.{Stored};
 ghost use Rattle.rpc_ids.specs.declared.method.Role.TheVariants.{Server as server_role};
 ghost use Rattle.rpc_journal.specs.Items.{items_flushed, packet_of};
 ghost use Rattle.rpc_schedule.specs.Kept.{Holds};
 ghost use Rattle.rpc_schedule.specs.Serving.{deeds};
-ghost use Rattle.rpc_schedule.specs.Settling.{FlushesAll, Grows, IsOrderly, RunsAll, RunsAndFlushes, SettlesAll};
+ghost use Rattle.rpc_schedule.specs.Settling.{FlushesAll, Grows, IsOrderly, RunsAll, RunsAndFlushes, SettlesAll, StopsFull};
 ghost use Rattle.world_ends.specs.Resting.{IsResting, TakesMore};
 ghost use Rattle.world_ends.specs.Wiring.{GoesOut, with_all_sent};
 
@@ -56,11 +56,18 @@ pub(crate) fn settle<T: Serves, S: Store>(
     ensures items { OnOk result (items.new.items ≡ items_flushed (deeds (T.seen server.new))) }
     ensures out { OnOk result (GoesOut server_role items.old.items wires.old items.new.items wires.new) }
     ensures holds { OnOk result ((st : Option Stored) → Holds items.old.items st (S.holds store.old) → Holds items.new.items st (S.holds store.new)) }
+    ensures full { IfErr result (λ why. why ≡ Stopped.Journal → StopsFull T.rule (T.seen server.old) (T.seen server.new)) }
     ensures fed { OnOk result ((s : List ℕ) → T.stands server.old s → T.stands server.new s) }
 {
-    run_and_flush(server, store, items, wires)?;
+    match run_and_flush(server, store, items, wires) {
+        Ok(()) => {}
+        Err(stopped) => return Err(stopped),
+    }
     'rounds: while !server.idle() {
-        run_and_flush(server, store, items, wires)?;
+        match run_and_flush(server, store, items, wires) {
+            Ok(()) => {}
+            Err(stopped) => return Err(stopped),
+        }
     }
     Ok(())
 }
@@ -79,9 +86,13 @@ fn run_and_flush<T: Serves, S: Store>(
     ensures items { OnOk result (items.new.items ≡ items_flushed (deeds (T.seen server.new))) }
     ensures out { OnOk result (GoesOut server_role items.old.items wires.old items.new.items wires.new) }
     ensures holds { OnOk result ((st : Option Stored) → Holds items.old.items st (S.holds store.old) → Holds items.new.items st (S.holds store.new)) }
+    ensures full { IfErr result (λ why. why ≡ Stopped.Journal → StopsFull T.rule (T.seen server.old) (T.seen server.new)) }
     ensures fed { OnOk result ((s : List ℕ) → T.stands server.old s → T.stands server.new s) }
 {
-    run_all(server)?;
+    match run_all(server) {
+        Ok(()) => {}
+        Err(refused) => return Err(Stopped::from(refused)),
+    }
     flush_all(server, store, items, wires)?;
     Ok(())
 }
@@ -90,6 +101,7 @@ fn run_and_flush<T: Serves, S: Store>(
 fn run_all<T: Serves>(server: &mut T) -> Result<(), StartRefused>
     requires { IsOrderly (T.seen server.old) }
     ensures ok { OnOk result (RunsAll T.rule (T.seen server.old) (T.seen server.new)) }
+    ensures full { IfErr result (λ why. why ≡ StartRefused.JournalFull → StopsFull T.rule (T.seen server.old) (T.seen server.new)) }
     ensures fed { (s : List ℕ) → T.stands server.old s → T.stands server.new s }
 {
     'runs: loop {

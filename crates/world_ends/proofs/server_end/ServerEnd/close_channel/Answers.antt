@@ -22,4 +22,4 @@ returns-clause-moves c =
     let before : ServerState = record { end = c.self.inside.server; stored = c.self.inside.store.stored; items = c.self.inside.items.items } in
     let after : ServerState = record { end = c.settle.new.server; stored = c.settle.new.store.stored; items = c.settle.new.items.items } in
     subst (λ s. ServerMoves s c.args.wires.now after c.settle.new.wires) c.self.view_is
-    (moves_by before after c.args.wires.now c.settle.new.wires (c.in_ok-settle.ensures.ok.stays.setting ∙ c.close_channel.ensures.aside.setting) c.in_ok-settle.ensures.out c.in_ok-settle.ensures.holds)
+    (moves_by before after c.args.wires.now c.settle.new.wires (c.in-Ok-settle.ensures.ok.stays.setting ∙ c.close_channel.ensures.aside.setting) c.in-Ok-settle.ensures.out c.in-Ok-settle.ensures.holds)
