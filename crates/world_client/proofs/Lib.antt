@@ -1,0 +1,10 @@
+mod TransferLaws
+mod OnePollLemmas
+mod MailLemmas
+mod SpeakerLemmas
+mod RunLemmas
+mod PassLemmas
+mod SettleLemmas
+mod ArriveLemmas
+mod EndLemmas
+mod AskLemmas
