@@ -1,0 +1,13 @@
+pub mod WireLemmas
+pub mod ServerLemmas
+pub mod ClientLemmas
+pub mod TimeLemmas
+pub mod SizeLemmas
+pub mod LineLemmas
+pub mod EndLemmas
+pub mod TurnLemmas
+pub mod MakeLemmas
+pub mod RunLemmas
+pub mod OverLemmas
+pub mod NewLemmas
+pub mod BoundsLemmas

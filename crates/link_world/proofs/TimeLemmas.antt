@@ -1,0 +1,87 @@
+-- Time passes in the world, and both inputs end.
+use Rattle.std.proofs.Common.{◌≡◌, ℕ, ◌+◌, ◌*◌, List, ◌++◌, Option, Some, None, refl, ap, sym, ◌∙◌, subst, inl, inr}
+use Rattle.demo_services.specs.DemoRule.{demo_rule}
+use Rattle.link_script.specs.declared.command.Command.{Command}
+use Rattle.rpc_ids.specs.declared.method.Role.TheVariants.{Server, Client}
+use Rattle.rpc_journal.specs.declared.entry.Entry.{Entry}
+use Rattle.rpc_journal.specs.declared.entry.EntryKind.TheVariants.{Tick, EndIn}
+use Rattle.rpc_journal.specs.History.{adding}
+use Rattle.rpc_schedule.specs.Schedule.{Settles, flush_seat, input_seat}
+use Rattle.rpc_schedule.specs.Serving.{deeds}
+use Rattle.rpc_schedule.specs.ends.EndState.{WasFed}
+use Rattle.rpc_journal.specs.Items.{items_flushed}
+use Rattle.world_turns.specs.declared.limits.TheConstants.{TURN_OF_TIME}
+use Rattle.world_turns.specs.Client.{ClientSettles}
+use Rattle.world_turns.specs.Limits.{ClientStops, ServerStopsWith, StopsIn}
+use Rattle.world_turns.specs.Lines.{finished}
+use Rattle.world_turns.specs.Setup.{client_setting}
+use Rattle.world_turns.specs.Turns.{later, task_of, timing, with_task}
+use Rattle.world_turns.specs.World.{Setup, World, moment, with_client, with_server}
+use Rattle.world_client.specs.declared.under.Under.{Under}
+use Rattle.world_client.specs.ClientSide.{ClientMoves, ClientRests, ClientState, ClientWorks}
+use Rattle.world_client.specs.Underway.{task_seen}
+use Rattle.world_ends.specs.ServerSide.{ServerMoves, ServerRests, ServerState}
+use Rattle.world_ends.specs.Wiring.{Wiring}
+use Rattle.link_world.specs.declared.course.Course.{Course}
+use Rattle.link_world.specs.Making.{WorldTurns}
+use Rattle.link_world.specs.Showing.{ClientShows, CourseShows, ServerShows, wiring_of}
+use Rattle.link_world.proofs.ClientLemmas.{client_goes, client_losses, client_moved, client_wires, in_world, under_then}
+use Rattle.link_world.proofs.ServerLemmas.{losses_by, moved_on, ruled, server_goes, wires_by}
+use Rattle.link_world.proofs.WireLemmas.{with_wiring}
+
+module _ (k : Setup) where
+  later_shows : (commands : List Command) (d : Course) (w : World) → CourseShows commands d w → CourseShows commands (record d { times = d.times + 1 }) (later w)
+  later_shows commands d w course = record {
+    coming = course.coming;
+    under = course.under;
+    sessions = course.sessions;
+    delivered = course.delivered;
+    times = ap (λ n. n + 1) course.times;
+    lines = course.lines;
+  }
+
+  -- the server is told of the moment of the world
+  ticks_at : (P : ℕ → Type 0) (commands : List Command) (d : Course) (w : World) → CourseShows commands d w → P (TURN_OF_TIME * (d.times + 1)) → P (moment (later w))
+  ticks_at P commands d w course holds = subst (λ n. P (TURN_OF_TIME * (n + 1))) course.times holds
+
+  pub time_passed : (commands : List Command) (w : World) (s server : ServerState) (c client : ClientState) (x y z : Wiring) (d : Course) (under : Option Under)
+      → ServerShows k s w.server w.fed_server → ClientShows k c w.client w.fed_client → x ≡ wiring_of k w → CourseShows commands d w
+      → ClientRests client → ClientWorks (TURN_OF_TIME * (d.times + 1)) c.end.serving.table.entries d.under client.end.serving.table.entries under
+      → WasFed Client client.end w.fed_client → ClientMoves c x client y → ServerRests server
+      → Settles demo_rule s.end.serving.table.setting (adding s.end.serving.table.entries flush_seat (Tick (TURN_OF_TIME * (d.times + 1)))) server.end.serving.table.entries
+      → WasFed Server server.end w.fed_server → ServerMoves s y server z
+      → WorldTurns k commands w timing server client z (record d { under = under; times = d.times + 1 })
+  time_passed commands w s server c client x y z d under shows shown wires course client_rests works client_fed client_moves rests settles fed moves =
+      let v : World = with_task works.next (later w) in
+      let first : List Entry = client.end.serving.table.entries in
+      let after : List Entry = server.end.serving.table.entries in
+      let now : ClientShows k client first w.fed_client = client_moved k c client x y w.client w.fed_client w.fed_client shown client_moves client_rests.items client_fed in
+      let mid : World = with_wiring y (record v { client = first }) in
+      let client_is = client_goes k v c client x y w.fed_client w.fed_client shown wires client_moves now in
+      let mid_wires : y ≡ wiring_of k mid = client_wires k v y first (client_losses k v c client x y wires client_moves) in
+      let then : ServerShows k server after w.fed_server = moved_on k s server y z w.server w.fed_server w.fed_server shows moves rests.items fed in
+      let server_is = server_goes k mid s server y z w.fed_server w.fed_server shows mid_wires moves then in
+      record {
+        mid = with_wiring z (record mid { server = after });
+        turn = record {
+          client = first;
+          task = works.next;
+          polls = in_world k (λ set at h task. ClientSettles set at h task first works.next) commands (later w) c (record d { times = d.times + 1 }) w.fed_client shown
+              (later_shows commands d w course) works.settles;
+          server = after;
+          ticks = ticks_at (λ at. Settles k.rule k.server (adding w.server flush_seat (Tick at)) after) commands d w course
+              (ruled k (λ rule set h. Settles rule set (adding h flush_seat (Tick (TURN_OF_TIME * (d.times + 1)))) after) s w.server w.fed_server shows settles);
+          is = ap (finished k) (sym (ap (λ q. with_server k q after) client_is ∙ server_is));
+        };
+        server = then;
+        client = now;
+        wires = wires_by k mid z after (losses_by k mid s server y z mid_wires moves);
+        course = record {
+          coming = course.coming;
+          under = under_then k commands w d under works.next course works.under;
+          sessions = course.sessions;
+          delivered = course.delivered;
+          times = ap (λ n. n + 1) course.times;
+          lines = course.lines;
+        };
+      }

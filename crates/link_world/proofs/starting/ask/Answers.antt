@@ -1,0 +1,13 @@
+use Rattle.std.proofs.Common.{subst, sym}
+use Rattle.world_client.specs.Asking.{IsClientOf}
+use Rattle.link_world.proofs.ClientLemmas.{asked_so, client_of}
+use Rattle.link_world.proofs.starting.ask.Goals as goal
+
+pub returns-clause-turn : goal.returns-clause-turn
+returns-clause-turn c = λ k commands w rest shows wires tuned course.
+    asked_so k commands w c.args.command.now rest c.args.client.now c.start.new.self c.args.wires.now c.start.new.wires c.args.course.now c.in_ok-under.under c.start.new.sessions
+    c.requires.asked shows wires course c.in_ok-under.ensures.rest
+    (c.in_ok-under.ensures.asks k w
+    (subst (λ at. IsClientOf k w c.args.client.now c.args.course.now.sessions c.args.tuning at) (sym c.moment-now.ensures)
+    (client_of k commands w rest c.args.client.now c.args.course.now c.args.tuning shows tuned course)))
+    (c.in_ok-under.ensures.fed w.fed_client shows.fed) c.in_ok-under.ensures.moves

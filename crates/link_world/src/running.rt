@@ -1,0 +1,44 @@
+//! A run, turn by turn.
+ghost use Rattle.std.specs.Prelude.{◌≡◌, Err, OnOk};
+ghost use Rattle.std.specs.List.{AllByRecursion};
+ghost use Rattle.link_script.specs.Script.{IsCommand};
+ghost use Rattle.world_turns.specs.Limits.{IsPastFrames, IsPastJournal};
+ghost use Rattle.world_turns.specs.World.{first_world};
+ghost use Rattle.link_world.specs.Running.{EndsWith, setup_by};
+ghost use Rattle.link_world.specs.Showing.{IsOpen, Shows, Stands};
+
+use crate::course::Course;
+use crate::making::make_turn;
+use crate::outcome::WorldRefused;
+use crate::turn::next_turn;
+use link_script::Command;
+use transfer_base::Tuning;
+use world_client::ClientEnd;
+use world_ends::{ServerEnd, Wires};
+use world_turns::MAX_DELIVERIES;
+
+/// Makes all turns but the end.
+pub(crate) fn run_turns(
+    commands: &[Command],
+    tuning: Tuning,
+    server: &mut ServerEnd,
+    client: &mut ClientEnd,
+    wires: &mut Wires,
+    course: &mut Course,
+) -> Result<(), WorldRefused>
+    requires stands { Stands server.old client.old course.old }
+    requires open { IsOpen client.old course.old.under }
+    requires commands { AllByRecursion IsCommand commands.now }
+    requires begins { Shows (setup_by server.old client.old wires.old tuning) commands.now server.old client.old wires.old course.old (first_world commands.now) }
+    ensures stands { OnOk result (Stands server.new client.new course.new) }
+    ensures ends { OnOk result (EndsWith (setup_by server.old client.old wires.old tuning) commands.now server.new client.new wires.new course.new) }
+    ensures frames { result ≡ Err WorldRefused.Frames → IsPastFrames (setup_by server.old client.old wires.old tuning) commands.now }
+{
+    'turns: while let Some(turn) = next_turn(commands, course, wires) {
+        if course.delivered >= MAX_DELIVERIES {
+            return Err(WorldRefused::Frames);
+        }
+        make_turn(turn, tuning, server, client, wires, course)?;
+    }
+    Ok(())
+}

@@ -1,0 +1,98 @@
+//! How a command starts.
+ghost use Rattle.std.specs.Prelude.{◌≡◌, ℕ, ◌+◌, ◌*◌, ◌<◌, ◌≤◌, ◌^◌, List, Err, OnOk};
+ghost use Rattle.link_script.specs.declared.command.Command.{Command};
+ghost use Rattle.link_script.specs.declared.command.Command.TheVariants.{Close};
+ghost use Rattle.link_script.specs.Script.{IsCommand};
+ghost use Rattle.rpc_journal.specs.declared.entry.TheConstants.{MAX_ENTRIES};
+ghost use Rattle.world_client.specs.Asking.{IsAsked};
+ghost use Rattle.world_client.specs.ClientSide.{Attends, ClientRests, ClientState};
+ghost use Rattle.world_ends.specs.ServerSide.{ServerRests};
+ghost use Rattle.world_turns.specs.declared.limits.TheConstants.{TURN_OF_TIME};
+ghost use Rattle.world_turns.specs.Limits.{StopsIn};
+ghost use Rattle.world_turns.specs.Turns.{next_kind, starting};
+ghost use Rattle.world_turns.specs.World.{Setup, World};
+ghost use Rattle.link_world.specs.Making.{ClientTurns, ServerTurns, WorldTurns, with_coming};
+ghost use Rattle.link_world.specs.Showing.{ClientShows, CourseShows, IsTuned, ServerShows, Stands, wiring_of};
+
+use crate::course::Course;
+use crate::turns::moment;
+use link_script::Command;
+use transfer_base::Tuning;
+use world_client::{ClientEnd, Under};
+use world_ends::{ServerEnd, Stopped, Wires};
+
+/// The client is asked a command. So many of them that their sessions have no number would not fit into memory.
+pub(crate) fn ask(
+    command: &Command,
+    tuning: Tuning,
+    client: &mut ClientEnd,
+    wires: &mut Wires,
+    course: &mut Course,
+) -> Result<(), Stopped>
+    requires rest { ClientRests client.old }
+    requires asked { IsAsked command.now }
+    requires times { course.old.times ≤ MAX_ENTRIES }
+    ensures rest { OnOk result (ClientRests client.new) }
+    ensures attends { OnOk result (Attends client.new course.new.under (TURN_OF_TIME * course.new.times)) }
+    ensures same { course.new ≡ record course.old { under = course.new.under; sessions = course.new.sessions } }
+    ensures turn { OnOk result ((k : Setup) (commands : List Command) (w : World) (rest : List Command) → ClientShows k client.old w.client w.fed_client
+        → wires.old ≡ wiring_of k w → IsTuned k tuning → CourseShows commands course.old (with_coming rest w)
+        → ClientTurns k commands w (starting command.now rest) client.new wires.new course.new) }
+{
+    if course.sessions == u32::MAX {
+        return Err(Stopped::Memory);
+    }
+    let now = moment(course.times);
+    let under = client.start(command, &mut course.sessions, tuning, now, wires)?;
+    course.under = Some(under);
+    Ok(())
+}
+
+/// The server closes a channel.
+pub(crate) fn close(
+    channel: u32,
+    server: &mut ServerEnd,
+    wires: &mut Wires,
+    course: &mut Course,
+) -> Result<(), Stopped>
+    requires { ServerRests server.old }
+    ensures rest { OnOk result (ServerRests server.new) }
+    ensures same { course.new ≡ record course.old { under = course.new.under } }
+    ensures turn { OnOk result ((k : Setup) (commands : List Command) (w : World) (rest : List Command) → ServerShows k server.old w.server w.fed_server
+        → wires.old ≡ wiring_of k w → CourseShows commands course.old (with_coming rest w)
+        → ServerTurns k commands w (starting (Close channel) rest) server.new wires.new course.new) }
+    ensures attends { OnOk result ((c : ClientState) (now : ℕ) → Attends c course.new.under now) }
+{
+    let ended = server.close_channel(channel, wires)?;
+    course.under = Some(Under::Closing(channel, ended));
+    Ok(())
+}
+
+/// A command starts.
+pub(crate) fn start(
+    command: &Command,
+    tuning: Tuning,
+    server: &mut ServerEnd,
+    client: &mut ClientEnd,
+    wires: &mut Wires,
+    course: &mut Course,
+) -> Result<(), Stopped>
+    requires stands { Stands server.old client.old course.old }
+    requires command { IsCommand command.now }
+    requires started { course.old.started + 1 < 2 ^ 64 }
+    ensures stands { OnOk result (Stands server.new client.new course.new) }
+    ensures turn { OnOk result ((k : Setup) (commands : List Command) (w : World) (rest : List Command) → ServerShows k server.old w.server w.fed_server
+        → ClientShows k client.old w.client w.fed_client → CourseShows commands course.old w → IsTuned k tuning → wires.old ≡ wiring_of k w
+        → next_kind w ≡ starting command.now rest → WorldTurns k commands w (starting command.now rest) server.new client.new wires.new course.new) }
+{
+    course.started += 1;
+    match command {
+        Command::Close(channel) => close(*channel, server, wires, course),
+        Command::Read(_, _)
+        | Command::Write(_, _)
+        | Command::Echo(_)
+        | Command::Count(_)
+        | Command::Sum(_)
+        | Command::Chat(_) => ask(command, tuning, client, wires, course),
+    }
+}

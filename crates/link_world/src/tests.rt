@@ -1,0 +1,6 @@
+//! What is told of the runs of scripts, as texts.
+
+mod desk;
+mod losses;
+mod plain;
+mod transfers;

@@ -1,0 +1,64 @@
+//! Which turn comes next.
+ghost use Rattle.std.specs.Prelude.{◌≡◌, ◌+◌, ◌<◌, ◌^◌, IfNone, IfSome, slice_get};
+ghost use Rattle.std.specs.Option.{option_copied};
+ghost use Rattle.world_turns.specs.Turns.{ending, next_kind};
+ghost use Rattle.world_turns.specs.World.{Setup, World};
+ghost use Rattle.link_world.specs.Making.{TakesTurn};
+ghost use Rattle.link_world.specs.Showing.{CourseShows, IsNext, wiring_of};
+
+use crate::course::Course;
+use bytes::Bytes;
+use link_script::Command;
+use world_client::Under;
+use world_ends::Wires;
+
+/// A turn that isn't the end.
+#[derive(Drop)]
+pub(crate) enum Turn<'a> {
+    /// This frame is delivered to the server.
+    ToServer(Bytes),
+    /// This frame is delivered to the client.
+    ToClient(Bytes),
+    /// This command starts.
+    Start(&'a Command),
+    /// This call of the client is cancelled.
+    Cancel(u32),
+    /// The time moves on.
+    Time,
+}
+
+/// The turn that comes next; `None` where it is the end. A frame that it delivers is taken off the link.
+pub(crate) fn next_turn<'a>(
+    commands: &'a [Command],
+    course: &Course,
+    wires: &mut Wires,
+) -> Option<Turn<'a>>
+    ensures turn { IfSome result (λ turn. (k : Setup) (w : World) → wires.old ≡ wiring_of k w → CourseShows commands.now course.now w
+        → TakesTurn k w wires.new turn) }
+    ensures next { IfSome result (IsNext commands.now course.now) }
+    ensures end { IfNone result ((k : Setup) (w : World) → wires.old ≡ wiring_of k w → CourseShows commands.now course.now w
+        → (next_kind w ≡ ending) × (wires.new ≡ wiring_of k w)) }
+{
+    if let Some(frame) = wires.take_for_server() {
+        return Some(Turn::ToServer(frame));
+    }
+    if let Some(frame) = wires.take_for_client() {
+        return Some(Turn::ToClient(frame));
+    }
+    match &course.under {
+        Some(Under::Calling(_, call)) => Some(Turn::Cancel(*call)),
+        Some(Under::Transferring(_) | Under::Lacking(_) | Under::Closing(_, _)) => Some(Turn::Time),
+        None => Some(Turn::Start(command_at(commands, course.started)?)),
+    }
+}
+
+fn command_at(commands: &[Command], place: usize) -> Option<&Command>
+    ensures command { option_copied result ≡ slice_get commands.now place }
+    ensures few { IfSome result (λ command. place + 1 < 2 ^ 64) }
+{
+    if place < commands.len() {
+        Some(&commands[place])
+    } else {
+        None
+    }
+}

@@ -1,0 +1,117 @@
+//! The world of a script.
+ghost use Rattle.std.specs.Prelude.{◌≡◌, Err, IfOk};
+ghost use Rattle.demo_services.specs.DemoRule.{demo_rule};
+ghost use Rattle.rpc_journal.specs.Lawful.{IsLegal};
+ghost use Rattle.world_turns.specs.Limits.{IsPastFrames, IsPastJournal};
+ghost use Rattle.world_turns.specs.Setup.{client_setting, quiet_rule, script_chunk, script_window, setup_of};
+ghost use Rattle.link_world.specs.Outcomes.{IsRunOf};
+ghost use Rattle.link_world.specs.Starting.{IsWithinBounds};
+
+use crate::course::Course;
+use crate::outcome::{Outcome, WorldRefused};
+use crate::over::end;
+use crate::running::run_turns;
+use link_script::{DEFAULT_CHUNK, DEFAULT_WINDOW, Script};
+use std::alloc::{AllocError, Global};
+use std::marker::Model;
+use transfer_base::Tuning;
+use world_client::ClientEnd;
+use world_ends::{ServerEnd, Wires, store_of};
+
+/// Both ends, the link between them and the commands of a script, before anything happens. Contracts see the script.
+#[derive(Drop)]
+pub struct World {
+    alloc: Global,
+    script: Script,
+    tuning: Tuning,
+    server: ServerEnd,
+    client: ClientEnd,
+    wires: Wires,
+}
+
+impl Model for World {
+    ghost use Rattle.link_script.specs.declared.script.Script.{Script};
+
+    ghost Value = { Script };
+
+    ghost use Rattle.link_world.specs.Starting.{IsNew};
+
+    ghost view = { λ w. w.script };
+
+    ghost invariant = { λ w. IsNew w.script w.tuning w.server w.client w.wires };
+}
+
+impl World {
+    /// The world of a script.
+    pub fn new(alloc: Global, script: Script) -> Result<World, AllocError>
+        requires { IsWithinBounds script }
+        ensures { IfOk result (λ world. world ≡ script) }
+    {
+        let tuning = tuning_of(&script);
+        let server_store = store_of(
+            alloc,
+            script.server.as_slice(),
+            script.left_server.as_slice(),
+        )?;
+        let client_store = store_of(
+            alloc,
+            script.client.as_slice(),
+            script.left_client.as_slice(),
+        )?;
+        let server = ServerEnd::new(alloc, server_store, tuning)?;
+        let client = ClientEnd::new(alloc, client_store)?;
+        let wires = Wires::new(alloc, script.losses.as_slice())?;
+        Ok(World {
+            alloc,
+            script,
+            tuning,
+            server,
+            client,
+            wires,
+        })
+    }
+
+    /// Runs the script to its end.
+    ///
+    /// # Errors
+    ///
+    /// Where more frames than `MAX_DELIVERIES` would be delivered, where the journal of an end has no room, or for want of
+    /// memory.
+    pub fn run(self) -> Result<Outcome, WorldRefused>
+        ensures ok { IfOk result (IsRunOf self) }
+        ensures frames { result ≡ Err WorldRefused.Frames → IsPastFrames (setup_of self) self.commands }
+        ensures server { IfOk result (λ outcome. IsLegal demo_rule (setup_of self).server outcome.server.entries) }
+        ensures client { IfOk result (λ outcome. IsLegal quiet_rule client_setting outcome.client.entries) }
+    {
+        let World {
+            alloc,
+            script,
+            tuning,
+            mut server,
+            mut client,
+            mut wires,
+        } = self;
+        let mut course = Course::new(alloc);
+        run_turns(
+            script.commands.as_slice(),
+            tuning,
+            &mut server,
+            &mut client,
+            &mut wires,
+            &mut course,
+        )?;
+        end(alloc, server, client, wires, course)
+    }
+}
+
+// How the receivers of a script ask.
+fn tuning_of(script: &Script) -> Tuning
+    requires { IsWithinBounds script.now }
+    ensures window { result.window ≡ script_window script.now }
+    ensures chunk { result.chunk ≡ script_chunk script.now }
+{
+    Tuning {
+        window: script.window.unwrap_or(DEFAULT_WINDOW),
+        chunk: script.chunk.unwrap_or(DEFAULT_CHUNK),
+    }
+}
