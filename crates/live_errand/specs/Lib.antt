@@ -1,0 +1,4 @@
+pub mod Events
+pub mod Tasks
+pub mod Telling
+pub mod Watching

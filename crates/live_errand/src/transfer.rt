@@ -1,0 +1,123 @@
+//! A task that speaks through a call.
+ghost use Rattle.std.specs.Prelude.{◌≡◌, [], None, true, map, IfOk, OnOk, OnErr};
+ghost use Rattle.task_core.specs.Log.{posted};
+ghost use Rattle.task_core.specs.Tasks.{AddsNothing, Keeps};
+ghost use Rattle.live_errand.specs.Tasks.{mail_of};
+ghost use Rattle.live_errand.specs.Telling.{AllAdd, HasWord, IsAlone, Tells, told_weaker};
+
+use crate::errand::Errand;
+use rpc_handlers::{Event, Out};
+use rpc_ids::Status;
+use std::alloc::{AllocError, Global};
+use std::snapshot::Snapshot;
+use task_core::{Dispatcher, Ear, Mail, Task};
+use wake_bells::Bells;
+
+// The key of the one task.
+const KEY: usize = 0;
+
+// A step polls the task so often at most.
+const POLLS: u64 = 8;
+
+/// A task behind a dispatcher, which is told the events of a call as its mail.
+#[derive(Drop)]
+pub struct TaskErrand<T: Task + Drop> {
+    pub tasks: Dispatcher<T>,
+    pub ear: Ear,
+    /// The task as it began.
+    pub first: Snapshot<T>,
+}
+
+impl<T: Task + Drop> TaskErrand<T> {
+    /// A new task, at moment 0. Its word of wakes is the first that the ear hears.
+    pub fn new(alloc: Global, task: T, ear: Ear) -> Result<TaskErrand<T>, AllocError>
+        requires new { ear.looks ≡ [] }
+        ensures first { IfOk result (λ e. e.first.value ≡ task) }
+        ensures ear { IfOk result (λ e. e.ear ≡ ear) }
+        ensures moment { IfOk result (λ e. e.tasks.moment ≡ 0) }
+        ensures there { IfOk result (λ e. IsAlone e.tasks) }
+        ensures told { IfOk result (λ e. Tells T.polls task e.tasks ear true 0 0 None [] [] None) }
+    {
+        let first = Snapshot::of(&task);
+        let mut tasks = Dispatcher::new(alloc)?;
+        match tasks.add(task) {
+            Ok(_) => Ok(TaskErrand { tasks, ear, first }),
+            Err(_) => Err(AllocError),
+        }
+    }
+
+    /// The task as its last poll left it.
+    pub fn task(&self) -> &T
+        requires { IsAlone self.now.tasks }
+    {
+        self.tasks.task(KEY)
+    }
+
+    // The event as mail, where it is any.
+    fn post(&mut self, event: Event) -> Result<(), AllocError>
+        requires { IsAlone self.old.tasks }
+        ensures posts { OnOk result (AllAdd self.old.tasks self.new.tasks (map (posted 0) (mail_of event))) }
+        ensures refused { OnErr result (AddsNothing self.old.tasks self.new.tasks) }
+        ensures rest { self.new ≡ record self.old { tasks = self.new.tasks } }
+        ensures keeps { Keeps self.old.tasks self.new.tasks }
+    {
+        match event {
+            Event::Message(text) => self.tasks.post(KEY, Mail::Text(text)),
+            Event::Ended(status) => self.tasks.post(KEY, Mail::Closed(status)),
+            Event::Request(_) | Event::Completion | Event::Tick(_) => Ok(()),
+        }
+    }
+}
+
+impl<T: Task + Drop> Errand for TaskErrand<T> {
+    ghost use Rattle.std.specs.Prelude.{◌≡◌, true, false};
+
+    ghost watches = { false };
+
+    ghost ready = { λ x. IsAlone x.tasks };
+
+    ghost fits = { λ x tower. HasWord x.ear tower };
+
+    ghost moment = { λ x. x.tasks.moment };
+
+    ghost listens = { λ _. true };
+
+    ghost cuts = { λ _. false };
+
+    ghost did = { λ x. Tells T.polls x.first.value x.tasks x.ear };
+
+    ghost weaker = { λ x. told_weaker T.polls x.first.value x.tasks x.ear };
+
+    fn hear(&mut self, event: Event) -> Result<(), AllocError> {
+        self.post(event)
+    }
+
+    fn go_on(&mut self, bells: &Bells, now: u64) -> Result<(), AllocError> {
+        self.tasks.advance(now);
+        self.tasks.run_with(bells, &mut self.ear, POLLS)?;
+        Ok(())
+    }
+
+    fn next_out(&mut self) -> Option<Out> {
+        match self.tasks.take_out() {
+            Some((_, out)) => Some(out),
+            None => None,
+        }
+    }
+
+    fn listens(&self) -> bool {
+        true
+    }
+
+    fn cuts(&self) -> bool {
+        false
+    }
+
+    fn cut(&mut self, status: Status) {
+        let _ = status;
+    }
+
+    fn end(&self) -> Option<Status> {
+        self.tasks.result(KEY)
+    }
+}
