@@ -1,11 +1,11 @@
 -- What a session served of a link.
-use Rattle.std.proofs.Common.{◌≡◌, ℕ, ◌+◌, false, List, [], ◌++◌, length, Result, Ok, Err, IfOk, Option, IfSome, refl, sym, ap, ◌∙◌, subst, inl, inr, arith, append_assoc, length-append}
+use Rattle.std.proofs.Common.{◌≡◌, ◌⊎◌, ℕ, ◌+◌, ◌<◌, false, List, [], ◌++◌, length, Result, Ok, Err, IfOk, Option, IfSome, refl, sym, ap, ◌∙◌, subst, inl, inr, arith, append_assoc, length-append}
 use Rattle.std.proofs.lemmas.List.{append-nil, nil_from_length}
 use Rattle.std.specs.Io.KnownBytes.{IsAtEnd}
 use mathlib.Core.List.{IsPrefix}
 use Rattle.link_io.specs.declared.shelf.Shelf.{Shelf}
 use Rattle.link_io.specs.declared.why.Why.{Why}
-use Rattle.link_io.specs.declared.why.Why.TheVariants.{Settled, Store, InputLimit}
+use Rattle.link_io.specs.declared.why.Why.TheVariants.{Settled, Source, Store, InputLimit}
 use Rattle.link_io.specs.Stored.{Stored, shelf_of}
 use Rattle.rpc_frames.specs.declared.counts.Counts.{Counts}
 use Rattle.rpc_handlers.specs.declared.event.Memo.{Memo}
@@ -43,9 +43,9 @@ pub shelf_served : (set : Setting) (workers : ℕ) (shelf : Shelf) (before after
     → set ≡ demo_setting shelf → table.setting ≡ set → IsSessionHistory demo_rule set workers why table.entries
     → Begins set before.left after.left before.sent after.sent before.held after.held counts read done items table.entries
     → (is_halted set table.entries ≡ false → Explains set before.left after.left before.sent after.sent before.held after.held counts read done table.entries)
-    → (why ≡ Settled → IsAtEnd after.left) → (why ≡ InputLimit → read ≡ INPUT_LIMIT) → TicksBetween before.moment after.moment table.entries
+    → (why ≡ Settled → IsAtEnd after.left) → (why ≡ InputLimit → read ≡ INPUT_LIMIT) → ((why ≡ Settled) ⊎ (why ≡ Source) → read < INPUT_LIMIT) → TicksBetween before.moment after.moment table.entries
     → ServesShelf workers shelf before after why counts table items
-shelf_served set workers shelf before after why counts read done table items same setting history_is begins explains at_end at_limit ticks =
+shelf_served set workers shelf before after why counts read done table items same setting history_is begins explains at_end at_limit below ticks =
     let all = λ (calm : is_halting why ≡ false). explains (sym history_is.halts ∙ calm) in
     record {
       setting = setting ∙ same;
@@ -60,6 +60,7 @@ shelf_served set workers shelf before after why counts read done table items sam
           (whole_list items begins.next (items_sent (history set table.entries)) begins.sent (sym begins.counted ∙ (all calm).all));
       at_end = at_end;
       at_limit = at_limit;
+      below = below;
       ticks = ticks;
     }
 

@@ -1,6 +1,7 @@
 -- What a run of `bridge` carried and wrote.
-use Rattle.std.specs.Prelude.{◌≡◌, ℕ, ◌⊎◌, List, ◌∷◌, Some}
+use Rattle.std.specs.Prelude.{◌≡◌, ◌≢◌, ℕ, ◌⊎◌, List, ◌∷◌, Some}
 use Rattle.link_io.specs.Causes.{Rose}
+use Rattle.link_io.specs.declared.why.Why.TheVariants.{JournalLimit}
 use Rattle.link_io.specs.Links.{Ends}
 use Rattle.frame_bridge.specs.declared.bridged.Bridged.{Bridged}
 use Rattle.frame_bridge.specs.Bridges.{Bridges, IsNoBridge, TellsBridge, bridge_routes, reason_of}
@@ -18,6 +19,7 @@ pub record RunsBridge (at_right at_left : ℕ) (before after : Devices) (outcome
       (left right : Ends) (rest gone : List Ends) → before.links.coming ≡ Some (left ∷ right ∷ rest) → before.links.gone ≡ Some gone →
       TellsBridge (bridge_routes at_right at_left) left right rest gone after.links done
   pub same : after ≡ record before { links = after.links; written = after.written }
+  pub no_journal : reason_of done ≢ JournalLimit
   pub writes : WritesServed (bridge_text done) (reason_of done) before.written after.written outcome
 
 -- A link couldn't be made.

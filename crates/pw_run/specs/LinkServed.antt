@@ -1,9 +1,9 @@
 -- What was served of a link, by a session of the demo service.
-use Rattle.std.specs.Prelude.{◌≡◌, ◌≢◌, ℕ, ◌⊎◌, false, List, [], Option, IfSome}
+use Rattle.std.specs.Prelude.{◌≡◌, ◌≢◌, ℕ, ◌<◌, ◌⊎◌, false, List, [], Option, IfSome}
 use Rattle.std.specs.Io.KnownBytes.{IsAtEnd, Keeps}
 use Rattle.link_io.specs.declared.shelf.Shelf.{Shelf}
 use Rattle.link_io.specs.declared.why.Why.{Why}
-use Rattle.link_io.specs.declared.why.Why.TheVariants.{Settled, Store, InputLimit, Memory}
+use Rattle.link_io.specs.declared.why.Why.TheVariants.{Settled, Source, Store, InputLimit, Memory}
 use Rattle.link_io.specs.Stored.{shelf_of}
 use Rattle.rpc_frames.specs.declared.counts.Counts.{Counts}
 use Rattle.rpc_journal.specs.declared.item.Item.{Item}
@@ -35,6 +35,7 @@ pub record ServesShelf (workers : ℕ) (shelf : Shelf) (before after : LinkDevic
   pub all : is_halting why ≡ false → items ≡ items_sent (history (demo_setting shelf) table.entries)
   pub at_end : why ≡ Settled → IsAtEnd after.left
   pub at_limit : why ≡ InputLimit → read ≡ INPUT_LIMIT
+  pub below : (why ≡ Settled) ⊎ (why ≡ Source) → read < INPUT_LIMIT
   pub ticks : TicksBetween before.moment after.moment table.entries
 
 -- The store couldn't be listed: nothing was read, sent or stored, and the history is empty.
