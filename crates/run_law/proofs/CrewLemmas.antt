@@ -31,7 +31,7 @@ use Rattle.crew_law.proofs.LoadLemmas.{loads_are_calm}
 use Rattle.crew_law.proofs.SessionLemmas.{sessions_report_alike}
 
 -- what ends well is settled
-settled_well : (why : Why) → Done ≡ outcome_for why → why ≡ Settled
+pub settled_well : (why : Why) → Done ≡ outcome_for why → why ≡ Settled
 settled_well Settled is = refl
 settled_well Source is = absurd cc
 settled_well Sink is = absurd cc
@@ -41,12 +41,12 @@ settled_well JournalLimit is = absurd cc
 settled_well Memory is = absurd cc
 
 -- all of the input was taken
-all_taken : (input bytes : List ℕ) (left : Option (List ℕ)) → Consumes (Some input) left bytes → IsAtEnd left → bytes ≡ input
+pub all_taken : (input bytes : List ℕ) (left : Option (List ℕ)) → Consumes (Some input) left bytes → IsAtEnd left → bytes ≡ input
 all_taken input bytes None taken at_end = absurd taken
 all_taken input bytes (Some rest) taken at_end = sym (taken ∙ (ap (λ xs. bytes ++ xs) at_end ∙ append-nil bytes))
 
 -- the shelf is that of the store
-shelf_is : (held : Option Stored) (st : Stored) (shelf : Shelf) → held ≡ Some st → IfSome held (λ x. shelf ≡ shelf_of x) → shelf ≡ shelf_of st
+pub shelf_is : (held : Option Stored) (st : Stored) (shelf : Shelf) → held ≡ Some st → IfSome held (λ x. shelf ≡ shelf_of x) → shelf ≡ shelf_of st
 shelf_is None st shelf is listed = absurd cc
 shelf_is (Some x) st shelf is listed = listed ∙ ap shelf_of (some_same x st is)
 

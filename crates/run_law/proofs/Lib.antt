@@ -1,1 +1,3 @@
 pub mod CrewLemmas
+mod LiveStatusLemmas
+mod StatusLemmas

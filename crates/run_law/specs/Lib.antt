@@ -1,1 +1,2 @@
 pub mod CalmCrews
+pub mod Statuses

@@ -1,5 +1,6 @@
 //! What follows from the definitions. Each function does nothing: what counts is its contract.
 ghost use Rattle.run_law.specs.CalmCrews.{CrewsWriteAlike, LoadsAreWrittenAlike, NoCrewSizeMatters};
+ghost use Rattle.run_law.specs.Statuses.{CrewHadRoom, LiveEndWell, RecordedEndWell, RecordedHadRoom, ServeHadRoom};
 
 /// A run of `crew` over a calm input that ends with status 0 writes the report of the history of one thread.
 pub fn calm_crews_write_alike()
@@ -10,4 +11,19 @@ pub fn calm_crews_write_alike()
 pub fn no_crew_size_matters()
     ensures calm { NoCrewSizeMatters }
     ensures loads { LoadsAreWrittenAlike }
+{}
+
+/// Where no device fails, a recorded command ends with status 0, or 1 for want of memory, but where a line of its text is bad or a limit
+/// is met. What ended with 0 met no limit.
+pub fn recorded_commands_end_well()
+    ensures well { RecordedEndWell }
+    ensures room { RecordedHadRoom }
+{}
+
+/// So it is of the commands on threads, whose inputs are known: a session whose journal was full has its own status. A crew that ended
+/// with 0 read its input to the end, below the limit, and a run of `serve` that of each connection.
+pub fn commands_on_threads_end_well()
+    ensures well { LiveEndWell }
+    ensures room { CrewHadRoom }
+    ensures links { ServeHadRoom }
 {}

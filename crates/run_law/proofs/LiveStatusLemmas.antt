@@ -1,0 +1,356 @@
+-- How a run on threads ends where no device fails.
+use Rattle.std.proofs.Common.{◌≡◌, ◌≢◌, ◌⊎◌, ℕ, zero, suc, ◌+◌, ◌<◌, List, [], ◌∷◌, ◌++◌, length, Option, Some, None, refl, ap, sym, ◌∙◌, subst, inl, inr, arith, append_assoc, length-append}
+use Rattle.std.specs.Io.KnownBytes.{Consumes}
+use Rattle.link_io.specs.declared.why.Why.{Why}
+use Rattle.link_io.specs.declared.why.Why.TheVariants as reason
+use Rattle.link_io.specs.Links.{Ends, HandsOut, Links}
+use Rattle.link_io.specs.Stored.{Stored}
+use Rattle.rpc_frames.specs.declared.counts.Counts.{Counts}
+use Rattle.rpc_journal.specs.declared.entry.Entry.{Entry}
+use Rattle.rpc_journal.specs.declared.item.Item.{Item}
+use Rattle.rpc_journal.specs.declared.setting.Setting.{Setting}
+use Rattle.rpc_journal.specs.CallTable.{Table}
+use Rattle.rpc_schedule.specs.declared.stream.TheConstants.{INPUT_LIMIT}
+use Rattle.rpc_crew.specs.Sessions.{IsSessionHistory}
+use Rattle.frame_router.specs.declared.port.Port.{Port}
+use Rattle.frame_router.specs.declared.pumping.Pumped.{Pumped}
+use Rattle.frame_router.specs.declared.routes.Route.{Route}
+use Rattle.frame_router.specs.Pumped.{Pumps}
+use Rattle.frame_bridge.specs.Bridges.{Bridges, first_reason, reason_of}
+use Rattle.frame_bridge.specs.Printed.{bridge_text}
+use Rattle.demo_services.specs.DemoRule.{demo_rule}
+use Rattle.pw_run.specs.declared.live_command.LiveCommand.{LiveCommand}
+use Rattle.pw_run.specs.declared.live_command.LiveCommand.TheVariants.{Crew, Serve, Bridge}
+use Rattle.pw_run.specs.declared.outcome.Outcome.{Outcome}
+use Rattle.pw_run.specs.declared.outcome.Outcome.TheVariants.{Done, NoMemory, BadWords, SourceFault, SinkFault, StoreFault, LinkFault, BadLine, InputLimit, JournalLimit}
+use Rattle.pw_run.specs.Bridge.{DidBridge, RunsBridge}
+use Rattle.pw_run.specs.Crew.{DidCrew}
+use Rattle.pw_run.specs.Demo.{demo_setting}
+use Rattle.pw_run.specs.Devices.{Devices, LinkDevices, with_link}
+use Rattle.pw_run.specs.LinkServed.{FindsNoShelf, ServesLink, ServesListed, WritesServed}
+use Rattle.pw_run.specs.Live.{DidLive}
+use Rattle.pw_run.specs.Outcome.{code_of, outcome_for}
+use Rattle.pw_run.specs.Recorded.{EndsWith}
+use Rattle.pw_run.specs.Serve.{DidServe, GivesBack, FailsToLink, RunsConnection, ServesAll, ServesConnection, StopsServing}
+use Rattle.pw_run.specs.Writes.{Writes}
+use Rattle.run_law.specs.Statuses.{AreShort, AreShortUpTo, CrewHadRoom, EndsLive, FillsJournal, IsBlameless, LiveEndWell, ServeHadRoom}
+use Rattle.run_law.proofs.CrewLemmas.{all_taken, settled_well}
+use Rattle.run_law.proofs.StatusLemmas.{Blameless, EndsSo, blameless, done_of, not_all, own_done, own_outcome, well}
+
+-- the journal of a session of so many workers was full
+record FullSo (workers : ℕ) (outcome : Outcome) : Type 0 where
+  pub limit : outcome ≡ JournalLimit
+  pub set : Setting
+  pub h : List Entry
+  pub journal : IsSessionHistory demo_rule set workers reason.JournalLimit h
+
+abbrev WellOrFull : ℕ → Outcome → Type 0
+WellOrFull workers outcome = EndsSo outcome ⊎ FullSo workers outcome
+
+told_so : (workers status : ℕ) (outcome : Outcome) → status ≡ code_of outcome → WellOrFull workers outcome → EndsLive (Crew workers) status
+told_so workers status outcome is (inl so) = inl (well status outcome is so)
+told_so workers status outcome is (inr full) = inr (record { limit = is ∙ ap code_of full.limit; set = full.set; h = full.h; journal = full.journal })
+
+-- what was written of what was served, where there was memory
+wrote : (text : List ℕ) (why : Why) (old new : Option (List ℕ)) (outcome : Outcome) → WritesServed text why old new outcome
+    → (outcome ≡ NoMemory) ⊎ ((why ≢ reason.Memory) × Writes old new text (outcome_for why) outcome)
+wrote text why old new NoMemory writes = inl refl
+wrote text why old new Done writes = inr writes
+wrote text why old new BadWords writes = inr writes
+wrote text why old new SourceFault writes = inr writes
+wrote text why old new SinkFault writes = inr writes
+wrote text why old new StoreFault writes = inr writes
+wrote text why old new LinkFault writes = inr writes
+wrote text why old new BadLine writes = inr writes
+wrote text why old new InputLimit writes = inr writes
+wrote text why old new JournalLimit writes = inr writes
+
+-- fewer bytes than the limit were taken from known ones
+not_taken : (left left_new : Option (List ℕ)) (input bytes : List ℕ) (limit : ℕ) → left ≡ Some input → Consumes left left_new bytes → length bytes ≡ limit → length input < limit → ⊥
+not_taken left left_new input bytes limit is taken many short =
+    not_all input bytes left_new limit (subst (λ x. Consumes x left_new bytes) is taken) many short
+
+-- ---- a session over a link
+
+module _ (workers : ℕ) (before after : LinkDevices) (input : List ℕ) (left : before.left ≡ Some input) (short : length input < INPUT_LIMIT) where
+  by_why : (why : Why) (counts : Counts) (table : Table) (items : List Item) (outcome : Outcome) → ServesLink workers before after why counts table items
+      → why ≢ reason.Memory → outcome ≡ outcome_for why → Blameless outcome → WellOrFull workers outcome
+  by_why reason.Settled counts table items outcome serves other is none = inl (inl is)
+  by_why reason.Source counts table items outcome serves other is none = absurd (none.source is)
+  by_why reason.Sink counts table items outcome serves other is none = absurd (none.sink is)
+  by_why reason.Store counts table items outcome serves other is none = absurd (none.store is)
+  by_why reason.Memory counts table items outcome serves other is none = absurd (other refl)
+  by_why reason.InputLimit counts table items outcome serves other is none = absurd (at serves)
+    where
+      at : ServesListed workers before after reason.InputLimit counts table items ⊎ FindsNoShelf before after reason.InputLimit counts table items → ⊥
+      at (inl l) =
+          let b = l.serves.begins in
+          not_taken before.left after.left input b.bytes INPUT_LIMIT left b.taken (b.count ∙ l.serves.at_limit refl) short
+      at (inr none) = not_store none.reason
+        where
+          not_store : reason.InputLimit ≡ reason.Store → ⊥
+          not_store same = cc
+  by_why reason.JournalLimit counts table items outcome serves other is none = inr (at serves)
+    where
+      at : ServesListed workers before after reason.JournalLimit counts table items ⊎ FindsNoShelf before after reason.JournalLimit counts table items → FullSo workers outcome
+      at (inl l) = record { limit = is; set = demo_setting l.shelf; h = table.entries; journal = l.serves.journal }
+      at (inr none) = absurd (not_store none.reason)
+        where
+          not_store : reason.JournalLimit ≡ reason.Store → ⊥
+          not_store same = cc
+
+  link_well : (why : Why) (counts : Counts) (table : Table) (items : List Item) (text : List ℕ) (old new : Option (List ℕ)) (outcome : Outcome)
+      → ServesLink workers before after why counts table items → WritesServed text why old new outcome → Blameless outcome → WellOrFull workers outcome
+  link_well why counts table items text old new outcome serves writes none = at (wrote text why old new outcome writes)
+    where
+      at : (outcome ≡ NoMemory) ⊎ ((why ≢ reason.Memory) × Writes old new text (outcome_for why) outcome) → WellOrFull workers outcome
+      at (inl memory) = inl (inr memory)
+      at (inr did) = by_why why counts table items outcome serves did.0 (own_outcome old new text (outcome_for why) outcome none.sink did.1) none
+
+-- a session that read its source to the end read fewer bytes than the limit
+link_read : (workers : ℕ) (before after : LinkDevices) (why : Why) (counts : Counts) (table : Table) (items : List Item) (input : List ℕ) → before.left ≡ Some input
+    → why ≡ reason.Settled → ServesLink workers before after why counts table items → length input < INPUT_LIMIT
+link_read workers before after why counts table items input left settled (inl l) =
+    let s = l.serves in
+    let b = s.begins in
+    let taken = subst (λ x. Consumes x after.left b.bytes) left b.taken in
+    let bytes = all_taken input b.bytes after.left taken (s.at_end settled) in
+    subst (λ n. n < INPUT_LIMIT) (sym b.count ∙ ap length bytes) (s.below (inl settled))
+link_read workers before after why counts table items input left settled (inr none) = absurd (not_store (sym settled ∙ none.reason))
+  where
+    not_store : reason.Settled ≡ reason.Store → ⊥
+    not_store same = cc
+
+-- ---- crew
+
+crew_well : (workers : ℕ) (before after : Devices) (input : List ℕ) (outcome : Outcome) → before.left ≡ Some input → length input < INPUT_LIMIT
+    → DidCrew workers before after outcome → Blameless outcome → WellOrFull workers outcome
+crew_well workers before after input outcome left short (inl run) none =
+    link_well workers (with_link before before.left None) (with_link after after.left None) input left short run.why run.counts run.table run.items _ before.written after.written
+    outcome run.serves run.writes none
+crew_well workers before after input outcome left short (inr nothing) none = inl (inr nothing.memory)
+
+-- a crew that ended well met no limit
+crew_read : (workers : ℕ) (before after : Devices) (input : List ℕ) → before.left ≡ Some input → DidCrew workers before after Done → length input < INPUT_LIMIT
+crew_read workers before after input left (inr nothing) = absurd (not_memory nothing.memory)
+  where
+    not_memory : Done ≡ NoMemory → ⊥
+    not_memory is = cc
+crew_read workers before after input left (inl run) =
+    link_read workers (with_link before before.left None) (with_link after after.left None) run.why run.counts run.table run.items input left
+    (settled_well run.why (own_done before.written after.written _ (outcome_for run.why) run.writes.1)) run.serves
+
+-- ---- serve
+
+-- the links to come are known, and each gives few bytes
+record Short (links : Links) : Type 0 where
+  pub coming : List Ends
+  pub are : links.coming ≡ Some coming
+  pub short : AreShort coming
+
+-- a link was handed out: it is one of these
+record Handed (left : Option (List ℕ)) (new : Links) : Type 0 where
+  pub input : List ℕ
+  pub left_is : left ≡ Some input
+  pub short : length input < INPUT_LIMIT
+  pub rest : Short new
+
+handed : (old new : Links) (left sent : Option (List ℕ)) → Short old → HandsOut old new left sent → Handed left new
+handed old new left sent short hands = at short.coming short.are short.short
+  where
+    at : (coming : List Ends) → old.coming ≡ Some coming → AreShort coming → Handed left new
+    at [] are all = absurd (hands.some are)
+    at (pair ∷ rest) are all =
+        let first = hands.first pair rest are in
+        record { input = pair.0; left_is = first.0; short = all.0; rest = record { coming = rest; are = first.2; short = all.1 } }
+
+connection_well : (workers number : ℕ) (before after : Devices) (outcome : Outcome) → Short before.links → ServesConnection workers number before after outcome
+    → Blameless outcome → WellOrFull workers outcome
+connection_well workers number before after outcome short (inl run) none =
+    let link = handed before.links run.lent.between run.left_old run.sent_old short run.lent.handed in
+    link_well workers (with_link before run.left_old run.sent_old) (with_link after run.left_new run.sent_new) link.input link.left_is link.short run.why run.counts run.table
+    run.items _ before.written after.written outcome run.serves run.writes none
+connection_well workers number before after outcome short (inr (inl given)) none = inl (inr given.memory)
+connection_well workers number before after outcome short (inr (inr fails)) none = absurd (none.linker fails.fault)
+
+still_short : (workers number : ℕ) (before after : Devices) → Short before.links → ServesConnection workers number before after Done → Short after.links
+still_short workers number before after short (inl run) =
+    let link = handed before.links run.lent.between run.left_old run.sent_old short run.lent.handed in
+    record { coming = link.rest.coming; are = run.lent.taken.coming ∙ link.rest.are; short = link.rest.short }
+still_short workers number before after short (inr (inl given)) = absurd (not_memory given.memory)
+  where
+    not_memory : Done ≡ NoMemory → ⊥
+    not_memory is = cc
+still_short workers number before after short (inr (inr fails)) = absurd (not_link fails.fault)
+  where
+    not_link : Done ≡ LinkFault → ⊥
+    not_link is = cc
+
+all_short : (workers count : ℕ) (before after : Devices) → Short before.links → ServesAll workers count before after → Short after.links
+all_short workers zero before after short same = subst (λ d. Short d.links) (sym same) short
+all_short workers (suc count) before after short serves =
+    still_short workers (suc count) serves.0 after (all_short workers count before serves.0 short serves.1) serves.2
+
+serve_well : (workers connections : ℕ) (before after : Devices) (outcome : Outcome) → Short before.links → DidServe workers connections before after outcome
+    → Blameless outcome → WellOrFull workers outcome
+serve_well workers connections before after outcome short (inr fails) none = absurd (none.linker fails.fault)
+serve_well workers connections before after outcome short (inl path) none = at path.serves
+  where
+    listening : Short path.listening.links
+    listening = record { coming = short.coming; are = path.listened.kept.coming ∙ short.are; short = short.short }
+
+    at : ((outcome ≡ Done) × ServesAll workers connections path.listening after) ⊎ StopsServing workers connections path.listening after outcome → WellOrFull workers outcome
+    at (inl all) = inl (inl all.0)
+    at (inr stops) =
+        connection_well workers (suc stops.served) stops.between after outcome (all_short workers stops.served path.listening stops.between listening stops.first) stops.last none
+
+-- of these links the first was handed out, and gave so few
+record ReadOne (links : List Ends) (new : Links) : Type 0 where
+  pub pair : Ends
+  pub rest : List Ends
+  pub are : links ≡ pair ∷ rest
+  pub short : length pair.0 < INPUT_LIMIT
+  pub coming : new.coming ≡ Some rest
+
+connection_read : (workers number : ℕ) (before after : Devices) (links : List Ends) → before.links.coming ≡ Some links → ServesConnection workers number before after Done
+    → ReadOne links after.links
+connection_read workers number before after links are (inl run) = at links are
+  where
+    settled : run.why ≡ reason.Settled
+    settled = settled_well run.why (own_done before.written after.written _ (outcome_for run.why) run.writes.1)
+
+    at : (coming : List Ends) → before.links.coming ≡ Some coming → ReadOne coming after.links
+    at [] none = absurd (run.lent.handed.some none)
+    at (pair ∷ rest) is =
+        let first = run.lent.handed.first pair rest is in
+        record {
+          pair = pair;
+          rest = rest;
+          are = refl;
+          short =
+              link_read workers (with_link before run.left_old run.sent_old) (with_link after run.left_new run.sent_new) run.why run.counts run.table run.items pair.0 first.0 settled
+              run.serves;
+          coming = run.lent.taken.coming ∙ first.2;
+        }
+connection_read workers number before after links are (inr (inl given)) = absurd (not_memory given.memory)
+  where
+    not_memory : Done ≡ NoMemory → ⊥
+    not_memory is = cc
+connection_read workers number before after links are (inr (inr fails)) = absurd (not_link fails.fault)
+  where
+    not_link : Done ≡ LinkFault → ⊥
+    not_link is = cc
+
+-- so many were, and these are to come
+record ReadSo (count : ℕ) (links : List Ends) (new : Links) : Type 0 where
+  pub first : List Ends
+  pub others : List Ends
+  pub split : links ≡ first ++ others
+  pub many : length first ≡ count
+  pub short : AreShort first
+  pub coming : new.coming ≡ Some others
+
+one_more : (pair : Ends) (first : List Ends) → AreShort first → length pair.0 < INPUT_LIMIT → AreShort (first ++ pair ∷ [])
+one_more pair [] all short = (short, tt)
+one_more pair (x ∷ first) all short = (all.0, one_more pair first all.1 short)
+
+all_read : (workers count : ℕ) (before after : Devices) (links : List Ends) → before.links.coming ≡ Some links → ServesAll workers count before after → ReadSo count links after.links
+all_read workers zero before after links are same = record {
+  first = [];
+  others = links;
+  split = refl;
+  many = refl;
+  short = tt;
+  coming = ap (λ (d : Devices). d.links.coming) same ∙ are;
+}
+all_read workers (suc count) before after links are serves =
+    let so = all_read workers count before serves.0 links are serves.1 in
+    let one = connection_read workers (suc count) serves.0 after so.others so.coming serves.2 in
+    record {
+      first = so.first ++ one.pair ∷ [];
+      others = one.rest;
+      split = so.split ∙ (ap (λ xs. so.first ++ xs) one.are ∙ sym (append_assoc so.first (one.pair ∷ []) one.rest));
+      many = omega (arith, so.many, length-append so.first (one.pair ∷ []));
+      short = one_more one.pair so.first so.short one.short;
+      coming = one.coming;
+    }
+
+serve_read : (workers connections : ℕ) (before after : Devices) (links : List Ends) → before.links.coming ≡ Some links → DidServe workers connections before after Done
+    → AreShortUpTo connections links
+serve_read workers connections before after links are (inr fails) = absurd (not_link fails.fault)
+  where
+    not_link : Done ≡ LinkFault → ⊥
+    not_link is = cc
+serve_read workers connections before after links are (inl path) = at path.serves
+  where
+    at : ((Done ≡ Done) × ServesAll workers connections path.listening after) ⊎ StopsServing workers connections path.listening after Done → AreShortUpTo connections links
+    at (inl all) =
+        let so = all_read workers connections path.listening after links (path.listened.kept.coming ∙ are) all.1 in
+        record { first = so.first; others = so.others; split = so.split; many = so.many; short = so.short }
+    at (inr stops) = absurd (stops.stops refl)
+
+-- ---- bridge
+
+-- no pump over a short input meets the limit
+unlimited : (routes : List Route) (from : Port) (left left_new old new : Option (List ℕ)) (done : Pumped) (input : List ℕ) → left ≡ Some input → length input < INPUT_LIMIT
+    → Pumps routes from left left_new old new done → done.why ≢ reason.InputLimit
+unlimited routes from left left_new old new done input is short pumps limit =
+    not_taken left left_new input pumps.bytes INPUT_LIMIT is pumps.taken (pumps.at_limit limit) short
+
+none_limited : (left right : Why) → left ≢ reason.InputLimit → right ≢ reason.InputLimit → first_reason left right ≢ reason.InputLimit
+none_limited reason.Settled right l r is = r is
+none_limited reason.Source right l r is = cc is
+none_limited reason.Sink right l r is = cc is
+none_limited reason.Store right l r is = cc is
+none_limited reason.InputLimit right l r is = l refl
+none_limited reason.JournalLimit right l r is = cc is
+none_limited reason.Memory right l r is = cc is
+
+bridge_well : (at_right at_left : ℕ) (before after : Devices) (outcome : Outcome) → Short before.links → DidBridge at_right at_left before after outcome → Blameless outcome → EndsSo outcome
+bridge_well at_right at_left before after outcome short (inr fails) none = absurd (none.linker fails.fault)
+bridge_well at_right at_left before after outcome short (inl run) none = at (wrote (bridge_text run.done) (reason_of run.done) before.written after.written outcome run.writes)
+  where
+    few : reason_of run.done ≢ reason.InputLimit
+    few =
+        let b = run.bridges in
+        let one = handed before.links b.one_out b.left.left b.left.written short b.left_out in
+        let other = handed b.one_out b.both_out b.right.left b.right.written one.rest b.right_out in
+        none_limited run.done.from_left.why run.done.from_right.why
+        (unlimited _ _ b.left.left b.left_end.left b.right.written b.right_end.written run.done.from_left one.input one.left_is one.short b.from_left)
+        (unlimited _ _ b.right.left b.right_end.left b.left.written b.left_end.written run.done.from_right other.input other.left_is other.short b.from_right)
+
+    by : (why : Why) → why ≢ reason.InputLimit → why ≢ reason.JournalLimit → why ≢ reason.Memory → outcome ≡ outcome_for why → EndsSo outcome
+    by reason.Settled short_enough room other is = inl is
+    by reason.Source short_enough room other is = absurd (none.source is)
+    by reason.Sink short_enough room other is = absurd (none.sink is)
+    by reason.Store short_enough room other is = absurd (none.store is)
+    by reason.InputLimit short_enough room other is = absurd (short_enough refl)
+    by reason.JournalLimit short_enough room other is = absurd (room refl)
+    by reason.Memory short_enough room other is = absurd (other refl)
+
+    at : (outcome ≡ NoMemory) ⊎ ((reason_of run.done ≢ reason.Memory) × Writes before.written after.written (bridge_text run.done) (outcome_for (reason_of run.done)) outcome)
+        → EndsSo outcome
+    at (inl memory) = inr memory
+    at (inr did) =
+        by (reason_of run.done) few run.no_journal did.0
+        (own_outcome before.written after.written (bridge_text run.done) (outcome_for (reason_of run.done)) outcome none.sink did.1)
+
+-- ---- all commands on threads
+
+pub live_end_well : LiveEndWell
+live_end_well (Crew workers) status before after ends none inputs =
+    told_so workers status ends.0 ends.1 (crew_well workers before after inputs.0 ends.0 inputs.1 inputs.2 ends.2 (blameless status ends.0 ends.1 none))
+live_end_well (Serve workers connections) status before after ends none inputs =
+    told_so workers status ends.0 ends.1
+    (serve_well workers connections before after ends.0 (record { coming = inputs.0; are = inputs.1; short = inputs.2 }) ends.2 (blameless status ends.0 ends.1 none))
+live_end_well (Bridge at_right at_left) status before after ends none inputs =
+    well status ends.0 ends.1
+    (bridge_well at_right at_left before after ends.0 (record { coming = inputs.0; are = inputs.1; short = inputs.2 }) ends.2 (blameless status ends.0 ends.1 none))
+
+pub crew_had_room : CrewHadRoom
+crew_had_room workers status before after input st ends is left held =
+    crew_read workers before after input left (subst (DidLive (Crew workers) before after) (done_of ends.0 (sym ends.1 ∙ is)) ends.2)
+
+pub serve_had_room : ServeHadRoom
+serve_had_room workers connections status before after links ends is are =
+    serve_read workers connections before after links are (subst (DidLive (Serve workers connections) before after) (done_of ends.0 (sym ends.1 ∙ is)) ends.2)
