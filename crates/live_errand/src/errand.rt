@@ -81,11 +81,10 @@ pub trait Errand {
         ensures cuts { result ≡ cuts self.now }
         ensures watches { result ≡ true → watches ≡ true };
 
-    /// The call was cancelled, which answered this status.
+    /// The call was cancelled, which answered this status. An errand that doesn't cancel its call hears of none.
     fn cut(&mut self, status: Status)
-        requires cuts { cuts self.old ≡ true }
         ensures ready { ready self.old → ready self.new }
-        ensures did { (all : Bool) (start upto : ℕ) (before : Option End) (events : List Heard) (outs : List Said) (ended : Option End) → did self.old all start upto before events outs ended → (next : Option End) × did self.new all start upto (Some status) events outs next }
+        ensures did { cuts self.old ≡ true → (all : Bool) (start upto : ℕ) (before : Option End) (events : List Heard) (outs : List Said) (ended : Option End) → did self.old all start upto before events outs ended → (next : Option End) × did self.new all start upto (Some status) events outs next }
         ensures uncut { cuts self.new ≡ false }
         ensures moment { moment self.new ≡ moment self.old }
         ensures fits { (tower : Tower) → fits self.old tower → fits self.new tower };
