@@ -1,10 +1,8 @@
 -- A packet comes to a client at rest, and it does its work.
-use Rattle.std.proofs.Common.{◌≡◌, ◌⊎◌, ℕ, ◌+◌, ◌<◌, ◌≤◌, Bool, true, false, ◌&&◌, ◌||◌, not, List, [], ◌∷◌, ◌++◌, drop, length, take, Option, Some, None, is_some, Ok, IfSome, if◌then◌else◌, refl, ap, sym, ◌∙◌, subst, inl, inr, arith, append_assoc, append-nil, length-append}
-use Rattle.std.proofs.lemmas.Bool.{false≢true}
+use Rattle.std.proofs.Common.{◌≡◌, ◌⊎◌, ℕ, ◌<◌, Bool, true, false, ◌&&◌, not, List, [], ◌∷◌, ◌++◌, length, Option, Some, None, Ok, IfSome, if◌then◌else◌, refl, ap, sym, ◌∙◌, subst, inl, inr, arith, append_assoc, append-nil}
 use Rattle.std.specs.Prelude.{option_and_then}
 use Rattle.rpc_ids.specs.declared.method.MethodRef.{MethodRef}
-use Rattle.rpc_ids.specs.declared.method.Role.{Role}
-use Rattle.rpc_ids.specs.declared.method.Role.TheVariants.{Client, Server}
+use Rattle.rpc_ids.specs.declared.method.Role.TheVariants.{Client}
 use Rattle.rpc_ids.specs.Status.{status_of}
 use Rattle.rpc_packet.specs.declared.owned.Packet.{Packet}
 use Rattle.rpc_packet.specs.declared.packet_type.PacketType.{PacketType}
@@ -15,12 +13,12 @@ use Rattle.rpc_journal.specs.declared.entry.Entry.{Entry}
 use Rattle.rpc_journal.specs.declared.entry.EntryKind.TheVariants.{Arrive}
 use Rattle.rpc_journal.specs.declared.item.Item.{Item}
 use Rattle.rpc_journal.specs.declared.setting.Setting.{Setting}
-use Rattle.rpc_journal.specs.Calls.{call_count, calls, live_call, of_call}
+use Rattle.rpc_journal.specs.Calls.{call_count, calls, live_call}
 use Rattle.rpc_journal.specs.ClientTable.{call_row, client_row, live_row, no_call_row}
 use Rattle.rpc_journal.specs.Effect.{Deed, Opening}
 use Rattle.rpc_journal.specs.Entries.{arrive_row, row_by}
-use Rattle.rpc_journal.specs.History.{adding, deeds_with, entry_by, history}
-use Rattle.rpc_journal.specs.Items.{arrivals, input_ended, items_flushed}
+use Rattle.rpc_journal.specs.History.{adding, entry_by, history}
+use Rattle.rpc_journal.specs.Items.{arrivals, input_ended}
 use Rattle.rpc_journal.specs.Kinds.{is_okay, streams_down}
 use Rattle.rpc_journal.specs.Refusals.{is_full}
 use Rattle.rpc_journal.specs.Rows.{Row, channels_in, method_named}
@@ -28,7 +26,6 @@ use Rattle.rpc_journal.specs.States.{finished_since}
 use Rattle.rpc_journal.proofs.Push.{history-push}
 use Rattle.rpc_schedule.specs.Schedule.{input_seat}
 use Rattle.rpc_schedule.specs.Serving.{Feeds, Serving, TakesPacket, deeds, with_entry}
-use Rattle.rpc_schedule.specs.Settling.{IsOrderly}
 use Rattle.rpc_schedule.proofs.EntryLemmas.{arrivals-push, length-push}
 use Rattle.rpc_schedule.proofs.ServingLemmas.{below_full, input_steps}
 use Rattle.world_turns.specs.Client.{ClientSettles, ClientTakes, task_after}
@@ -38,7 +35,7 @@ use Rattle.world_turns.specs.World as world
 use Rattle.world_turns.specs.World.{Tasked}
 use Rattle.world_ends.specs.Resting.{IsResting}
 use Rattle.world_client.specs.declared.under.Under.{Under}
-use Rattle.world_client.specs.ClientSide.{ClientWorks, HasEvents}
+use Rattle.world_client.specs.ClientSide.{ClientWorks}
 use Rattle.world_client.specs.Underway.{call_seen, call_under, task_seen, under_seen}
 use Rattle.world_client.specs.Working.{IsKept, Settled, TakesMore}
 

@@ -1,21 +1,20 @@
 -- What the client's owner adds as a command starts.
-use Rattle.std.proofs.Common.{◌≡◌, ℕ, zero, suc, ◌+◌, ◌<◌, ◌≤◌, Bool, true, false, ◌==◌, ◌&&◌, ◌||◌, not, List, [], ◌∷◌, ◌++◌, drop, fold, get_or, length, map, reverse, slice_get, take, Option, Some, None, is_some, is_none, option_map, if◌then◌else◌, ◌⊎◌, inl, inr, refl, ap, sym, ◌∙◌, subst, arith, append-nil, length-append}
-use Rattle.std.proofs.lemmas.Bool.{and_parts, eqb-true, eq-eqb, false≢true, or_left, or_right, true≢false}
+use Rattle.std.proofs.Common.{◌≡◌, ℕ, zero, suc, ◌+◌, ◌<◌, ◌≤◌, Bool, true, false, ◌==◌, ◌&&◌, ◌||◌, not, List, [], ◌∷◌, ◌++◌, drop, get_or, length, map, reverse, slice_get, take, Option, Some, None, is_some, is_none, option_map, if◌then◌else◌, ◌⊎◌, inl, inr, refl, ap, sym, ◌∙◌, subst, arith, length-append}
+use Rattle.std.proofs.lemmas.Bool.{and_parts, eqb-true, false≢true, or_left, or_right, true≢false}
 use Rattle.std.specs.Option.{option_to_list}
 use Rattle.std.proofs.lemmas.List.{take_more}
 use Rattle.demo_services.specs.Methods.{transfer_id}
 use Rattle.rpc_ids.specs.Names.{name_id}
 use Rattle.transfer_base.specs.declared.tuning.Tuning.{Tuning}
 use Rattle.rpc_handlers.specs.declared.answer.Out.TheVariants.{Say as Message}
-use Rattle.rpc_handlers.specs.declared.event.Event.{Event}
 use Rattle.rpc_journal.specs.declared.entry.Entry.{Entry}
 use Rattle.rpc_journal.specs.declared.entry.EntryKind.{EntryKind}
 use Rattle.rpc_journal.specs.declared.setting.Setting.{Setting}
-use Rattle.rpc_journal.specs.Calls.{call_count, calls, is_finish_of, is_replace_of, is_start_of, live_call, of_call}
+use Rattle.rpc_journal.specs.Calls.{call_count, calls, is_finish_of, is_replace_of, is_start_of, live_call}
 use Rattle.rpc_journal.specs.Effect.{Deed, Opening}
 use Rattle.rpc_journal.specs.Entries.{effect_of, invoke_effect}
 use Rattle.rpc_journal.specs.History.{adding, deeds_of, deeds_with, entry_by, history}
-use Rattle.rpc_journal.specs.Queues.{put_at, puts_since, starts_since, taken_event, waiting_of}
+use Rattle.rpc_journal.specs.Queues.{starts_since, taken_event, waiting_of}
 use Rattle.rpc_journal.specs.States.{began_since, finished_since, opens_call, sets_state}
 use Rattle.rpc_journal.proofs.KnownLemmas.{unput}
 use Rattle.rpc_journal.proofs.PlaceLemmas.{some_same}

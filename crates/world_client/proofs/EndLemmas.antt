@@ -1,5 +1,5 @@
 -- The client's end between two things that come to it.
-use Rattle.std.proofs.Common.{◌≡◌, ℕ, ◌+◌, ◌<◌, ◌≤◌, Bool, true, false, ◌||◌, List, [], ◌∷◌, ◌++◌, length, reverse, not, slice_get, Option, Some, None, if◌then◌else◌, refl, ap, sym, ◌∙◌, subst, arith, append-nil}
+use Rattle.std.proofs.Common.{◌≡◌, ℕ, ◌<◌, Bool, true, false, List, [], ◌∷◌, reverse, not, slice_get, Option, Some, None, if◌then◌else◌, refl, ap, sym, ◌∙◌, subst, append-nil}
 use Rattle.std.proofs.lemmas.Bool.{true≢false}
 use Rattle.link_io.specs.Stored.{Stored}
 use Rattle.rpc_ids.specs.declared.status.Status.{Status}
@@ -16,14 +16,14 @@ use Rattle.rpc_ids.specs.declared.method.Role.TheVariants.{Client}
 use Rattle.rpc_handlers.specs.declared.event.Event.{Event}
 use Rattle.rpc_journal.specs.declared.entry.Entry.{Entry}
 use Rattle.rpc_journal.specs.declared.entry.EntryKind.{EntryKind}
-use Rattle.rpc_journal.specs.declared.entry.EntryKind.TheVariants.{Cancel, EndIn}
+use Rattle.rpc_journal.specs.declared.entry.EntryKind.TheVariants.{Cancel}
 use Rattle.rpc_journal.specs.declared.item.Item.{Item}
 use Rattle.rpc_journal.specs.declared.setting.Setting.{Setting}
 use Rattle.rpc_journal.specs.Calls.{call_at, call_count, calls, end_of, ends_of, has_end, is_cancelled, is_finish_of, is_replace_of, is_start_of}
-use Rattle.rpc_journal.specs.Effect.{Deed, Effect, Opening}
+use Rattle.rpc_journal.specs.Effect.{Deed, Opening}
 use Rattle.rpc_journal.specs.Entries.{cancel_effect, effect_of}
-use Rattle.rpc_journal.specs.History.{adding, deeds_with, entry_by, history}
-use Rattle.rpc_journal.specs.Items.{input_ended, is_end_in, is_flush, items_flushed}
+use Rattle.rpc_journal.specs.History.{adding, entry_by, history}
+use Rattle.rpc_journal.specs.Items.{input_ended, is_flush}
 use Rattle.rpc_journal.specs.States.{finished_since}
 use Rattle.rpc_journal.proofs.PlaceLemmas.{some_same}
 use Rattle.rpc_journal.proofs.Push.{history-push}

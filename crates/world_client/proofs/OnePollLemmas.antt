@@ -1,14 +1,14 @@
 -- One poll of the one task of a dispatcher.
-use Rattle.std.proofs.Common.{◌≡◌, ℕ, zero, suc, ◌+◌, ◌≤◌, ◌==◌, Bool, true, false, ◌&&◌, ◌||◌, List, [], ◌∷◌, ◌++◌, drop, length, Option, Some, None, is_some, is_none, if◌then◌else◌, Ok, refl, ap, sym, ◌∙◌, subst, arith, append_assoc, append-nil}
+use Rattle.std.proofs.Common.{◌≡◌, ℕ, zero, suc, ◌≤◌, ◌==◌, Bool, true, false, ◌&&◌, ◌||◌, List, [], ◌∷◌, ◌++◌, drop, length, Option, Some, None, is_some, is_none, if◌then◌else◌, Ok, refl, ap, sym, ◌∙◌, subst, arith, append_assoc, append-nil}
 use Rattle.std.proofs.lemmas.Bool.{and_parts, and_right, eq-eqb, false≢true, or_left, or_right, true≢false}
 use Rattle.rpc_ids.specs.declared.status.Status.{Status}
 use Rattle.task_core.specs.declared.mail.Mail.{Mail}
 use Rattle.task_core.specs.declared.stop.Stop.{Stop}
 use Rattle.task_core.specs.declared.stop.Stop.TheVariants.{AllDone, Stalled, Budget}
 use Rattle.task_core.specs.Due.{has_awaited, ended_by, is_due, is_owed, is_rung, is_time, lives, result_of}
-use Rattle.task_core.specs.Log.{Step, advanced, is_added, last_poll, is_woken, mail_of, moment_of, outs_of, polled, posted, task_of, took, woken}
+use Rattle.task_core.specs.Log.{Step, advanced, is_added, last_poll, is_woken, mail_of, outs_of, polled, posted, task_of, took, woken}
 use Rattle.task_core.specs.Runs.{Ran, StopsBy, Turn, Turns}
-use Rattle.task_core.specs.Tasks.{Adds, StandsFor, Tasks}
+use Rattle.task_core.specs.Tasks.{StandsFor, Tasks}
 use Rattle.task_core.specs.Visit.{Visit}
 use Rattle.world_client.specs.OnePoll.{PolledBy, PollsAlone, with_posts, with_taken}
 

@@ -1,8 +1,7 @@
 -- Entries that open no call, and neither put nor take an event: what is said, and flushes.
-use Rattle.std.proofs.Common.{◌≡◌, ℕ, zero, suc, ◌+◌, ◌<◌, Bool, true, false, ◌||◌, List, [], ◌∷◌, ◌++◌, drop, fold, get_or, length, take, Option, Some, None, is_none, is_some, option_map, not, ◌&&◌, ◌⊎◌, if◌then◌else◌, Ok, Err, inl, inr, refl, ap, sym, ◌∙◌, subst, arith, append-nil}
+use Rattle.std.proofs.Common.{◌≡◌, ℕ, zero, suc, ◌<◌, Bool, true, false, List, [], ◌∷◌, ◌++◌, drop, get_or, length, take, Option, Some, None, is_none, option_map, not, ◌&&◌, ◌⊎◌, if◌then◌else◌, Ok, Err, inl, inr, refl, ap, sym, ◌∙◌, subst, arith, append-nil}
 use Rattle.rpc_handlers.specs.declared.answer.Out.{Out}
 use Rattle.rpc_handlers.specs.declared.answer.Out.TheVariants.{Append, Begin, Commit, Leave, Say as Message}
-use Rattle.rpc_handlers.specs.declared.event.Event.{Event}
 use Rattle.std.proofs.Math.Seq.{drop-cons}
 use Rattle.std.proofs.lemmas.List.{take-append-drop}
 use Rattle.rpc_ids.specs.declared.status.Status.{Status}
@@ -16,12 +15,12 @@ use Rattle.rpc_journal.specs.declared.setting.Setting.{Setting}
 use Rattle.rpc_journal.specs.Changes.{SayDid}
 use Rattle.rpc_journal.specs.Kinds.{is_server, or_else}
 use Rattle.rpc_journal.specs.Lawful.{has_stream}
-use Rattle.rpc_journal.specs.Calls.{call_at, calls, end_of, is_cancelled, is_finish_of, is_replace_of, is_start_of, of_call}
+use Rattle.rpc_journal.specs.Calls.{call_at, calls, end_of, is_cancelled, is_finish_of, is_replace_of, is_start_of}
 use Rattle.rpc_journal.specs.Effect.{Deed, Effect, Opening}
 use Rattle.rpc_journal.specs.Entries.{effect_of, out_item, with_call}
 use Rattle.rpc_journal.specs.History.{adding, deeds_with, entry_by, history}
-use Rattle.rpc_journal.specs.Items.{arrival_of, arrivals, is_done, items_flushed}
-use Rattle.rpc_journal.specs.Queues.{put_at, puts_since, starts_since, waiting_of}
+use Rattle.rpc_journal.specs.Items.{arrivals, is_done}
+use Rattle.rpc_journal.specs.Queues.{puts_since, starts_since, waiting_of}
 use Rattle.rpc_journal.specs.Refusals.{is_full, out_refusal, refused_where, say_refusal}
 use Rattle.rpc_journal.specs.Rows.{says_item}
 use Rattle.rpc_journal.specs.States.{finished_since}
@@ -31,7 +30,7 @@ use Rattle.rpc_schedule.specs.ends.EndState.{EndState, KeepsAside}
 use Rattle.std.proofs.lemmas.Bool.{or_left, or_right}
 use Rattle.rpc_schedule.specs.Schedule.{Flushed, flush_seat, run_seat}
 use Rattle.rpc_schedule.specs.Serving.{Gives, Serving, deeds, with_entry}
-use Rattle.rpc_schedule.specs.Settling.{IsOrderly, Stays}
+use Rattle.rpc_schedule.specs.Settling.{IsOrderly}
 use Rattle.rpc_schedule.proofs.EntryLemmas.{arrivals-push, length-push}
 use Rattle.rpc_schedule.proofs.LoopLemmas.{stays_itself, stays_then}
 use Rattle.rpc_schedule.proofs.ServingLemmas.{StepsFlush, flush_steps}

@@ -1,35 +1,29 @@
 -- The runs of a client whose handlers answer nothing.
-use Rattle.std.proofs.Common.{◌≡◌, ℕ, zero, suc, ◌+◌, ◌-◌, Bool, true, false, not, ◌&&◌, ◌==◌, List, [], ◌∷◌, ◌++◌, length, Option, Some, None, is_some, map, slice_get, option_to_list, option_map, if◌then◌else◌, Result, Ok, Err, refl, ap, sym, ◌∙◌, subst, inl, inr, append_assoc, append-nil}
+use Rattle.std.proofs.Common.{◌≡◌, ℕ, suc, ◌-◌, Bool, true, false, ◌&&◌, ◌==◌, List, [], ◌∷◌, ◌++◌, length, Option, Some, None, map, slice_get, option_to_list, option_map, if◌then◌else◌, Result, Ok, Err, refl, ap, sym, ◌∙◌, subst, inl, inr, append_assoc, append-nil}
 use Rattle.std.specs.Prelude.{option_and_then, OnOk, IfErr}
-use Rattle.std.proofs.lemmas.Bool.{and_parts, eq-eqb, eqb-true, false≢true, not-true, true≢false}
+use Rattle.std.proofs.lemmas.Bool.{and_parts, eq-eqb, eqb-true, not-true}
 use Rattle.demo_services.specs.Answers.{empty_answer}
-use Rattle.rpc_ids.specs.declared.method.Kind.{Kind}
 use Rattle.rpc_ids.specs.declared.method.Role.{Role}
-use Rattle.rpc_ids.specs.declared.method.Role.TheVariants.{Server, Client}
-use Rattle.rpc_packet.specs.declared.call_name.CallName.{CallName}
 use Rattle.rpc_handlers.specs.declared.answer.Answer.{Answer}
-use Rattle.rpc_handlers.specs.declared.answer.End.{End}
 use Rattle.rpc_handlers.specs.declared.event.Event.{Event}
 use Rattle.rpc_handlers.specs.declared.event.Memo.{Memo}
 use Rattle.rpc_journal.specs.declared.answers.StartRefused.{StartRefused}
 use Rattle.rpc_journal.specs.declared.answers.StartRefused.TheVariants.{JournalFull}
 use Rattle.rpc_journal.specs.declared.entry.Entry.{Entry}
 use Rattle.rpc_journal.specs.declared.entry.EntryKind.TheVariants.{Start, Finish}
-use Rattle.rpc_journal.specs.declared.item.Item.{Item}
 use Rattle.rpc_journal.specs.declared.setting.Setting.{Setting}
 use Rattle.rpc_journal.specs.Calls.{call_at, calls, is_cancelled, of_call}
-use Rattle.rpc_journal.specs.Choice.{IsFirstReady, NoneReady, SomeReady}
-use Rattle.rpc_journal.specs.Effect.{Deed, Effect, Opening}
+use Rattle.rpc_journal.specs.Choice.{SomeReady}
+use Rattle.rpc_journal.specs.Effect.{Deed, Opening}
 use Rattle.rpc_journal.specs.Entries.{answered, end_effect, finish_effect, is_heard, leave_item}
 use Rattle.rpc_journal.specs.History.{adding, deeds_with, entry_by, history}
 use Rattle.rpc_journal.specs.Items.{flush_count, is_done, is_ready, items_flushed, items_sent, items_waiting}
-use Rattle.rpc_journal.specs.Kinds.{is_okay, is_unary}
 use Rattle.rpc_journal.specs.Queues.{taken_event, waiting_of}
 use Rattle.rpc_journal.specs.Rows.{both_effects, no_effect, says_item}
-use Rattle.rpc_journal.specs.States.{finished_since, state_before_run}
+use Rattle.rpc_journal.specs.States.{finished_since}
 use Rattle.rpc_journal.proofs.PlaceLemmas.{some_same}
 use Rattle.rpc_journal.proofs.Push.{history-push}
-use Rattle.rpc_schedule.specs.Schedule.{IsByRule, Ran, run_seat}
+use Rattle.rpc_schedule.specs.Schedule.{run_seat}
 use Rattle.rpc_schedule.specs.Serving.{Begins, Serving, deeds, with_entry}
 use Rattle.rpc_schedule.specs.Settling.{IsOrderly, Stays}
 use Rattle.rpc_schedule.proofs.LoopLemmas.{stays_itself, stays_then}

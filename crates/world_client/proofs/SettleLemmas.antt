@@ -19,10 +19,9 @@ use Rattle.rpc_schedule.specs.Schedule.{NoneWaits}
 use Rattle.rpc_schedule.specs.Serving.{Serving, deeds, is_idle, none_waiting}
 use Rattle.rpc_schedule.proofs.EntryLemmas.{none_ready}
 use Rattle.rpc_schedule.proofs.LoopLemmas.{stays_then}
-use Rattle.task_core.specs.declared.mail.Mail.{Mail}
-use Rattle.world_turns.specs.Client.{ClientSettles, FlushesTo, RunsTo, all_said_in, mail_between, mail_of, task_after, task_polled, task_said, transfer_says}
-use Rattle.world_turns.specs.Limits.{ClientStops, HasNoRoom, TaskStops, saying_stops}
-use Rattle.world_turns.specs.Setup.{client_setting, quiet_rule}
+use Rattle.world_turns.specs.Client.{ClientSettles, FlushesTo, all_said_in, mail_between, mail_of, task_after, task_polled, task_said, transfer_says}
+use Rattle.world_turns.specs.Limits.{ClientStops, TaskStops, saying_stops}
+use Rattle.world_turns.specs.Setup.{client_setting}
 use Rattle.world_turns.specs.Turns.{under_with}
 use Rattle.world_turns.specs.World.{Tasked}
 use Rattle.world_client.specs.declared.under.Under.{Under}

@@ -1,5 +1,5 @@
 -- A poll of the task that speaks.
-use Rattle.std.proofs.Common.{◌≡◌, ℕ, suc, ◌≤◌, ◌==◌, ◌||◌, Bool, true, false, if◌then◌else◌, List, [], ◌∷◌, ◌++◌, map, Option, Some, None, is_some, refl, ap, sym, ◌∙◌, subst, arith}
+use Rattle.std.proofs.Common.{◌≡◌, ℕ, ◌≤◌, ◌==◌, ◌||◌, true, false, if◌then◌else◌, List, [], ◌∷◌, ◌++◌, map, Option, Some, None, is_some, refl, ap, sym, ◌∙◌, subst, arith}
 use Rattle.std.proofs.lemmas.Bool.{eq-eqb, eqb-true, false≢true, true≢false}
 use Rattle.std.proofs.Math.Bool.{or-false}
 use Rattle.slab.specs.Slab.{get}
@@ -10,11 +10,11 @@ use Rattle.task_core.specs.declared.mail.Mail.{Mail}
 use Rattle.task_core.specs.declared.place.Place.{Place}
 use Rattle.task_core.specs.Context.{by_task}
 use Rattle.task_core.specs.Due.{ended_by, result_of, status_by}
-use Rattle.task_core.specs.Log.{Step, added, is_added, mail_of, outs_of, task_of}
-use Rattle.task_core.specs.Tasks.{HasKey, Keeps, StandsFor, Tasks}
+use Rattle.task_core.specs.Log.{Step, added, mail_of, outs_of, task_of}
+use Rattle.task_core.specs.Tasks.{HasKey, StandsFor, Tasks}
 use Rattle.task_core.specs.Visit.{Ending, Visit, ends, goes_on, is_short_of_memory}
 use Rattle.transfer_client.specs.Machine.{Rules}
-use Rattle.transfer_client.specs.Polling.{IsPolledBy, IsWhole, ending_by, polled}
+use Rattle.transfer_client.specs.Polling.{IsPolledBy, IsWhole, ending_by}
 use Rattle.transfer_client.specs.Read.{Download, read_rules}
 use Rattle.transfer_client.specs.Write.{Upload, write_rules}
 use Rattle.transfer_words.specs.Saying.{outs_of as outs_in}
@@ -27,7 +27,7 @@ use Rattle.world_client.specs.declared.transfer_task.Way.TheVariants.{Read, Writ
 use Rattle.world_client.specs.OnePoll.{IsPolledOnce, PolledBy, PollsAlone, StaysOver, with_posts, with_taken}
 use Rattle.world_client.specs.Speaking.{IsSpeaker, PollsTransfer, PollsWay, is_short_ending, resource_in, session_in, transfer_at, transfer_in}
 use Rattle.world_client.proofs.OnePollLemmas.{posts_mail, posts_same, taken_same}
-use Rattle.world_client.proofs.TransferLaws.{IsLasting, polled_about, polled_left, polled_over, reads_last, writes_last}
+use Rattle.world_client.proofs.TransferLaws.{polled_about, polled_left, polled_over, reads_last, writes_last}
 
 whole : {A : Type 0} (k : Rules A) (session : ℕ) (old : A) (visit : Visit) (new : A) (e : Ending) → is_short_ending e ≡ false → IsPolledBy k session old visit new e
     → IsWhole k session old visit new

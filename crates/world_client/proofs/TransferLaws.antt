@@ -1,9 +1,8 @@
 -- What a poll of a transfer leaves as it is.
-use Rattle.std.proofs.Common.{◌≡◌, ◌⊎◌, ℕ, Bool, true, false, if◌then◌else◌, List, [], ◌∷◌, Option, Some, None, is_some, refl, ap, sym, ◌∙◌, subst, inl, inr}
+use Rattle.std.proofs.Common.{◌≡◌, ◌⊎◌, ℕ, Bool, true, false, if◌then◌else◌, List, [], ◌∷◌, Option, Some, None, is_some, refl, ap, sym, ◌∙◌, inl, inr}
 use Rattle.std.proofs.lemmas.Bool.{false≢true}
 use Rattle.std.specs.Prelude.{nat_lt}
 use Rattle.rpc_ids.specs.declared.Status.{Status}
-use Rattle.rpc_ids.specs.declared.Status.TheVariants.{OutOfRange, DeadlineExceeded}
 use Rattle.task_core.specs.declared.mail.Mail.{Mail}
 use Rattle.task_core.specs.declared.mail.Mail.TheVariants.{Text, Closed}
 use Rattle.transfer_receiver.specs.declared.phase.Phase.{Phase}
@@ -15,7 +14,7 @@ use Rattle.transfer_client.specs.declared.stages.Reading.TheVariants as reading
 use Rattle.transfer_client.specs.declared.stages.Writing.{Writing}
 use Rattle.transfer_client.specs.declared.stages.Writing.TheVariants as writing
 use Rattle.transfer_client.specs.Machine.{Rules, staying}
-use Rattle.transfer_client.specs.Polling.{Taken, behind, heard_word, hears_any, polled, takes, takes_all, ticked}
+use Rattle.transfer_client.specs.Polling.{behind, heard_word, hears_any, polled, takes, takes_all, ticked}
 use Rattle.transfer_client.specs.Read as read
 use Rattle.transfer_client.specs.Read.{Download, read_rules}
 use Rattle.transfer_client.specs.Write as write

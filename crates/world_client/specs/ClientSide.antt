@@ -14,7 +14,7 @@ use Rattle.rpc_schedule.specs.Kept.{kept}
 use Rattle.rpc_schedule.specs.Serving.{Serving, deeds}
 use Rattle.rpc_schedule.specs.ends.EndState.{EndState}
 use Rattle.world_turns.specs.Client.{ClientSettles, ClientTakes}
-use Rattle.world_turns.specs.Limits.{ClientStops, ClientTakingStops}
+use Rattle.world_turns.specs.Limits.{ClientTakingStops}
 use Rattle.world_turns.specs.Setup.{client_setting}
 use Rattle.world_turns.specs.Turns.{under_with}
 use Rattle.world_turns.specs.World.{Tasked}

@@ -3,4 +3,3 @@ pub mod RestLemmas
 mod ChannelLemmas
 mod StockLemmas
 pub mod MadeLemmas
-pub mod StopLemmas

@@ -1,5 +1,5 @@
 -- What is made of calls, one call after another.
-use Rattle.std.proofs.Common.{◌≡◌, ◌⊎◌, ℕ, zero, suc, ◌+◌, ◌<◌, ◌≤◌, Bool, true, false, if◌then◌else◌, List, [], ◌∷◌, ◌++◌, drop, get_or, length, slice_get, take, Option, Some, None, is_none, not, refl, ap, sym, ◌∙◌, subst, inl, inr, arith, append-nil, length-take}
+use Rattle.std.proofs.Common.{◌≡◌, ◌⊎◌, ℕ, suc, ◌+◌, ◌<◌, ◌≤◌, Bool, true, false, if◌then◌else◌, List, [], ◌∷◌, ◌++◌, drop, get_or, length, slice_get, take, Option, Some, None, refl, ap, sym, ◌∙◌, inl, inr, arith, append-nil, length-take}
 use Rattle.std.specs.Prelude.{filter_map}
 use Rattle.std.specs.List.{cons_option}
 use Rattle.std.proofs.lemmas.List.{take-append-drop, take_more}
@@ -7,7 +7,6 @@ use Rattle.std.proofs.lemmas.Option.{slice_get_cases}
 use Rattle.std.proofs.Math.Seq.{drop-cons}
 use Rattle.rpc_journal.specs.Effect.{Opening}
 use Rattle.rpc_journal.specs.Entries.{made_from}
-use Rattle.rpc_journal.specs.Kinds.{is_empty}
 use Rattle.rpc_journal.proofs.PlaceLemmas.{some_same}
 
 -- what stands at a place

@@ -1,12 +1,11 @@
 -- Something comes to a server at rest, and it settles.
-use Rattle.std.proofs.Common.{◌≡◌, ◌⊎◌, ℕ, ◌+◌, ◌<◌, ◌≤◌, Bool, true, false, ◌||◌, List, [], ◌∷◌, ◌++◌, length, take, Option, Some, None, Ok, if◌then◌else◌, refl, ap, sym, ◌∙◌, subst, inl, inr, arith, append_assoc, length-append}
+use Rattle.std.proofs.Common.{◌≡◌, ℕ, ◌+◌, ◌≤◌, Bool, true, false, ◌||◌, List, [], ◌∷◌, ◌++◌, length, take, Option, Some, None, Ok, if◌then◌else◌, refl, ap, sym, ◌∙◌, subst, inl, inr, arith, append_assoc, length-append}
 use Rattle.std.proofs.lemmas.Bool.{true≢false, false≢true}
 use Rattle.std.proofs.lemmas.List.{append-nil, take-append-le}
 use Rattle.rpc_packet.specs.declared.owned.Packet.{Packet}
 use Rattle.rpc_handlers.specs.HandlerRule.{HandlerRule}
 use Rattle.rpc_journal.specs.declared.answers.StartRefused.{StartRefused}
 use Rattle.rpc_journal.specs.declared.entry.Entry.{Entry}
-use Rattle.rpc_journal.specs.declared.entry.TheConstants.{MAX_ENTRIES}
 use Rattle.rpc_journal.specs.declared.entry.EntryKind.{EntryKind}
 use Rattle.rpc_journal.specs.declared.entry.EntryKind.TheVariants.{Arrive}
 use Rattle.rpc_journal.specs.declared.item.Item.{Item}
@@ -19,10 +18,10 @@ use Rattle.rpc_journal.specs.Items.{arrivals, flush_count, input_ended, is_end_i
 use Rattle.rpc_journal.proofs.Push.{history-push}
 use Rattle.rpc_schedule.specs.OneThread.{takes_room}
 use Rattle.rpc_schedule.specs.Schedule.{IsOver, Settles, input_seat}
-use Rattle.rpc_schedule.specs.Serving.{Feeds, Serving, TakesPacket, deeds, with_entry}
+use Rattle.rpc_schedule.specs.Serving.{Feeds, Serving, deeds, with_entry}
 use Rattle.rpc_schedule.specs.Schedule.Stage.{flushing}
 use Rattle.rpc_schedule.specs.ends.EndState.{EndState, KeepsAside}
-use Rattle.rpc_schedule.specs.Settling.{IsOrderly, SettlesAll, Stays}
+use Rattle.rpc_schedule.specs.Settling.{IsOrderly, SettlesAll}
 use Rattle.rpc_schedule.proofs.EntryLemmas.{arrivals-push, room-push}
 use Rattle.rpc_schedule.proofs.ScheduleLemmas.{over_stays}
 use Rattle.world_turns.specs.Turns.{ServerTakes}

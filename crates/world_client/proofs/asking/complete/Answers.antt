@@ -1,5 +1,5 @@
-use Rattle.std.proofs.Common.{◌≡◌, ◌<◌, ◌∙◌, ℕ, refl, ap, sym, subst, arith}
-use Rattle.rpc_journal.specs.declared.entry.EntryKind.TheVariants.{Done, Invoke, Say}
+use Rattle.std.proofs.Common.{refl}
+use Rattle.rpc_journal.specs.declared.entry.EntryKind.TheVariants.{Done}
 use Rattle.world_client.proofs.AskLemmas.{adds_one}
 use Rattle.world_client.proofs.asking.complete.Goals as goal
 

@@ -1,4 +1,4 @@
-use Rattle.std.proofs.Common.{◌≡◌, ◌<◌, ◌∙◌, ◌==◌, ◌&&◌, ℕ, ◌+◌, Bool, true, false, not, List, [], ◌∷◌, ◌++◌, Some, None, is_none, if◌then◌else◌, option_map, slice_get, drop, length, take, refl, ap, sym, subst, arith, append-nil}
+use Rattle.std.proofs.Common.{◌≡◌, ◌<◌, ◌∙◌, ◌==◌, ◌&&◌, not, [], ◌∷◌, ◌++◌, Some, is_none, if◌then◌else◌, option_map, length, take, ap, sym, subst, arith, append-nil}
 use Rattle.demo_services.specs.Methods.{transfer_id}
 use Rattle.rpc_packet.specs.declared.call_name.CallName.{CallName}
 use Rattle.rpc_journal.specs.Calls.{call_at, calls, end_of, ends_of, has_end}

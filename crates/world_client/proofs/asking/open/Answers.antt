@@ -1,4 +1,4 @@
-use Rattle.std.proofs.Common.{◌≡◌, ◌<◌, ◌∙◌, ℕ, ◌+◌, refl, ap, sym, subst, arith}
+use Rattle.std.proofs.Common.{◌≡◌, ◌<◌, ◌∙◌, ◌+◌, refl, ap, sym, subst}
 use Rattle.rpc_packet.specs.declared.call_name.CallName.{CallName}
 use Rattle.rpc_handlers.specs.HandlerRule.{empty_memo}
 use Rattle.rpc_journal.specs.declared.entry.EntryKind.TheVariants.{Invoke}

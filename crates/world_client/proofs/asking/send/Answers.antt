@@ -1,6 +1,6 @@
-use Rattle.std.proofs.Common.{◌≡◌, ◌<◌, ◌∙◌, ℕ, refl, ap, sym, subst, arith}
+use Rattle.std.proofs.Common.{refl}
 use Rattle.rpc_handlers.specs.declared.answer.Out.TheVariants.{Say as Message}
-use Rattle.rpc_journal.specs.declared.entry.EntryKind.TheVariants.{Done, Invoke, Say}
+use Rattle.rpc_journal.specs.declared.entry.EntryKind.TheVariants.{Say}
 use Rattle.world_client.proofs.AskLemmas.{adds_one}
 use Rattle.world_client.proofs.asking.send.Goals as goal
 

@@ -1,5 +1,4 @@
-use Rattle.std.proofs.Common.{◌≡◌, ◌∙◌, ℕ, ◌+◌, ◌∷◌, ◌++◌, [], List, true, get_or, map, take, ap, sym, subst}
-use Rattle.std.proofs.lemmas.List.{take_more}
+use Rattle.std.proofs.Common.{◌≡◌, ◌∷◌, [], List, true, take, sym, subst}
 use Rattle.rpc_handlers.specs.declared.answer.Out.TheVariants.{Say as Message}
 use Rattle.rpc_journal.specs.declared.entry.EntryKind.{EntryKind}
 use Rattle.rpc_journal.specs.declared.entry.EntryKind.TheVariants.{Say}

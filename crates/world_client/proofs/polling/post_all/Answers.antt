@@ -1,7 +1,5 @@
-use Rattle.std.proofs.Common.{◌≡◌, ℕ, ◌∙◌, ◌++◌, List, refl, ap, sym, subst, take}
-use Rattle.task_core.specs.Log.{Step}
+use Rattle.std.proofs.Common.{◌∙◌, sym, subst, take}
 use Rattle.task_core.specs.Tasks.{Keeps, StandsFor}
-use Rattle.world_client.specs.declared.transfer_task.TransferTask.{TransferTask}
 use Rattle.world_client.specs.OnePoll.{with_posts}
 use Rattle.world_turns.specs.Client.{mail_of}
 use Rattle.world_client.specs.Speaking.{mail_among}

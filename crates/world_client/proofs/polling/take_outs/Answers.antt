@@ -1,8 +1,5 @@
-use Rattle.std.proofs.Common.{◌≡◌, ℕ, suc, ◌+◌, List, [], ◌∷◌, ◌++◌, drop, length, map, refl, ap, sym, ◌∙◌, subst, arith, append_assoc, append-nil, length-append}
-use Rattle.rpc_handlers.specs.declared.answer.Out.{Out}
-use Rattle.task_core.specs.Log.{Step, took}
-use Rattle.task_core.specs.Tasks.{Keeps, StandsFor}
-use Rattle.world_client.specs.declared.transfer_task.TransferTask.{TransferTask}
+use Rattle.std.proofs.Common.{◌≡◌, suc, [], ◌∷◌, ◌++◌, length, map, ap, sym, ◌∙◌, subst, arith, append_assoc, append-nil, length-append}
+use Rattle.task_core.specs.Tasks.{StandsFor}
 use Rattle.world_client.specs.OnePoll.{with_taken}
 use Rattle.world_client.proofs.OnePollLemmas.{none_left}
 use Rattle.world_client.proofs.polling.take_outs.Goals as goal

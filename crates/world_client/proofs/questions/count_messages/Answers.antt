@@ -1,4 +1,4 @@
-use Rattle.std.proofs.Common.{◌≡◌, ℕ, ◌+◌, ◌==◌, ◌++◌, ◌∙◌, Bool, true, false, List, [], Option, Some, None, is_some, if◌then◌else◌, flat_map, length, take, ap, arith, length-append, refl, sym, Bor}
+use Rattle.std.proofs.Common.{◌≡◌, ℕ, ◌+◌, ◌==◌, ◌++◌, ◌∙◌, List, [], Option, Some, None, is_some, if◌then◌else◌, flat_map, length, take, ap, arith, length-append, refl, sym, Bor}
 use Rattle.std.specs.Option.{option_copied, option_to_list}
 use Rattle.rpc_journal.specs.Calls.{of_call}
 use Rattle.world_turns.specs.Lines.{message_in}

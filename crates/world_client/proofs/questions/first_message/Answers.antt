@@ -1,4 +1,4 @@
-use Rattle.std.proofs.Common.{◌≡◌, ℕ, ◌+◌, ◌==◌, ◌∷◌, ◌++◌, ◌∙◌, List, [], Option, Some, None, IfOk, Result, Ok, Err, if◌then◌else◌, drop, flat_map, length, take, ap, arith, refl, subst, sym}
+use Rattle.std.proofs.Common.{◌≡◌, ℕ, ◌==◌, ◌∷◌, ◌++◌, ◌∙◌, List, [], IfOk, Result, Ok, Err, if◌then◌else◌, flat_map, ap, sym}
 use Rattle.std.specs.Prelude.{MatchResult, slice_get, unwrap_or}
 use Rattle.rpc_journal.specs.Calls.{of_call}
 use Rattle.world_turns.specs.Lines.{message_in}

@@ -1,4 +1,4 @@
-use Rattle.std.proofs.Common.{◌≡◌, ℕ, [], IfOk, sym, subst}
+use Rattle.std.proofs.Common.{ℕ, [], IfOk, sym, subst}
 use Rattle.world_turns.specs.World.{Setup, World}
 use Rattle.world_client.specs.Asking.{Begins, IsClientOf}
 use Rattle.world_client.proofs.starting.begin.Goals as goal

@@ -1,4 +1,4 @@
-use Rattle.std.proofs.Common.{◌≡◌, ◌≤◌, ◌<◌, ℕ, ◌+◌, ◌++◌, ◌∙◌, List, length, length-take, length-drop, take, Option, IfSome, ap, sym, subst, arith}
+use Rattle.std.proofs.Common.{◌≡◌, ◌<◌, ℕ, ◌∙◌, length, length-take, length-drop, IfSome, ap, sym, subst, arith}
 use Rattle.rpc_ids.specs.declared.method.Role.TheVariants.{Client as client_role}
 use Rattle.rpc_journal.specs.Calls.{call_count}
 use Rattle.rpc_journal.specs.CallTable.{Table}

@@ -1,4 +1,4 @@
-use Rattle.std.proofs.Common.{◌≡◌, ℕ, ◌-◌, ◌≤◌, ◌<◌, List, ◌++◌, length, take, Option, IfSome}
+use Rattle.std.proofs.Common.{ℕ, ◌-◌, ◌≤◌, ◌<◌, List, ◌++◌, length, take, Option, IfSome}
 use Rattle.link_io.specs.Stored.{Stored}
 use Rattle.rpc_ids.specs.declared.method.Role.TheVariants.{Client as client_role}
 use Rattle.rpc_journal.specs.Calls.{call_count}

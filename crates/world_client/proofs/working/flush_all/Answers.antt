@@ -4,7 +4,7 @@ use Rattle.rpc_schedule.specs.Serving.{deeds}
 use Rattle.rpc_schedule.proofs.LoopLemmas.{one_item_more}
 use Rattle.rpc_schedule.proofs.ServingLemmas.{flush_steps}
 use Rattle.world_ends.proofs.OutLemmas.{goes_out_none, goes_out_one}
-use Rattle.world_client.proofs.PassLemmas.{flushes_all, flushes_more, flushes_none}
+use Rattle.world_client.proofs.PassLemmas.{flushes_more, flushes_none}
 use Rattle.world_client.proofs.working.flush_all.Goals as goal
 
 pub items-init : goal.items-init

@@ -1,5 +1,4 @@
-use Rattle.std.proofs.Common.{◌≡◌, ℕ, ◌<◌, ap, sym, subst, length, take, true}
-use Rattle.rpc_journal.specs.Calls.{calls}
+use Rattle.std.proofs.Common.{◌≡◌, ◌<◌, sym, subst, length, true}
 use Rattle.rpc_journal.specs.Refusals.{is_full}
 use Rattle.world_client.proofs.PassLemmas.{stops_in}
 use Rattle.world_client.proofs.working.say_all.Goals as goal

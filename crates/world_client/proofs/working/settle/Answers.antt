@@ -1,4 +1,4 @@
-use Rattle.std.proofs.Common.{◌≡◌, ◌∙◌, ◌-◌, sym, ap, drop, length, take}
+use Rattle.std.proofs.Common.{◌∙◌, ◌-◌, sym, ap, drop, length, take}
 use Rattle.world_client.proofs.SettleLemmas.{kept_then, rest_is, settled}
 use Rattle.world_client.proofs.working.settle.Goals as goal
 

@@ -1,4 +1,4 @@
-use Rattle.std.proofs.Common.{◌≡◌, ℕ, ◌++◌, arith, subst, sym, ap, length-take, length-drop}
+use Rattle.std.proofs.Common.{ℕ, arith, subst, sym, length-take, length-drop}
 use Rattle.std.proofs.lemmas.List.{append-nil}
 use Rattle.rpc_ids.specs.declared.method.Role.TheVariants.{Server as server_role}
 use Rattle.rpc_schedule.proofs.InputLemmas.{feed_steps}

@@ -1,4 +1,4 @@
-use Rattle.std.proofs.Common.{◌≡◌, sym, ◌∙◌}
+use Rattle.std.proofs.Common.{sym, ◌∙◌}
 use Rattle.rpc_ids.specs.declared.method.Role.TheVariants.{Server as server_role}
 use Rattle.rpc_journal.specs.Choice.{SomeReady}
 use Rattle.rpc_schedule.specs.Serving.{deeds}

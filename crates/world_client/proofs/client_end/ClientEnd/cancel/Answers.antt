@@ -1,4 +1,4 @@
-use Rattle.std.proofs.Common.{◌≡◌, ◌∙◌, OnOk, IfErr, List, None, ap, refl, sym, subst}
+use Rattle.std.proofs.Common.{◌≡◌, ◌∙◌, IfErr, None, ap, refl, sym, subst}
 use Rattle.rpc_journal.specs.declared.entry.EntryKind.TheVariants.{Cancel}
 use Rattle.rpc_journal.specs.Calls.{end_of}
 use Rattle.rpc_journal.specs.History.{adding}

@@ -1,4 +1,4 @@
-use Rattle.std.proofs.Common.{◌≡◌, ◌∙◌, OnOk, ap, sym, subst}
+use Rattle.std.proofs.Common.{◌∙◌, OnOk, sym, subst}
 use Rattle.world_ends.proofs.OutLemmas.{on_ok_three}
 use Rattle.world_client.specs.ClientSide.{ClientMoves, ClientRests, ClientState}
 use Rattle.world_client.proofs.EndLemmas.{moves_by}

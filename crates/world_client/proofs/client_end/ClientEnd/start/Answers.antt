@@ -1,5 +1,4 @@
-use Rattle.std.proofs.Common.{◌≡◌, ◌∙◌, ℕ, Some, ap, inl, inr, sym, subst}
-use Rattle.world_turns.specs.World.{Setup, World}
+use Rattle.std.proofs.Common.{◌∙◌, Some, ap, inl, inr, sym, subst}
 use Rattle.world_client.specs.ClientSide.{ClientRests, ClientState, ClientWorks}
 use Rattle.world_client.proofs.AskLemmas.{asks_by, stops_by_work}
 use Rattle.world_client.proofs.EndLemmas.{kept_by}

@@ -1,6 +1,6 @@
-use Rattle.std.proofs.Common.{◌≡◌, ◌∙◌, OnOk, ap, sym, subst}
+use Rattle.std.proofs.Common.{OnOk, subst}
 use Rattle.world_ends.proofs.OutLemmas.{on_ok_three}
-use Rattle.world_client.specs.ClientSide.{ClientMoves, ClientRests, ClientState}
+use Rattle.world_client.specs.ClientSide.{ClientMoves, ClientState}
 use Rattle.world_client.proofs.EndLemmas.{moves_by}
 use Rattle.world_client.proofs.client_end.ClientEnd.work.Goals as goal
 

@@ -1,4 +1,4 @@
-use Rattle.std.proofs.Common.{◌≡◌, ◌∙◌, ℕ, suc, List, length, ap, sym, subst, arith}
+use Rattle.std.proofs.Common.{◌≡◌, ◌∙◌, suc, length, ap, sym, subst, arith}
 use Rattle.slab.specs.Slab.{get}
 use Rattle.world_turns.specs.Client.{task_polled, transfer_says}
 use Rattle.world_turns.specs.World.{Tasked}

@@ -1,4 +1,4 @@
-use Rattle.std.proofs.Common.{◌≡◌, refl, sym, ◌∙◌, subst, List}
+use Rattle.std.proofs.Common.{refl, sym, ◌∙◌, subst}
 use Rattle.rpc_journal.specs.declared.entry.EntryKind.TheVariants.{Close}
 use Rattle.rpc_schedule.specs.Settling.{IsOrderly}
 use Rattle.world_ends.specs.ServerSide.{ServerMoves, ServerRests, ServerState}

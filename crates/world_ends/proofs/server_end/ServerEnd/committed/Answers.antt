@@ -1,4 +1,4 @@
-use Rattle.std.proofs.Common.{◌≡◌, ◌<◌, ◌∙◌, ℕ, Option, Some, None, if◌then◌else◌, option_map, length, ap, sym, subst, arith}
+use Rattle.std.proofs.Common.{◌≡◌, ◌<◌, ◌∙◌, Some, None, if◌then◌else◌, option_map, length, ap, sym, subst, arith}
 use Rattle.rpc_journal.specs.Calls.{call_at, calls, same_name}
 use Rattle.rpc_journal.specs.CallTable.{Table, past}
 use Rattle.rpc_journal.specs.Effect.{Opening}

@@ -1,12 +1,9 @@
-use Rattle.std.proofs.Common.{◌≡◌, OnOk, refl, ap, sym, ◌∙◌, subst, List}
-use Rattle.demo_services.specs.DemoRule.{demo_rule}
-use Rattle.rpc_ids.specs.declared.method.Role.TheVariants.{Server as server_role}
-use Rattle.rpc_journal.specs.declared.entry.EntryKind.TheVariants.{EndIn, Tick, Close}
+use Rattle.std.proofs.Common.{OnOk, refl, ap, sym, ◌∙◌, subst}
+use Rattle.rpc_journal.specs.declared.entry.EntryKind.TheVariants.{EndIn}
 use Rattle.rpc_schedule.specs.Settling.{IsOrderly}
-use Rattle.rpc_schedule.proofs.ends.FedLemmas.{added_fed}
 use Rattle.world_ends.specs.ServerSide.{ServerMoves, ServerRests, ServerState}
-use Rattle.world_ends.proofs.OutLemmas.{moves_by, on_ok_one, on_ok_two, on_ok_three}
-use Rattle.world_ends.proofs.RestLemmas.{enters, entered}
+use Rattle.world_ends.proofs.OutLemmas.{moves_by, on_ok_three}
+use Rattle.world_ends.proofs.RestLemmas.{enters}
 use Rattle.rpc_schedule.specs.Schedule.{input_seat}
 use Rattle.world_ends.proofs.server_end.ServerEnd.end_in.Goals as goal
 

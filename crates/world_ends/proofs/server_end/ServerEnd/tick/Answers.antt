@@ -1,13 +1,11 @@
-use Rattle.std.proofs.Common.{◌≡◌, OnOk, refl, ap, sym, ◌∙◌, subst, List}
-use Rattle.demo_services.specs.DemoRule.{demo_rule}
+use Rattle.std.proofs.Common.{OnOk, refl, sym, ◌∙◌, subst}
 use Rattle.rpc_ids.specs.declared.method.Role.TheVariants.{Server as server_role}
-use Rattle.rpc_journal.specs.declared.entry.EntryKind.TheVariants.{EndIn, Tick, Close}
-use Rattle.rpc_schedule.specs.Settling.{IsOrderly}
+use Rattle.rpc_journal.specs.declared.entry.EntryKind.TheVariants.{Tick}
 use Rattle.rpc_schedule.specs.ends.EndState.{WasFed}
 use Rattle.rpc_schedule.proofs.ends.FedLemmas.{added_fed}
 use Rattle.world_ends.specs.ServerSide.{ServerMoves, ServerRests, ServerState}
-use Rattle.world_ends.proofs.OutLemmas.{moves_by, on_ok_one, on_ok_two, on_ok_three}
-use Rattle.world_ends.proofs.RestLemmas.{enters, entered}
+use Rattle.world_ends.proofs.OutLemmas.{moves_by, on_ok_one, on_ok_three}
+use Rattle.world_ends.proofs.RestLemmas.{entered}
 use Rattle.world_ends.proofs.server_end.ServerEnd.tick.Goals as goal
 
 pub settle-requires-clause-orderly : goal.settle-requires-clause-orderly
