@@ -1,5 +1,5 @@
 -- What comes to the client, and goes out of it, in the world.
-use Rattle.std.proofs.Common.{◌≡◌, ℕ, ◌+◌, ◌*◌, List, [], ◌∷◌, ◌++◌, Option, Some, None, refl, ap, sym, ◌∙◌, subst}
+use Rattle.std.proofs.Common.{◌≡◌, ℕ, ◌+◌, ◌*◌, List, ◌++◌, Option, Some, None, refl, ap, sym, ◌∙◌, subst}
 use Rattle.link_script.specs.declared.command.Command.{Command}
 use Rattle.link_script.specs.declared.command.Command.TheVariants.{Read, Write, Echo, Count, Sum, Chat, Close}
 use Rattle.rpc_ids.specs.declared.method.Role.TheVariants.{Client}
@@ -14,18 +14,16 @@ use Rattle.rpc_schedule.specs.Serving.{deeds}
 use Rattle.rpc_schedule.specs.ends.EndState.{WasFed}
 use Rattle.world_turns.specs.declared.limits.TheConstants.{TURN_OF_TIME}
 use Rattle.world_turns.specs.Client.{ClientSettles, ClientTakes}
-use Rattle.world_turns.specs.Limits.{AskingStops, ClientStops, ClientTakingStops, StopsIn}
 use Rattle.world_turns.specs.Lines.{finished}
 use Rattle.world_turns.specs.Setup.{client_setting}
-use Rattle.world_turns.specs.Starts.{all_added, starts}
-use Rattle.world_turns.specs.Turns.{Asks, Cancels, Starts, cancelling, later, starting, task_of, task_under, to_client, under_with, with_command, with_frame_at_client, with_task}
-use Rattle.world_turns.specs.World.{Setup, Tasked, World, client_store, moment, with_client}
+use Rattle.world_turns.specs.Starts.{starts}
+use Rattle.world_turns.specs.Turns.{Asks, Starts, cancelling, starting, task_of, task_under, to_client, under_with, with_command, with_frame_at_client, with_task}
+use Rattle.world_turns.specs.World.{Setup, Tasked, World, moment, with_client}
 use Rattle.world_client.specs.declared.under.Under.{Under}
 use Rattle.world_client.specs.Asking.{ClientAsks, IsAsked, IsClientOf}
-use Rattle.world_client.specs.ClientSide.{ClientHears, ClientMoves, ClientRests, ClientState, ClientWorks}
-use Rattle.world_client.specs.ClientSide as client
-use Rattle.world_client.specs.Underway.{task_seen, under_of, under_seen}
-use Rattle.world_ends.specs.Wiring.{Wiring, with_all_sent}
+use Rattle.world_client.specs.ClientSide.{ClientHears, ClientMoves, ClientRests, ClientState}
+use Rattle.world_client.specs.Underway.{task_seen, under_seen}
+use Rattle.world_ends.specs.Wiring.{Wiring}
 use Rattle.transfer_base.specs.declared.tuning.Tuning.{Tuning}
 use Rattle.link_world.specs.declared.course.Course.{Course}
 use Rattle.link_world.specs.Making.{ClientTurns, with_coming, with_rest_down}

@@ -1,20 +1,17 @@
 -- How a turn ends in the world.
-use Rattle.std.proofs.Common.{◌≡◌, ℕ, Bool, true, false, List, [], ◌∷◌, ◌++◌, Option, Some, None, if◌then◌else◌, refl, ap, sym, ◌∙◌, subst}
-use Rattle.std.specs.Prelude.{◌&&◌, ◌↔◌}
-use Rattle.std.proofs.lemmas.Bool.{false≢true}
+use Rattle.std.proofs.Common.{◌≡◌, Bool, true, false, List, [], ◌∷◌, ◌++◌, Some, None, if◌then◌else◌, refl, ap, sym, ◌∙◌, subst}
+use Rattle.std.specs.Prelude.{◌↔◌}
 use Rattle.link_script.specs.declared.command.Command.{Command}
 use Rattle.link_script.specs.declared.report.ReportLine.{ReportLine}
 use Rattle.lossy_link.specs.Link.{released}
 use Rattle.rpc_journal.specs.Kinds.{is_empty}
 use Rattle.world_turns.specs.Lines.{command_ended, finished, is_still, line_of, with_line, with_released}
 use Rattle.world_turns.specs.World.{Setup, Under as UnderWay, World}
-use Rattle.world_client.specs.declared.under.Under.{Under}
 use Rattle.world_client.specs.ClientSide.{ClientState}
-use Rattle.world_client.specs.Underway.{under_of, under_seen}
 use Rattle.world_ends.specs.ServerSide.{ServerState}
 use Rattle.world_ends.specs.Wiring.{Wiring}
 use Rattle.link_world.specs.declared.course.Course.{Course}
-use Rattle.link_world.specs.Showing.{ClientShows, CourseShows, ServerShows, Shows, wiring_of}
+use Rattle.link_world.specs.Showing.{Shows, wiring_of}
 
 -- a test that says that a list is empty
 pub empty_is : {A : Type 0} (b : Bool) (xs : List A) → (b ≡ true) ↔ (xs ≡ []) → b ≡ is_empty xs

@@ -1,6 +1,6 @@
 -- What a turn does, put together.
-use Rattle.std.proofs.Common.{◌≡◌, ℕ, ◌+◌, ◌*◌, ◌<◌, ◌≤◌, Bool, true, false, List, length, Option, Some, None, refl, ap, sym, ◌∙◌, subst, arith}
-use Rattle.std.specs.Prelude.{drop, IfSome, Result, Ok, Err, OnOk, IfErr, IsErr, IsErrAnd}
+use Rattle.std.proofs.Common.{◌≡◌, ℕ, ◌+◌, ◌*◌, ◌<◌, ◌≤◌, false, List, length, Option, sym, ◌∙◌, subst, arith}
+use Rattle.std.specs.Prelude.{drop, IfSome, Result, Ok, Err, OnOk}
 use Rattle.link_script.specs.declared.command.Command.{Command}
 use Rattle.rpc_journal.specs.declared.entry.TheConstants.{MAX_ENTRIES}
 use Rattle.rpc_journal.specs.Calls.{call_count}
@@ -8,9 +8,8 @@ use Rattle.rpc_journal.specs.Refusals.{is_full}
 use Rattle.rpc_schedule.specs.Serving.{deeds}
 use Rattle.rpc_schedule.proofs.ServingLemmas.{below_full}
 use Rattle.world_turns.specs.declared.limits.TheConstants.{TURN_OF_TIME}
-use Rattle.world_turns.specs.Limits.{StopsIn}
 use Rattle.world_turns.specs.Lines.{finished}
-use Rattle.world_turns.specs.Turns.{Kind, Turn, TurnOf, next_kind, starting, timing}
+use Rattle.world_turns.specs.Turns.{Kind, next_kind, starting, timing}
 use Rattle.world_turns.specs.World.{Setup, World}
 use Rattle.world_client.specs.declared.under.Under.{Under}
 use Rattle.world_client.specs.ClientSide.{Attends, ClientRests, ClientState}
@@ -22,7 +21,7 @@ use Rattle.link_world.specs.declared.turn.Turn.{Turn as NextTurn}
 use Rattle.link_world.specs.declared.turn.Turn.TheVariants.{ToServer, ToClient, Start, Cancel, Time}
 use Rattle.link_world.specs.Making.{ClientTurns, ServerTurns, TakesTurn, WorldTurns, with_coming}
 use Rattle.link_world.specs.Running.{IsTimed, MakesTurn}
-use Rattle.link_world.specs.Showing.{ClientShows, CourseShows, ServerShows, Shows, Stands, wiring_of}
+use Rattle.link_world.specs.Showing.{ClientShows, CourseShows, ServerShows, Shows, Stands}
 use Rattle.link_world.proofs.SizeLemmas.{started_coming}
 use Rattle.link_world.proofs.TurnLemmas.{rest_at}
 

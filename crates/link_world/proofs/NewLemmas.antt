@@ -2,18 +2,14 @@
 use Rattle.std.proofs.Common.{◌≡◌, ℕ, List, [], refl, ap, sym, ◌∙◌, subst}
 use Rattle.std.specs.Prelude.{IfOk, None, Result, Ok, Err}
 use Rattle.link_io.specs.Stored.{Stored}
-use Rattle.link_script.specs.declared.command.Command.{Command}
 use Rattle.link_script.specs.declared.loss.Loss.{Loss}
 use Rattle.link_script.specs.declared.script.Script.{Script}
 use Rattle.demo_services.specs.DemoRule.{demo_rule}
-use Rattle.rpc_journal.specs.declared.item.Item.{Item}
 use Rattle.rpc_journal.specs.declared.setting.Setting.{Setting}
 use Rattle.rpc_schedule.specs.Kept.{kept}
 use Rattle.transfer_base.specs.declared.tuning.Tuning.{Tuning}
-use Rattle.world_turns.specs.Limits.{EndStops, IsPastJournal, StopsIn}
 use Rattle.world_turns.specs.Setup.{client_setting, setup_of}
-use Rattle.world_turns.specs.Turns.{ending, next_kind}
-use Rattle.world_turns.specs.World.{Setup, World, first_world}
+use Rattle.world_turns.specs.World.{Setup, first_world}
 use Rattle.world_client.specs.ClientSide.{ClientState}
 use Rattle.world_ends.specs.ServerSide.{ServerState}
 use Rattle.world_ends.specs.Wiring.{Wiring}

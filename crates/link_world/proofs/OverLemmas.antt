@@ -1,5 +1,5 @@
 -- The end of a run in the world.
-use Rattle.std.proofs.Common.{◌≡◌, ℕ, ◌*◌, List, ◌++◌, length, None, refl, ap, sym, ◌∙◌, subst, inl, inr}
+use Rattle.std.proofs.Common.{◌≡◌, ℕ, ◌*◌, List, length, None, ap, sym, ◌∙◌}
 use Rattle.demo_services.specs.DemoRule.{demo_rule}
 use Rattle.std.specs.Prelude.{count_by}
 use Rattle.link_io.specs.Resources.{lengths_of}
@@ -7,7 +7,6 @@ use Rattle.link_io.specs.Stored.{Stored}
 use Rattle.link_script.specs.declared.report.Report.{Report}
 use Rattle.link_script.specs.declared.report.ReportLine.{ReportLine}
 use Rattle.link_script.specs.declared.command.Command.{Command}
-use Rattle.rpc_ids.specs.declared.method.Role.TheVariants.{Server, Client}
 use Rattle.rpc_journal.specs.declared.entry.Entry.{Entry}
 use Rattle.rpc_journal.specs.declared.entry.EntryKind.TheVariants.{EndIn}
 use Rattle.rpc_journal.specs.History.{adding, history}
@@ -17,11 +16,9 @@ use Rattle.rpc_schedule.specs.Schedule.{Settles, input_seat}
 use Rattle.rpc_schedule.specs.Serving.{deeds}
 use Rattle.world_turns.specs.declared.limits.TheConstants.{TURN_OF_TIME}
 use Rattle.world_turns.specs.Client.{ClientSettles}
-use Rattle.world_turns.specs.Limits.{ClientStops, EndStops, ServerStops}
-use Rattle.world_turns.specs.Reports.{carries_chunk, report_of}
+use Rattle.world_turns.specs.Reports.{carries_chunk}
 use Rattle.world_turns.specs.Setup.{client_setting}
-use Rattle.world_turns.specs.Turns.{Ends, ending, next_kind}
-use Rattle.world_turns.specs.World.{Setup, World, client_store, moment, server_store, with_client, with_server}
+use Rattle.world_turns.specs.World.{Setup, World, client_store, server_store, with_client, with_server}
 use Rattle.world_client.specs.ClientSide.{ClientMoves, ClientState}
 use Rattle.world_ends.specs.ServerSide.{ServerMoves, ServerState}
 use Rattle.world_ends.specs.Wiring.{Wiring}

@@ -1,32 +1,23 @@
 -- A run, turn by turn.
-use Rattle.std.proofs.Common.{◌≡◌, ℕ, zero, suc, ◌+◌, ◌-◌, ◌*◌, ◌<◌, ◌≤◌, false, true, List, [], ◌∷◌, length, drop, slice_get, Option, Some, None, refl, ap, sym, ◌∙◌, subst, arith, length-drop}
-use Rattle.std.specs.Prelude.{IfSome, IsErr, IsErrAnd, option_and_then}
-use Rattle.std.proofs.Common.{Result, Ok, Err}
-use Rattle.world_ends.specs.declared.stopped.Stopped.{Stopped}
-use Rattle.world_ends.specs.declared.stopped.Stopped.TheVariants as stopped
-use Rattle.link_world.specs.declared.outcome.WorldRefused.{WorldRefused}
-use Rattle.link_world.specs.declared.outcome.WorldRefused.TheVariants as refused
-use Rattle.link_world.specs.Refused.{refused_by}
+use Rattle.std.proofs.Common.{◌≡◌, ℕ, zero, suc, ◌-◌, ◌<◌, ◌≤◌, List, [], ◌∷◌, length, slice_get, Option, Some, None, refl, ap, sym, ◌∙◌, subst, arith, length-drop}
+use Rattle.std.specs.Prelude.{IfSome, option_and_then}
 use Rattle.std.specs.List.{AllByRecursion}
 use Rattle.link_script.specs.declared.command.Command.{Command}
 use Rattle.link_script.specs.Script.{IsCommand}
-use Rattle.rpc_journal.specs.declared.entry.Entry.{Entry}
-use Rattle.rpc_journal.specs.declared.entry.TheConstants.{MAX_ENTRIES}
 use Rattle.rpc_journal.specs.Calls.{call_count, end_of}
 use Rattle.rpc_journal.specs.History.{history}
-use Rattle.rpc_journal.specs.Refusals.{is_full}
 use Rattle.rpc_journal.proofs.PlaceLemmas.{some_same}
 use Rattle.rpc_schedule.specs.Serving.{deeds}
 use Rattle.rpc_schedule.proofs.ServingLemmas.{below_full}
 use Rattle.world_turns.specs.declared.limits.TheConstants.{MAX_DELIVERIES}
-use Rattle.world_turns.specs.Limits.{IsPastFrames, IsPastJournal, StopsIn}
+use Rattle.world_turns.specs.Limits.{IsPastFrames}
 use Rattle.world_turns.specs.Turns.{Kind, Turns, ending, next_kind, timing}
 use Rattle.world_turns.specs.Turns as world
-use Rattle.world_turns.specs.World.{Plain, Setup, Under as UnderWay, World, calling, first_world}
+use Rattle.world_turns.specs.World.{Plain, Setup, World, calling, first_world}
 use Rattle.world_client.specs.declared.under.Under.{Under}
 use Rattle.world_client.specs.declared.under.Under.TheVariants.{Calling, Closing, Lacking, Transferring}
 use Rattle.world_client.specs.ClientSide.{Attends, ClientState}
-use Rattle.world_client.specs.Underway.{call_seen, call_under, under_seen}
+use Rattle.world_client.specs.Underway.{call_under, under_seen}
 use Rattle.world_ends.specs.ServerSide.{ServerState}
 use Rattle.world_ends.specs.Wiring.{Wiring}
 use Rattle.link_world.specs.declared.course.Course.{Course}
@@ -34,7 +25,7 @@ use Rattle.link_world.specs.declared.turn.Turn.{Turn}
 use Rattle.link_world.specs.declared.turn.Turn.TheVariants.{ToServer, ToClient, Start, Cancel, Time}
 use Rattle.link_world.specs.Making.{TakesTurn}
 use Rattle.link_world.specs.Running.{ComesTo, EndsWith, MakesTurn}
-use Rattle.link_world.specs.Showing.{CanTurn, ClientShows, CourseShows, IsCalling, IsNext, IsOpen, ServerShows, Shows, wiring_of}
+use Rattle.link_world.specs.Showing.{CanTurn, IsCalling, IsNext, IsOpen, Shows, wiring_of}
 use Rattle.link_world.proofs.LineLemmas.{client_deeds_are}
 use Rattle.link_world.proofs.SizeLemmas.{IsLess, size_of, smaller, under_size, world_size}
 

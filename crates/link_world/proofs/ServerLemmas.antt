@@ -1,5 +1,5 @@
 -- What comes to the server, and goes out of it, in the world.
-use Rattle.std.proofs.Common.{◌≡◌, ℕ, ◌+◌, List, [], ◌∷◌, ◌++◌, Option, Some, None, if◌then◌else◌, length, ◌⊎◌, inl, inr, true, refl, ap, sym, ◌∙◌, subst}
+use Rattle.std.proofs.Common.{◌≡◌, ℕ, ◌+◌, List, ◌++◌, Option, Some, None, if◌then◌else◌, length, refl, ap, sym, ◌∙◌, subst}
 use Rattle.demo_services.specs.DemoRule.{demo_rule}
 use Rattle.link_script.specs.declared.command.Command.{Command}
 use Rattle.link_script.specs.declared.command.Command.TheVariants.{Close}
@@ -9,23 +9,19 @@ use Rattle.rpc_journal.specs.declared.setting.Setting.{Setting}
 use Rattle.rpc_journal.specs.History.{history}
 use Rattle.rpc_journal.specs.Items.{items_flushed}
 use Rattle.rpc_handlers.specs.HandlerRule.{HandlerRule}
-use Rattle.rpc_schedule.specs.Kept.{kept}
 use Rattle.rpc_schedule.specs.Serving.{deeds}
 use Rattle.rpc_schedule.specs.ends.EndState.{WasFed}
 use Rattle.world_turns.specs.Lines.{finished}
-use Rattle.world_turns.specs.Limits.{ServerStops, ServerTakingStops, StopsIn}
 use Rattle.world_turns.specs.Starts.{ended_by_close, starts}
 use Rattle.world_turns.specs.Turns.{ServerTakes, closed_by, starting, to_server, with_command, with_frame_at_server}
 use Rattle.world_turns.specs.World.{Setup, World, closing, server_deeds, with_server}
 use Rattle.world_client.specs.declared.under.Under.TheVariants.{Closing}
 use Rattle.rpc_channel.specs.Rising.{has_id}
 use Rattle.rpc_journal.specs.Entries.{close_effect}
-use Rattle.rpc_journal.specs.Refusals.{is_full}
 use Rattle.rpc_journal.specs.Rows.{channels_in}
 use Rattle.world_ends.specs.ServerSide.{ServerHears, ServerMoves, ServerRests, ServerState, ended_at_close}
-use Rattle.world_ends.specs.ServerSide as ends
 use Rattle.rpc_schedule.specs.Schedule.{Settles}
-use Rattle.world_ends.specs.Wiring.{Wiring, with_all_sent}
+use Rattle.world_ends.specs.Wiring.{Wiring}
 use Rattle.rpc_journal.specs.Items.{packets_of}
 use Rattle.link_world.specs.declared.course.Course.{Course}
 use Rattle.link_world.specs.Making.{ServerTurns, with_coming, with_rest_up}

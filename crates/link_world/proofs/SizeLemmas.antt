@@ -1,5 +1,5 @@
 -- Each turn leaves less to do.
-use Rattle.std.proofs.Common.{◌≡◌, ℕ, ◌+◌, ◌-◌, ◌*◌, ◌<◌, ◌≤◌, Bool, true, false, List, [], ◌∷◌, ◌++◌, length, reverse, Option, Some, None, if◌then◌else◌, refl, ap, sym, ◌∙◌, subst, arith, length-append}
+use Rattle.std.proofs.Common.{◌≡◌, ℕ, ◌+◌, ◌-◌, ◌*◌, ◌<◌, ◌≤◌, Bool, true, false, List, [], ◌∷◌, length, reverse, Option, Some, None, if◌then◌else◌, refl, ap, sym, ◌∙◌, subst, arith, length-append}
 use Rattle.std.proofs.Common.{not, eq-eqb, slice_get}
 use Rattle.std.specs.Prelude.{option_map}
 use Rattle.std.proofs.lemmas.Bool.{false≢true}
@@ -21,7 +21,6 @@ use Rattle.rpc_journal.specs.Effect.{Deed, Opening}
 use Rattle.rpc_journal.specs.Entries.{cancel_effect}
 use Rattle.rpc_journal.specs.History.{adding, deed_by, deeds_of, entry_by, history}
 use Rattle.rpc_journal.specs.Kinds.{is_empty}
-use Rattle.rpc_journal.specs.Refusals.{is_full}
 use Rattle.rpc_journal.proofs.EndedLemmas.{some_in}
 use Rattle.rpc_journal.proofs.PacketLemmas.{has_end-more, has_end-older}
 use Rattle.rpc_journal.proofs.PlaceLemmas.{get_some}
@@ -30,10 +29,10 @@ use Rattle.rpc_schedule.specs.Schedule.{flush_seat, run_seat}
 use Rattle.world_turns.specs.declared.limits.TheConstants.{MAX_DELIVERIES}
 use Rattle.world_turns.specs.Client.{ClientSettles}
 use Rattle.world_turns.specs.Lines.{command_ended, finished, is_still, line_of, plain_line, with_line, with_released}
-use Rattle.world_turns.specs.Turns.{Asks, Cancels, ClientHears, Closes, Kind, ServerHears, Starts, TimePasses, Turn, TurnOf, cancelling, closed_by, ended_under, ending, kind_by, later, next_kind, starting, task_of, timing, to_client, to_server, under_with, with_command, with_frame_at_client, with_frame_at_server, with_task}
+use Rattle.world_turns.specs.Turns.{Asks, Cancels, ClientHears, Closes, Kind, ServerHears, Starts, TimePasses, Turn, TurnOf, cancelling, closed_by, ended_under, ending, kind_by, later, next_kind, starting, timing, to_client, to_server, under_with, with_command, with_frame_at_client, with_frame_at_server, with_task}
 use Rattle.world_turns.specs.Starts.{starts}
 use Rattle.world_turns.specs.World.{Plain, Setup, Tasked, Under, World, calling, client_deeds, closing, lacking, moment, transferring, with_client, with_server}
-use Rattle.world_laws.proofs.Growing.{begins, client_settles_goes, opened_goes, server_takes_goes, settles_goes}
+use Rattle.world_laws.proofs.Growing.{begins, client_settles_goes, server_takes_goes, settles_goes}
 use Rattle.world_laws.proofs.Keeping.{finish_keeps}
 use Rattle.world_laws.proofs.Parts.{client_keeps, finished_server, server_keeps}
 

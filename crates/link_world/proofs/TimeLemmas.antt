@@ -1,25 +1,20 @@
 -- Time passes in the world, and both inputs end.
-use Rattle.std.proofs.Common.{◌≡◌, ℕ, ◌+◌, ◌*◌, List, ◌++◌, Option, Some, None, refl, ap, sym, ◌∙◌, subst, inl, inr}
+use Rattle.std.proofs.Common.{◌≡◌, ℕ, ◌+◌, ◌*◌, List, Option, ap, sym, ◌∙◌, subst}
 use Rattle.demo_services.specs.DemoRule.{demo_rule}
 use Rattle.link_script.specs.declared.command.Command.{Command}
 use Rattle.rpc_ids.specs.declared.method.Role.TheVariants.{Server, Client}
 use Rattle.rpc_journal.specs.declared.entry.Entry.{Entry}
-use Rattle.rpc_journal.specs.declared.entry.EntryKind.TheVariants.{Tick, EndIn}
+use Rattle.rpc_journal.specs.declared.entry.EntryKind.TheVariants.{Tick}
 use Rattle.rpc_journal.specs.History.{adding}
-use Rattle.rpc_schedule.specs.Schedule.{Settles, flush_seat, input_seat}
-use Rattle.rpc_schedule.specs.Serving.{deeds}
+use Rattle.rpc_schedule.specs.Schedule.{Settles, flush_seat}
 use Rattle.rpc_schedule.specs.ends.EndState.{WasFed}
-use Rattle.rpc_journal.specs.Items.{items_flushed}
 use Rattle.world_turns.specs.declared.limits.TheConstants.{TURN_OF_TIME}
 use Rattle.world_turns.specs.Client.{ClientSettles}
-use Rattle.world_turns.specs.Limits.{ClientStops, ServerStopsWith, StopsIn}
 use Rattle.world_turns.specs.Lines.{finished}
-use Rattle.world_turns.specs.Setup.{client_setting}
-use Rattle.world_turns.specs.Turns.{later, task_of, timing, with_task}
-use Rattle.world_turns.specs.World.{Setup, World, moment, with_client, with_server}
+use Rattle.world_turns.specs.Turns.{later, timing, with_task}
+use Rattle.world_turns.specs.World.{Setup, World, moment, with_server}
 use Rattle.world_client.specs.declared.under.Under.{Under}
 use Rattle.world_client.specs.ClientSide.{ClientMoves, ClientRests, ClientState, ClientWorks}
-use Rattle.world_client.specs.Underway.{task_seen}
 use Rattle.world_ends.specs.ServerSide.{ServerMoves, ServerRests, ServerState}
 use Rattle.world_ends.specs.Wiring.{Wiring}
 use Rattle.link_world.specs.declared.course.Course.{Course}

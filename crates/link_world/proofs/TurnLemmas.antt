@@ -1,13 +1,11 @@
 -- Which turn comes next, by the link and the course.
-use Rattle.std.proofs.Common.{◌≡◌, ℕ, zero, suc, ◌+◌, List, [], ◌∷◌, ◌++◌, length, drop, slice_get, Option, Some, None, refl, ap, sym, ◌∙◌, arith}
+use Rattle.std.proofs.Common.{◌≡◌, ℕ, zero, suc, ◌+◌, List, [], ◌∷◌, drop, slice_get, Option, Some, None, refl, ap, sym, ◌∙◌, arith}
 use Rattle.std.specs.Prelude.{IfNone}
 use Rattle.link_script.specs.declared.command.Command.{Command}
 use Rattle.rpc_journal.proofs.PlaceLemmas.{some_same}
-use Rattle.world_turns.specs.Turns.{Kind, cancelling, ending, kind_at_rest, kind_by, kind_under, next_kind, starting, timing, to_client, to_server}
-use Rattle.world_turns.specs.World.{Setup, Under as UnderWay, World, calling, closing, lacking, transferring}
-use Rattle.world_client.specs.declared.under.Under.{Under}
-use Rattle.world_client.specs.declared.under.Under.TheVariants.{Calling, Closing, Lacking, Transferring}
-use Rattle.world_client.specs.Underway.{under_of, under_seen}
+use Rattle.world_turns.specs.Turns.{ending, kind_at_rest, kind_by, kind_under, next_kind, starting, to_client, to_server}
+use Rattle.world_turns.specs.World.{Setup, Under as UnderWay, World}
+use Rattle.world_client.specs.Underway.{under_seen}
 use Rattle.world_ends.specs.Wiring.{Wiring}
 use Rattle.link_world.specs.declared.course.Course.{Course}
 use Rattle.link_world.specs.Making.{with_rest_down, with_rest_up}

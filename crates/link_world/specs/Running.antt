@@ -1,5 +1,5 @@
 -- A run, as far as it has come.
-use Rattle.std.specs.Prelude.{◌≡◌, ℕ, ◌<◌, ◌≤◌, false, true, List, [], length}
+use Rattle.std.specs.Prelude.{◌≡◌, ℕ, ◌≤◌, false, List, length}
 use Rattle.demo_services.specs.DemoRule.{demo_rule}
 use Rattle.link_script.specs.declared.command.Command.{Command}
 use Rattle.rpc_journal.specs.Refusals.{is_full}

@@ -1,5 +1,5 @@
 -- What the parts of a run show of a world.
-use Rattle.std.specs.Prelude.{◌≡◌, ℕ, ◌+◌, ◌*◌, ◌<◌, ◌≤◌, ◌^◌, List, drop, length, slice_get, Option, Some, None}
+use Rattle.std.specs.Prelude.{◌≡◌, ℕ, ◌+◌, ◌*◌, ◌<◌, ◌≤◌, ◌^◌, List, drop, slice_get, Option, Some, None}
 use Rattle.demo_services.specs.DemoRule.{demo_rule}
 use Rattle.link_script.specs.declared.command.Command.{Command}
 use Rattle.link_script.specs.Script.{IsCommand}
@@ -16,14 +16,14 @@ use Rattle.world_turns.specs.declared.limits.TheConstants.{TURN_OF_TIME}
 use Rattle.world_turns.specs.Setup.{client_setting}
 use Rattle.world_turns.specs.World.{Setup, World}
 use Rattle.world_client.specs.declared.under.Under.{Under}
-use Rattle.world_client.specs.declared.under.Under.TheVariants.{Transferring, Lacking, Calling, Closing}
+use Rattle.world_client.specs.declared.under.Under.TheVariants.{Calling}
 use Rattle.world_client.specs.ClientSide.{Attends, ClientRests, ClientState}
 use Rattle.world_client.specs.Underway.{under_seen}
 use Rattle.world_ends.specs.ServerSide.{ServerRests, ServerState}
 use Rattle.world_ends.specs.Wiring.{Wiring}
 use Rattle.link_world.specs.declared.course.Course.{Course}
 use Rattle.link_world.specs.declared.turn.Turn.{Turn}
-use Rattle.link_world.specs.declared.turn.Turn.TheVariants.{ToServer, ToClient, Start, Cancel, Time}
+use Rattle.link_world.specs.declared.turn.Turn.TheVariants.{Start, Cancel}
 
 -- both directions of a world's link, and its numbers
 abbrev pub wiring_of : Setup → World → Wiring

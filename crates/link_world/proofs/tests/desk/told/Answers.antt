@@ -6,4 +6,4 @@ use Rattle.link_world.proofs.tests.desk.told.Goals as goal
 
 pub new-requires : goal.new-requires
 new-requires c =
-    bounded _ c.in-Ok.script (subst (λ read. IfOk read (IsScriptText _)) c.in-Ok.is c.in_ok-read_script.ensures.script)
+    bounded c.as_bytes.result.now c.in-Ok.script (subst (λ read. IfOk read (IsScriptText c.as_bytes.result.now)) c.in-Ok.is c.in_ok-script.ensures.script)
