@@ -5,6 +5,7 @@ mod FullLemmas
 mod GoodCalls
 mod LinkCounts
 mod LinkLemmas
+mod LinkRuns
 mod LoadSizes
 mod ServeLemmas
 mod ServedLemmas

@@ -3,7 +3,7 @@ use Rattle.std.proofs.Common.{◌≡◌, ℕ, ◌+◌, ◌*◌, List, ◌∷◌,
 use Rattle.pw_run.specs.declared.command.Command.{Command}
 use Rattle.pw_run.specs.declared.command.Command.TheVariants.{Replay, Text, Load}
 use Rattle.pw_run.specs.declared.command.Form.TheVariants.{Report, Raw, Journal}
-use Rattle.pw_run.specs.declared.text_command.TextCommand.TheVariants.{Check, Detoken, Route}
+use Rattle.pw_run.specs.declared.text_command.TextCommand.TheVariants.{Check, Detoken, Link, Route}
 use Rattle.pw_run.specs.declared.live_command.LiveCommand.{LiveCommand}
 use Rattle.pw_run.specs.declared.live_command.LiveCommand.TheVariants.{Crew, Serve, Bridge}
 use Rattle.pw_run.specs.Command.{IsCommand}
@@ -18,6 +18,7 @@ recorded : Command → ℕ
 recorded (Replay form) = 29285
 recorded (Text Check) = 25448
 recorded (Text Detoken) = 25701
+recorded (Text Link) = 27753
 recorded (Text Route) = 29295
 recorded (Load calls seed) = 27759
 
@@ -33,6 +34,7 @@ recorded_is words (Replay Raw) is = ap letters is
 recorded_is words (Replay Journal) is = ap letters is
 recorded_is words (Text Check) is = ap letters is
 recorded_is words (Text Detoken) is = ap letters is
+recorded_is words (Text Link) is = ap letters is
 recorded_is words (Text Route) is = ap letters is
 recorded_is words (Load calls seed) is = ap letters is.0
 
@@ -53,6 +55,9 @@ differ (Text Check) (Bridge at_right at_left) same = omega (arith, same)
 differ (Text Detoken) (Crew workers) same = omega (arith, same)
 differ (Text Detoken) (Serve workers connections) same = omega (arith, same)
 differ (Text Detoken) (Bridge at_right at_left) same = omega (arith, same)
+differ (Text Link) (Crew workers) same = omega (arith, same)
+differ (Text Link) (Serve workers connections) same = omega (arith, same)
+differ (Text Link) (Bridge at_right at_left) same = omega (arith, same)
 differ (Text Route) (Crew workers) same = omega (arith, same)
 differ (Text Route) (Serve workers connections) same = omega (arith, same)
 differ (Text Route) (Bridge at_right at_left) same = omega (arith, same)

@@ -1,5 +1,5 @@
 -- What is written of a text, by outcome.
-use Rattle.std.proofs.Common.{◌≡◌, ℕ, ◌≤◌, Bool, List, [], length, Option, IfSome, refl, subst, inl, inr, arith}
+use Rattle.std.proofs.Common.{◌≡◌, ℕ, ◌≤◌, List, [], length, Option, IfSome, refl, subst, inl, inr, arith}
 use Rattle.std.specs.Io.KnownBytes.{Consumes}
 use Rattle.link_io.specs.Reading.{ConsumesUpTo}
 use Rattle.link_io.specs.declared.shelf.Shelf.{Shelf}
@@ -16,6 +16,7 @@ use Rattle.pw_run.specs.declared.outcome.Outcome.TheVariants.{NoMemory, InputLim
 use Rattle.pw_run.specs.Load.{DidLoad, ServesLoad, WritesLoad}
 use Rattle.pw_run.specs.Replay.{DidReplay, ServesDemo, ServesShelf, WritesRun, no_counts, no_table}
 use Rattle.pw_run.specs.declared.text_command.TextCommand.{TextCommand}
+use Rattle.pw_run.specs.declared.told.Found.{Found}
 use Rattle.pw_run.specs.Tells.{DidText, Tells, WritesTold}
 use Rattle.pw_run.specs.Texts.{WritesLimit, limit_line, limit_of, outcome_on}
 use Rattle.pw_run.specs.Writes.{Writes}
@@ -26,10 +27,10 @@ limit_told limit old new NoMemory writes = tt
 limit_told limit old new _ writes = writes
 
 -- what was written of a text that was read, where what is told of it is so
-pub all_told : (command : TextCommand) (text told : List ℕ) (good : Bool) (old new : Option (List ℕ)) (outcome : Outcome) → Tells command text told good
-    → Writes old new told (outcome_on good) outcome → WritesTold command text old new outcome
-all_told command text told good old new NoMemory tells writes = tt
-all_told command text told good old new _ tells writes = record { told = told; good = good; tells = tells; writes = writes }
+pub all_told : (command : TextCommand) (text told : List ℕ) (found : Found) (old new : Option (List ℕ)) (outcome : Outcome) → Tells command text told found
+    → Writes old new told (outcome_on found) outcome → WritesTold command text old new outcome
+all_told command text told found old new NoMemory tells writes = tt
+all_told command text told found old new _ tells writes = record { told = told; found = found; tells = tells; writes = writes }
 
 -- what a run did whose text met the limit
 pub limit_did : (command : TextCommand) (left_old left_new old new : Option (List ℕ)) (outcome : Outcome) (text : List ℕ) → Consumes left_old left_new text

@@ -5,7 +5,7 @@ use Rattle.pw_run.specs.declared.command.Command.{Command}
 use Rattle.pw_run.specs.declared.command.Command.TheVariants.{Replay, Text, Load}
 use Rattle.pw_run.specs.declared.command.Form.TheVariants.{Report, Raw, Journal}
 use Rattle.pw_run.specs.declared.command.TheConstants.{MAX_LOAD}
-use Rattle.pw_run.specs.declared.text_command.TextCommand.TheVariants.{Check, Detoken, Route}
+use Rattle.pw_run.specs.declared.text_command.TextCommand.TheVariants.{Check, Detoken, Link, Route}
 
 -- the words name this command. Numbers are decimal, with no sign and no leading zero
 abbrev pub IsCommand : List (List ℕ) → Command → Type 0
@@ -14,6 +14,7 @@ IsCommand words (Replay Raw) = words ≡ codes "replay" ∷ codes "raw" ∷ []
 IsCommand words (Replay Journal) = words ≡ codes "replay" ∷ codes "journal" ∷ []
 IsCommand words (Text Check) = words ≡ codes "check" ∷ []
 IsCommand words (Text Detoken) = words ≡ codes "detoken" ∷ []
+IsCommand words (Text Link) = words ≡ codes "link" ∷ []
 IsCommand words (Text Route) = words ≡ codes "route" ∷ []
 IsCommand words (Load calls seed) =
     (words ≡ codes "load" ∷ decimal calls ∷ decimal seed ∷ []) × (calls ≤ MAX_LOAD) × (seed < 2 ^ 64)

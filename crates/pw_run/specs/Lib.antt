@@ -5,6 +5,7 @@ pub mod Crew
 pub mod Demo
 pub mod Detoken
 pub mod Devices
+pub mod Link
 pub mod LinkServed
 pub mod Live
 pub mod LiveCommand

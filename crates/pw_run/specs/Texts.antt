@@ -1,13 +1,15 @@
 -- Texts that a command reads, whatever it tells of them.
-use Rattle.std.specs.Prelude.{◌≡◌, ℕ, ◌-◌, ◌<◌, ◌≤◌, Bool, if◌then◌else◌, List, [], ◌∷◌, length, codes, Option}
+use Rattle.std.specs.Prelude.{◌≡◌, ℕ, ◌-◌, ◌<◌, ◌≤◌, Bool, true, false, if◌then◌else◌, List, [], ◌∷◌, length, codes, Option}
 use Rattle.std.specs.Fmt.{decimal}
 use Rattle.std.specs.Io.KnownBytes.{Consumes, Keeps}
 use Rattle.rpc_schedule.specs.declared.stream.TheConstants.{INPUT_LIMIT}
 use Rattle.run_report.specs.Lines.{line}
 use Rattle.pw_run.specs.declared.outcome.Outcome.{Outcome}
-use Rattle.pw_run.specs.declared.outcome.Outcome.TheVariants.{Done, NoMemory, SourceFault, BadLine, InputLimit}
+use Rattle.pw_run.specs.declared.outcome.Outcome.TheVariants.{Done, NoMemory, SourceFault, BadLine, InputLimit, JournalLimit, FrameLimit}
 use Rattle.pw_run.specs.declared.text_command.TextCommand.{TextCommand}
-use Rattle.pw_run.specs.declared.text_command.TextCommand.TheVariants.{Check, Detoken, Route}
+use Rattle.pw_run.specs.declared.text_command.TextCommand.TheVariants.{Check, Detoken, Link, Route}
+use Rattle.pw_run.specs.declared.told.Found.{Found}
+use Rattle.pw_run.specs.declared.told.Found.TheVariants as found
 use Rattle.pw_run.specs.declared.text_command.TheConstants.{TEXT_LIMIT}
 use Rattle.pw_run.specs.Writes.{Writes}
 
@@ -15,11 +17,25 @@ use Rattle.pw_run.specs.Writes.{Writes}
 abbrev pub limit_of : TextCommand → ℕ
 limit_of Check = INPUT_LIMIT
 limit_of Detoken = TEXT_LIMIT
+limit_of Link = TEXT_LIMIT
 limit_of Route = TEXT_LIMIT
 
--- the outcome of a run that has told of a text whose lines were good or not
-abbrev pub outcome_on : Bool → Outcome
-outcome_on good = if good then Done else BadLine
+-- the outcome of a run that has told of a text that was found to be this
+abbrev pub outcome_on : Found → Outcome
+outcome_on found.Good = Done
+outcome_on found.BadLine = BadLine
+outcome_on found.PastFrames = FrameLimit
+outcome_on found.PastJournal = JournalLimit
+
+-- what a text of good lines is found to be, or one with a bad line
+abbrev pub found_by : Bool → Found
+found_by good = if good then found.Good else found.BadLine
+
+-- what is told of a text with good lines, or with a bad one; it is found to be no other
+abbrev pub TellsText : (Bool → Type 0) → Found → Type 0
+TellsText TellsOf found.Good = TellsOf true
+TellsText TellsOf found.BadLine = TellsOf false
+TellsText TellsOf _ = ⊥
 
 -- the number of the first bad line of a text, behind a word for it
 abbrev pub bad_line : List ℕ → ℕ → List ℕ

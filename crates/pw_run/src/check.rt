@@ -4,22 +4,23 @@ ghost use Rattle.text_fields.specs.Lines.{ended};
 ghost use Rattle.journal_text.specs.Verdicts.{IsVerdict, verdict_text};
 ghost use Rattle.pw_run.specs.Check.{TellsVerdict, is_journal};
 ghost use Rattle.pw_run.specs.Demo.{demo_setting, no_shelf};
+ghost use Rattle.pw_run.specs.Texts.{TellsText};
 
 use crate::demo;
-use crate::told::Told;
+use crate::told::{Told, found_by};
 use demo_services::demo_registry;
 use journal_text::{Verdict, judge_text};
 use std::alloc::{AllocError, Global};
 
 /// The verdict on a text as the journal of the server of the demo service, in one line.
 pub(crate) fn check(alloc: Global, text: &[u8]) -> Result<Told, AllocError>
-    ensures { IfOk result (λ told. TellsVerdict text.now told.text.items told.is_good) }
+    ensures { IfOk result (λ told. TellsText (TellsVerdict text.now told.text.items) told.found) }
 {
     let verdict = verdict_on(alloc, text)?;
     let line = verdict_line(alloc, &verdict)?;
     Ok(Told {
         text: line.into_bytes(),
-        is_good: is_journal(&verdict),
+        found: found_by(is_journal(&verdict)),
     })
 }
 

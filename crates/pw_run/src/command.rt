@@ -53,6 +53,7 @@ fn of_one(word: &str) -> Option<Command>
         "replay" => Some(Command::Replay(Form::Report)),
         "check" => Some(Command::Text(TextCommand::Check)),
         "detoken" => Some(Command::Text(TextCommand::Detoken)),
+        "link" => Some(Command::Text(TextCommand::Link)),
         "route" => Some(Command::Text(TextCommand::Route)),
         _ => None,
     }

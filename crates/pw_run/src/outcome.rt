@@ -26,6 +26,8 @@ pub enum Outcome {
     InputLimit,
     /// The journal was full.
     JournalLimit,
+    /// So many frames were delivered as a run of a script may have.
+    FrameLimit,
 }
 
 impl Outcome {
@@ -44,7 +46,7 @@ impl Outcome {
             Outcome::StoreFault => 5,
             Outcome::LinkFault => 6,
             Outcome::BadLine => 7,
-            Outcome::InputLimit | Outcome::JournalLimit => 8,
+            Outcome::InputLimit | Outcome::JournalLimit | Outcome::FrameLimit => 8,
         }
     }
 

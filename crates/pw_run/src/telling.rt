@@ -10,6 +10,7 @@ ghost use Rattle.pw_run.specs.Tells.{DidText, Tells, WritesTold};
 
 use crate::check::check;
 use crate::detoken::detoken;
+use crate::link::link;
 use crate::route::route;
 use crate::told::{Told, outcome_on};
 use crate::writing::write_text;
@@ -88,16 +89,17 @@ fn write_told<O: Sink>(alloc: Global, command: TextCommand, text: &[u8], output:
 {
     match told_of(alloc, command, text) {
         Err(_) => Outcome::NoMemory,
-        Ok(told) => write_text(output, &told.text, outcome_on(told.is_good)),
+        Ok(told) => write_text(output, &told.text, outcome_on(told.found)),
     }
 }
 
 fn told_of(alloc: Global, command: TextCommand, text: &[u8]) -> Result<Told, AllocError>
-    ensures { IfOk result (λ told. Tells command text.now told.text.items told.is_good) }
+    ensures { IfOk result (λ told. Tells command text.now told.text.items told.found) }
 {
     match command {
         TextCommand::Check => check(alloc, text),
         TextCommand::Detoken => detoken(alloc, text),
+        TextCommand::Link => link(alloc, text),
         TextCommand::Route => route(alloc, text),
     }
 }

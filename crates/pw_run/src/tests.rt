@@ -15,6 +15,7 @@ mod log_service;
 mod methods;
 mod other_words;
 mod routes;
+mod scripts;
 mod serve_clock;
 mod serve_links;
 mod stores;

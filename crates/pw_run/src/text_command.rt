@@ -15,6 +15,8 @@ pub enum TextCommand {
     Check,
     /// Log messages are printed by their formats.
     Detoken,
+    /// A script is run, over a link that loses.
+    Link,
     /// Frames are routed between two sides.
     Route,
 }
@@ -27,7 +29,7 @@ impl TextCommand {
     {
         match self {
             TextCommand::Check => INPUT_LIMIT,
-            TextCommand::Detoken | TextCommand::Route => TEXT_LIMIT,
+            TextCommand::Detoken | TextCommand::Link | TextCommand::Route => TEXT_LIMIT,
         }
     }
 }

@@ -85,6 +85,8 @@ fn a_text_of_lines_ends_at_its_limit(rt: HostRuntime) -> Result<(), AllocError> 
         ("route", 1_048_575, 7, "route line 1\n"),
         ("route", 1_048_576, 8, "limit input 1048576\n"),
         ("route", 1_048_577, 8, "limit input 1048576\n"),
+        ("link", 1_048_575, 7, "script line 1\n"),
+        ("link", 1_048_576, 8, "limit input 1048576\n"),
     ];
     for (line, left, status, written) in rows {
         let mut input = Idle { left };

@@ -30,6 +30,8 @@ fn other_words_are_refused(rt: HostRuntime) -> Result<(), AllocError> {
         "Detoken",
         "route|route",
         "Route",
+        "link|link",
+        "Link",
         "load",
         "load|1",
         "load|1|1|1",

@@ -9,6 +9,6 @@ returns-in-Ok-clause-writes g c =
     let old = g.O.Sink.written c.args.output.now in
     let new = g.O.Sink.written c.write_text.new.output in
     let told = c.in-Ok.told in
-    all_told c.args.command c.args.text.now told.text.items told.is_good old new c.write_text.result c.in-Ok.ensures
+    all_told c.args.command c.args.text.now told.text.items told.found old new c.write_text.result c.in-Ok.ensures
     (subst (λ (own : Outcome). Writes old new told.text.items own c.write_text.result) c.outcome_on.ensures.value
     (subst (λ (text : List ℕ). Writes old new text c.outcome_on.result c.write_text.result) c.deref.ensures.value c.write_text.ensures.writes))

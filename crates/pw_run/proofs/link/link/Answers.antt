@@ -1,0 +1,9 @@
+use Rattle.std.proofs.Common.{subst}
+use Rattle.std.specs.Prelude.{IfOk}
+use Rattle.script_text.specs.Reading.{IsScriptText}
+use Rattle.link_world.proofs.BoundsLemmas.{bounded}
+use Rattle.pw_run.proofs.link.link.Goals as goal
+
+pub run-requires : goal.run-requires
+run-requires c =
+    bounded c.args.text.now c.in-Ok.script (subst (λ read. IfOk read (IsScriptText c.args.text.now)) c.in-Ok.is c.in_ok-script.ensures.script)

@@ -1,0 +1,50 @@
+-- What `link` tells of a text.
+use Rattle.std.specs.Prelude.{◌≡◌, ℕ, List, [], ◌∷◌, codes}
+use Rattle.std.specs.Fmt.{decimal}
+use Rattle.link_script.specs.declared.script.Script.{Script}
+use Rattle.rpc_journal.specs.declared.entry.TheConstants.{MAX_ENTRIES}
+use Rattle.run_report.specs.Lines.{line}
+use Rattle.script_text.specs.Reading.{IsFirstBadLine, IsScriptText}
+use Rattle.script_text.specs.Report.{bad_line_text, report_text}
+use Rattle.text_fields.specs.Lines.{ended}
+use Rattle.world_turns.specs.declared.limits.TheConstants.{MAX_DELIVERIES}
+use Rattle.world_turns.specs.Limits.{IsPastFrames}
+use Rattle.world_turns.specs.Reports.{report_of}
+use Rattle.world_turns.specs.Setup.{setup_of}
+use Rattle.world_turns.specs.Turns.{Turned}
+use Rattle.world_turns.specs.World.{World}
+use Rattle.pw_run.specs.declared.told.Found.{Found}
+use Rattle.pw_run.specs.declared.told.Found.TheVariants.{Good, BadLine, PastFrames, PastJournal}
+
+-- a limit of a run was met
+abbrev pub limit_text : List ℕ → ℕ → List ℕ
+limit_text what limit = line (codes "limit" ∷ what ∷ decimal limit ∷ [])
+
+-- the script was run to its end, and this is the report of its run
+pub record TellsReport (script : Script) (told : List ℕ) : Type 0 where
+  pub now : World
+  pub run : Turned (setup_of script) script.commands now
+  pub report : told ≡ report_text (report_of (setup_of script) now)
+
+-- what is told of a script, by how its run ends
+abbrev pub TellsRun : Script → List ℕ → Found → Type 0
+TellsRun script told Good = TellsReport script told
+TellsRun script told BadLine = ⊥
+TellsRun script told PastFrames = IsPastFrames (setup_of script) script.commands × (told ≡ limit_text (codes "frames") MAX_DELIVERIES)
+TellsRun script told PastJournal = told ≡ limit_text (codes "journal") MAX_ENTRIES
+
+-- the text says a script, and this is told of its run
+pub record TellsScript (text told : List ℕ) (found : Found) : Type 0 where
+  pub script : Script
+  pub says : IsScriptText text script
+  pub tells : TellsRun script told found
+
+-- the text says none, and the number of its first bad line is told
+pub record TellsBadScript (text told : List ℕ) : Type 0 where
+  pub number : ℕ
+  pub first : IsFirstBadLine text number
+  pub line : told ≡ ended (bad_line_text number)
+
+abbrev pub TellsLink : List ℕ → List ℕ → Found → Type 0
+TellsLink text told BadLine = TellsBadScript text told
+TellsLink text told found = TellsScript text told found
