@@ -22,7 +22,7 @@ use Rattle.demo_services.specs.DemoRule.{demo_rule}
 use Rattle.pw_run.specs.declared.live_command.LiveCommand.{LiveCommand}
 use Rattle.pw_run.specs.declared.live_command.LiveCommand.TheVariants.{Crew, Serve, Bridge}
 use Rattle.pw_run.specs.declared.outcome.Outcome.{Outcome}
-use Rattle.pw_run.specs.declared.outcome.Outcome.TheVariants.{Done, NoMemory, BadWords, SourceFault, SinkFault, StoreFault, LinkFault, BadLine, InputLimit, JournalLimit}
+use Rattle.pw_run.specs.declared.outcome.Outcome.TheVariants.{Done, NoMemory, BadWords, SourceFault, SinkFault, StoreFault, LinkFault, BadLine, InputLimit, JournalLimit, FrameLimit}
 use Rattle.pw_run.specs.Bridge.{DidBridge, RunsBridge}
 use Rattle.pw_run.specs.Crew.{DidCrew}
 use Rattle.pw_run.specs.Demo.{demo_setting}
@@ -64,6 +64,7 @@ wrote text why old new LinkFault writes = inr writes
 wrote text why old new BadLine writes = inr writes
 wrote text why old new InputLimit writes = inr writes
 wrote text why old new JournalLimit writes = inr writes
+wrote text why old new FrameLimit writes = inr writes
 
 -- fewer bytes than the limit were taken from known ones
 not_taken : (left left_new : Option (List ℕ)) (input bytes : List ℕ) (limit : ℕ) → left ≡ Some input → Consumes left left_new bytes → length bytes ≡ limit → length input < limit → ⊥

@@ -1,5 +1,5 @@
 -- How a run ends where no device fails.
-use Rattle.std.proofs.Common.{◌≡◌, ◌≢◌, ◌⊎◌, ℕ, zero, suc, ◌+◌, ◌<◌, ◌≤◌, Bool, true, false, List, [], ◌∷◌, ◌++◌, length, Option, Some, None, IfSome, refl, ap, sym, ◌∙◌, subst, inl, inr, arith, length-append, append_assoc}
+use Rattle.std.proofs.Common.{◌≡◌, ◌≢◌, ◌⊎◌, ℕ, zero, suc, ◌+◌, ◌<◌, ◌≤◌, List, [], ◌∷◌, ◌++◌, length, Option, Some, None, IfSome, refl, ap, sym, ◌∙◌, subst, inl, inr, arith, length-append, append_assoc}
 use Rattle.std.specs.Io.KnownBytes.{Consumes, IsAtEnd}
 use mathlib.Core.List.{IsPrefix}
 use Rattle.link_io.specs.declared.shelf.Shelf.{Shelf}
@@ -26,8 +26,10 @@ use Rattle.pw_run.specs.declared.command.Command.{Command}
 use Rattle.pw_run.specs.declared.command.Command.TheVariants.{Replay, Text, Load}
 use Rattle.pw_run.specs.declared.command.Form.{Form}
 use Rattle.pw_run.specs.declared.outcome.Outcome.{Outcome}
-use Rattle.pw_run.specs.declared.outcome.Outcome.TheVariants.{Done, NoMemory, BadWords, SourceFault, SinkFault, StoreFault, LinkFault, BadLine, InputLimit, JournalLimit}
+use Rattle.pw_run.specs.declared.outcome.Outcome.TheVariants.{Done, NoMemory, BadWords, SourceFault, SinkFault, StoreFault, LinkFault, BadLine, InputLimit, JournalLimit, FrameLimit}
 use Rattle.pw_run.specs.declared.text_command.TextCommand.{TextCommand}
+use Rattle.pw_run.specs.declared.told.Found.{Found}
+use Rattle.pw_run.specs.declared.told.Found.TheVariants as found
 use Rattle.pw_run.specs.Demo.{demo_setting}
 use Rattle.pw_run.specs.Load.{DidLoad, ServesLoad}
 use Rattle.pw_run.specs.Outcome.{code_of, outcome_for, outcome_of}
@@ -37,7 +39,7 @@ use Rattle.pw_run.specs.Tells.{DidText, ReadsText, Tells}
 use Rattle.pw_run.specs.Texts.{FailsToRead, MeetsLimit, limit_of, outcome_on}
 use Rattle.pw_run.specs.Writes.{Writes}
 use Rattle.run_law.specs.CalmCrews.{setting_over}
-use Rattle.run_law.specs.Statuses.{HadRoom, HasGoodLines, IsBlameless, IsWell, IsWithinLimits, RecordedEndWell, RecordedHadRoom}
+use Rattle.run_law.specs.Statuses.{HadRoom, HasGoodLines, HasShortRun, IsBlameless, IsWell, IsWithinLimits, RecordedEndWell, RecordedHadRoom}
 use Rattle.run_law.proofs.CrewLemmas.{all_taken, shelf_is}
 
 -- ---- bytes that were taken from known ones
@@ -92,6 +94,7 @@ done_of LinkFault is = absurd cc
 done_of BadLine is = absurd cc
 done_of InputLimit is = absurd cc
 done_of JournalLimit is = absurd cc
+done_of FrameLimit is = absurd cc
 
 not_sink : Done ≡ SinkFault → ⊥
 not_sink is = cc
@@ -132,6 +135,7 @@ module _ (form : Form) (input : List ℕ) (st : Stored) (left_new written_old wr
   replayed BadLine did = inr did
   replayed InputLimit did = inr did
   replayed JournalLimit did = inr did
+  replayed FrameLimit did = inr did
 
   module _ (short : length input < INPUT_LIMIT)
       (room : (bytes : List ℕ) (h : List Entry) → IsPrefix bytes input → IsFullBeginning demo_rule (setting_over st) (heard_packets Server bytes) h → ⊥) where
@@ -206,20 +210,23 @@ module _ (command : TextCommand) (input : List ℕ) (left_new written_old writte
   told BadLine did = inr did
   told InputLimit did = inr did
   told JournalLimit did = inr did
+  told FrameLimit did = inr did
 
   text_well : (outcome : Outcome) → DidText command (Some input) left_new written_old written_new outcome → Blameless outcome → length input < limit_of command
-      → ((said : List ℕ) → Tells command input said false → ⊥) → EndsSo outcome
-  text_well outcome did none short good = at (told outcome did)
+      → HasShortRun command input → ((said : List ℕ) → Tells command input said found.BadLine → ⊥) → EndsSo outcome
+  text_well outcome did none short room good = at (told outcome did)
     where
-      by_lines : (fine : Bool) (text said : List ℕ) → text ≡ input → Tells command text said fine → outcome ≡ outcome_on fine → EndsSo outcome
-      by_lines true text said same tells is = inl is
-      by_lines false text said same tells is = absurd (good said (subst (λ t. Tells command t said false) same tells))
+      by_lines : (what : Found) (text said : List ℕ) → text ≡ input → Tells command text said what → outcome ≡ outcome_on what → EndsSo outcome
+      by_lines found.Good text said same tells is = inl is
+      by_lines found.BadLine text said same tells is = absurd (good said (subst (λ t. Tells command t said found.BadLine) same tells))
+      by_lines found.PastFrames text said same tells is = absurd ((room said).0 (subst (λ t. Tells command t said found.PastFrames) same tells))
+      by_lines found.PastJournal text said same tells is = absurd ((room said).1 (subst (λ t. Tells command t said found.PastJournal) same tells))
 
       at : (outcome ≡ NoMemory) ⊎ ReadsSo outcome → EndsSo outcome
       at (inl memory) = inr memory
       at (inr (inl r)) =
-          by_lines r.wrote.good r.text r.wrote.told (all_taken input r.text left_new r.taken r.at_end) r.wrote.tells
-          (own_outcome written_old written_new r.wrote.told (outcome_on r.wrote.good) outcome none.sink r.wrote.writes)
+          by_lines r.wrote.found r.text r.wrote.told (all_taken input r.text left_new r.taken r.at_end) r.wrote.tells
+          (own_outcome written_old written_new r.wrote.told (outcome_on r.wrote.found) outcome none.sink r.wrote.writes)
       at (inr (inr (inl m))) = absurd (not_all input m.text left_new (limit_of command) m.taken m.many short)
       at (inr (inr (inr f))) = absurd (none.source f.fault)
 
@@ -247,6 +254,7 @@ load_well calls seed written_old written_new outcome did none = at outcome did n
     at BadLine did none = by BadLine did none
     at InputLimit did none = by InputLimit did none
     at JournalLimit did none = by JournalLimit did none
+    at FrameLimit did none = by FrameLimit did none
 
 -- ---- all recorded commands
 
@@ -255,7 +263,7 @@ recorded_end_well (Replay form) status input st left written_old written_new sto
     well status ends.0 ends.1
     (replay_well form input st left written_old written_new store_new within.0 within.1 ends.0 ends.2 (blameless status ends.0 ends.1 none))
 recorded_end_well (Text command) status input st left written_old written_new store_new ends none within good =
-    well status ends.0 ends.1 (text_well command input left written_old written_new ends.0 ends.2 (blameless status ends.0 ends.1 none) within good)
+    well status ends.0 ends.1 (text_well command input left written_old written_new ends.0 ends.2 (blameless status ends.0 ends.1 none) within.0 within.1 good)
 recorded_end_well (Load calls seed) status input st left written_old written_new store_new ends none within good =
     well status ends.0 ends.1 (load_well calls seed written_old written_new ends.0 ends.2 (blameless status ends.0 ends.1 none))
 

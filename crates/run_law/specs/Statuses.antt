@@ -1,5 +1,5 @@
 -- Which statuses a run can end with where no device fails.
-use Rattle.std.specs.Prelude.{◌≡◌, ◌≢◌, ◌⊎◌, ℕ, ◌<◌, true, false, List, ◌++◌, length, Option, Some}
+use Rattle.std.specs.Prelude.{◌≡◌, ◌≢◌, ◌⊎◌, ℕ, ◌<◌, List, ◌++◌, length, Option, Some}
 use Rattle.std.specs.List.{AllByRecursion}
 use mathlib.Core.List.{IsPrefix}
 use Rattle.link_io.specs.declared.why.Why.TheVariants.{JournalLimit}
@@ -18,6 +18,8 @@ use Rattle.pw_run.specs.declared.command.Command.TheVariants.{Replay, Text, Load
 use Rattle.pw_run.specs.declared.live_command.LiveCommand.{LiveCommand}
 use Rattle.pw_run.specs.declared.live_command.LiveCommand.TheVariants.{Crew, Serve, Bridge}
 use Rattle.pw_run.specs.declared.outcome.Outcome.TheVariants as outcome
+use Rattle.pw_run.specs.declared.text_command.TextCommand.{TextCommand}
+use Rattle.pw_run.specs.declared.told.Found.TheVariants.{BadLine, PastFrames, PastJournal}
 use Rattle.pw_run.specs.Devices.{Devices}
 use Rattle.pw_run.specs.Live.{DidLive}
 use Rattle.pw_run.specs.Outcome.{code_of}
@@ -37,18 +39,22 @@ pub record IsBlameless (status : ℕ) : Type 0 where
 abbrev pub IsWell : ℕ → Type 0
 IsWell status = (status ≡ code_of outcome.Done) ⊎ (status ≡ code_of outcome.NoMemory)
 
--- No limit is met by a recorded command over this input and store: the input is shorter than the limit, and of no beginning of it
--- the packets fill the journal.
+-- the run that a text asks for meets none of the limits of runs
+abbrev pub HasShortRun : TextCommand → List ℕ → Type 0
+HasShortRun command input = (told : List ℕ) → (Tells command input told PastFrames → ⊥) × (Tells command input told PastJournal → ⊥)
+
+-- No limit is met by a recorded command over this input and store: the input is shorter than the limit, of no beginning of it the
+-- packets fill the journal, and the run of a script meets none.
 abbrev pub IsWithinLimits : Command → List ℕ → Stored → Type 0
 IsWithinLimits (Replay form) input st =
     (length input < INPUT_LIMIT) ×
     ((bytes : List ℕ) (h : List Entry) → IsPrefix bytes input → IsFullBeginning demo_rule (setting_over st) (heard_packets Server bytes) h → ⊥)
-IsWithinLimits (Text command) input st = length input < limit_of command
+IsWithinLimits (Text command) input st = (length input < limit_of command) × HasShortRun command input
 IsWithinLimits (Load calls seed) input st = Unit {0}
 
 -- no line of a text is bad
 abbrev pub HasGoodLines : Command → List ℕ → Type 0
-HasGoodLines (Text command) input = (told : List ℕ) → Tells command input told false → ⊥
+HasGoodLines (Text command) input = (told : List ℕ) → Tells command input told BadLine → ⊥
 HasGoodLines _ input = Unit {0}
 
 -- Where no line is bad, no limit is met and no device fails, a recorded command ends well, or wants memory.
