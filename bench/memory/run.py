@@ -24,6 +24,7 @@ def contents(path):
 
 CALL = contents("crates/pw_main/stdin")
 UPLOAD = contents("examples/upload/recording")
+SCRIPT = contents("examples/link/script.txt")
 JOURNAL = b"""journal
 0 arrive 10011dfb5cf47025e90e478b2a036162633801
 2 start 0
@@ -38,6 +39,7 @@ RUNS = [
     ("load 4 7", b""),
     ("check", JOURNAL),
     ("crew 2", CALL + UPLOAD),
+    ("link", SCRIPT),
 ]
 
 # What a run ended with, what it wrote, and whether a request was refused.
