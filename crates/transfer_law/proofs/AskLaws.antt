@@ -41,13 +41,13 @@ five_or_less (suc (suc (suc (suc (suc zero))))) h = inr refl
 five_or_less (suc (suc (suc (suc (suc (suc q)))))) h = absurd (omega (arith, h))
 
 -- So many asks came, at a span, with a window up to the end of piece e.
-record Counted (q s e : ℕ) : Type 0 where
-  over : s ≤ e
-  small : s < 64 → doubled q ≤ s
-  early : s < 64 → (q ≡ 0) ⊎ (doubled q + 2 * s ≤ 2 * e)
-  wide : s ≡ 64 → 32 * q ≤ 96 + e
+pub record Counted (q s e : ℕ) : Type 0 where
+  pub over : s ≤ e
+  pub small : s < 64 → doubled q ≤ s
+  pub early : s < 64 → (q ≡ 0) ⊎ (doubled q + 2 * s ≤ 2 * e)
+  pub wide : s ≡ 64 → 32 * q ≤ 96 + e
 
-few_so_far : (q s e big : ℕ) → s ≤ 64 → Counted q s e → e + 1 ≤ big + s → q ≤ 5 + big / 32
+pub few_so_far : (q s e big : ℕ) → s ≤ 64 → Counted q s e → e + 1 ≤ big + s → q ≤ 5 + big / 32
 few_so_far q s e big high c near = by_span (nat_lt s 64) refl
   where
     by_span : (b : Bool) → nat_lt s 64 ≡ b → q ≤ 5 + big / 32
@@ -55,7 +55,7 @@ few_so_far q s e big high c near = by_span (nat_lt s 64) refl
     by_span false t = let full : s ≡ 64 = grind (arith, nat_tests) in omega (arith, c.wide full, near, full)
 
 -- one ask more, at piece i + 1, where at most half of the window was left
-wider : (q s i w : ℕ) → 1 ≤ s → s ≤ 64 → Counted q s (i + suc w) → 2 * w ≤ s → Counted (suc q) (min 64 (2 * s)) (i + 1 + min 64 (2 * s))
+pub wider : (q s i w : ℕ) → 1 ≤ s → s ≤ 64 → Counted q s (i + suc w) → 2 * w ≤ s → Counted (suc q) (min 64 (2 * s)) (i + 1 + min 64 (2 * s))
 wider q s i w low high c half = record { over = omega arith; small = small; early = early; wide = wide }
   where
     less : min 64 (2 * s) < 64 → s < 64
@@ -89,7 +89,7 @@ wider q s i w low high c half = record { over = omega arith; small = small; earl
     wide h = omega (arith, h, wide_by (nat_lt s 64) refl (omega (arith, h)))
 
 -- the same window, one piece further on
-further : (q s i w : ℕ) → Counted q s (i + suc w) → Counted q s (i + 1 + w)
+pub further : (q s i w : ℕ) → Counted q s (i + suc w) → Counted q s (i + 1 + w)
 further q s i w c = subst (Counted q s) (next i w) c
   where
     next : (i w : ℕ) → i + suc w ≡ i + 1 + w
@@ -172,7 +172,7 @@ behind c now r = keeping (active_at now r) (r.next + c)
 left_of : (c now : ℕ) (r : Receiver) (w : ℕ) → Asking c r (suc w) → (behind c now r).window_end - (behind c now r).next ≡ w * c
 left_of c now r w a = omega (arith, a.window, one_more w c)
 
-used : (c now : ℕ) → 1 ≤ c → (r : Receiver) (w : ℕ) → Asking c r (suc w) → is_half_used (behind c now r) ≡ true → 2 * w ≤ r.span
+pub used : (c now : ℕ) → 1 ≤ c → (r : Receiver) (w : ℕ) → Asking c r (suc w) → is_half_used (behind c now r) ≡ true → 2 * w ≤ r.span
 used c now some r w a t =
     half_left r.span w c some
     (subst (λ k. 2 * (w * c) ≤ r.span * k) a.chunk
@@ -189,7 +189,7 @@ pub unused : (c now : ℕ) (r : Receiver) (w : ℕ) → Asking c r (suc w) → i
 unused c now r w a t =
     some_left c (r.span * r.chunk) w (subst (λ n. r.span * r.chunk < 2 * n) (left_of c now r w a) (above (2 * (r.window_end - (r.next + c))) (r.span * r.chunk) t))
 
-grown : (c now : ℕ) (r : Receiver) → r.shrunk ≡ false → span_of_ask false (behind c now r) ≡ min 64 (2 * r.span)
+pub grown : (c now : ℕ) (r : Receiver) → r.shrunk ≡ false → span_of_ask false (behind c now r) ≡ min 64 (2 * r.span)
 grown c now r calm = rw calm refl
 
 -- it has asked for more, or not
@@ -261,7 +261,7 @@ pub first_asking : (offset window chunk now : ℕ) → 1 ≤ window → window �
 first_asking offset window chunk now low high =
     record { opens = refl; window = refl; low = low; high = omega arith; span_low = low; span_high = high; chunk = refl; calm = refl }
 
-first_counted : (window : ℕ) → 1 ≤ window → window ≤ 64 → Counted 0 window (0 + window)
+pub first_counted : (window : ℕ) → 1 ≤ window → window ≤ 64 → Counted 0 window (0 + window)
 first_counted window low high = record { over = omega arith; small = λ h. low; early = λ h. inl refl; wide = λ h. omega arith }
 
 pub asks_are_few : AsksAreFew
