@@ -1,5 +1,5 @@
 pub mod PutLemmas
-mod RestLemmas
+pub mod RestLemmas
 pub mod RoundLemmas
 pub mod RunLemmas
 pub mod StreamLemmas

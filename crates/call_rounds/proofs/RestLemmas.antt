@@ -32,10 +32,10 @@ use Rattle.rpc_schedule.proofs.ServingLemmas.{run_history}
 use Rattle.call_rounds.specs.Rest.{SettledIsAtRest}
 
 -- of no call more events were taken than were put, and no more items were flushed than there are
-record IsEven (ds : List Deed) : Type 0 where
-  waiting : List (ℕ × Event)
-  tells : Pending ds waiting
-  within : flush_count ds ≤ length (items_sent ds)
+pub record IsEven (ds : List Deed) : Type 0 where
+  pub waiting : List (ℕ × Event)
+  pub tells : Pending ds waiting
+  pub within : flush_count ds ≤ length (items_sent ds)
 
 flush_within : (ds : List Deed) (kind : EntryKind) (says : List Item) → flushes_nothing ds kind ≡ false → flush_count ds ≤ length (items_sent ds)
     → (if is_flush kind then flush_count ds + 1 else flush_count ds) ≤ length (items_sent ds ++ says)
@@ -47,7 +47,7 @@ flush_within ds Flush says fits within =
     first_false false b is = refl
 flush_within ds _ says fits within = omega (arith, within, length-append (items_sent ds) says)
 
-lawful_even : (set : Setting) (h : List Entry) → AllowedAll set h → IsEven (deeds_of set h)
+pub lawful_even : (set : Setting) (h : List Entry) → AllowedAll set h → IsEven (deeds_of set h)
 lawful_even set [] all = record { waiting = []; tells = no_deed; within = omega arith }
 lawful_even set (e ∷ h) all =
     let ds : List Deed = deeds_of set h in
@@ -61,9 +61,9 @@ lawful_even set (e ∷ h) all =
     }
 
 -- no run is on, and nothing was halted
-record IsIdle (ds : List Deed) : Type 0 where
-  idle : (c : ℕ) → runner_of ds c ≡ None
-  unhalted : halt_reason ds ≡ None
+pub record IsIdle (ds : List Deed) : Type 0 where
+  pub idle : (c : ℕ) → runner_of ds c ≡ None
+  pub unhalted : halt_reason ds ≡ None
 
 run_idle : (set : Setting) (ds : List Deed) (c : ℕ) (a : Answer) → IsIdle ds → IsIdle (deeds_with set (deeds_with set ds (entry_by run_seat (Start c))) (entry_by run_seat (Finish c a)))
 run_idle set ds c a before = record { idle = λ k. at k (c == k); unhalted = before.unhalted }
@@ -73,7 +73,7 @@ run_idle set ds c a before = record { idle = λ k. at k (c == k); unhalted = bef
     at k false = before.idle k
 
 module _ (rule : HandlerRule) (set : Setting) where
-  turn_idle : (a b : Stage) → Turn rule set a b → IsIdle (history set (entries_of a)) → IsIdle (history set (entries_of b))
+  pub turn_idle : (a b : Stage) → Turn rule set a b → IsIdle (history set (entries_of a)) → IsIdle (history set (entries_of b))
   turn_idle (running h) (running now) ran before =
       subst (λ x. IsIdle (history set x)) (sym ran.adds)
       (subst IsIdle (sym (run_history set h ran.call ran.answer)) (run_idle set (history set h) ran.call ran.answer before))
@@ -87,7 +87,7 @@ module _ (rule : HandlerRule) (set : Setting) where
   turns_idle zero a b same before = subst (λ s. IsIdle (history set (entries_of s))) same before
   turns_idle (suc n) a b turns before = turns_idle n turns.0 b turns.2 (turn_idle a turns.0 turns.1 before)
 
-no_event : (ws : List Waiting) → (not (is_empty ws) && true && true && true && true) ≡ false → ws ≡ []
+pub no_event : (ws : List Waiting) → (not (is_empty ws) && true && true && true && true) ≡ false → ws ≡ []
 no_event [] unready = refl
 no_event (w ∷ ws) unready = absurd (true≢false unready)
 

@@ -208,7 +208,7 @@ message_is_put rule set h c o m p comes = record {
   endless = comes.endless;
 }
 
-request_is_put : (rule : HandlerRule) (set : Setting) (h : List Entry) (method : MethodRef) (p : Packet) → ComesToOpen rule set h method p
+pub request_is_put : (rule : HandlerRule) (set : Setting) (h : List Entry) (method : MethodRef) (p : Packet) → ComesToOpen rule set h method p
     → Puts rule set h p (call_count (history set h)) (opened_by p method) (rule.first set.seed method) (Asked p.payload)
 request_is_put rule set h method p comes = record {
   opens = Some (opened_by p method);

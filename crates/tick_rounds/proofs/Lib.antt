@@ -1,0 +1,7 @@
+mod Examples
+mod Flushing
+mod Halfway
+mod OwnRun
+mod PutLemmas
+pub mod SpeakLemmas
+pub mod TickLemmas
