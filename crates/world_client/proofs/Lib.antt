@@ -6,5 +6,6 @@ mod RunLemmas
 mod PassLemmas
 mod SettleLemmas
 mod ArriveLemmas
+mod StopLemmas
 mod EndLemmas
 mod AskLemmas

@@ -14,7 +14,7 @@ ghost use Rattle.world_turns.specs.Limits.{AskingStops, ClientStops};
 ghost use Rattle.world_turns.specs.Setup.{client_setting, quiet_rule};
 ghost use Rattle.world_turns.specs.World.{Setup, World};
 ghost use Rattle.world_client.specs.Asking.{ClientAsks, IsAsked, IsClientOf};
-ghost use Rattle.world_client.specs.ClientSide.{Attends, ClientHears, ClientMoves, ClientRests, ClientWorks};
+ghost use Rattle.world_client.specs.ClientSide.{Attends, ClientHearingStops, ClientHears, ClientMoves, ClientRests, ClientWorks};
 ghost use Rattle.world_client.specs.Working.{IsKept, Settled};
 ghost use Rattle.world_client.specs.Underway.{task_seen};
 
@@ -100,6 +100,7 @@ impl ClientEnd {
         ensures hears { OnOk result ((fed : List ℕ) → WasFed client_role self.old.end fed → ClientHears now self.old.end.serving under.old self.new.end.serving under.new fed frame.now) }
         ensures fed { OnOk result ((fed : List ℕ) → WasFed client_role self.old.end fed → WasFed client_role self.new.end (fed ++ frame.now)) }
         ensures moves { OnOk result (ClientMoves self.old wires.old self.new wires.new) }
+        ensures full { IfErr result (λ why. why ≡ Stopped.Journal → (fed : List ℕ) → WasFed client_role self.old.end fed → ClientHearingStops now self.old.end.serving under.old fed frame.now) }
     {
         feed_all(
             &mut self.client,

@@ -17,3 +17,6 @@ mod working;
 pub use client_end::ClientEnd;
 pub use speaker::Speaker;
 pub use under::{Plain, Under};
+
+#[cfg(test)]
+mod tests;

@@ -1,10 +1,10 @@
 //! What the client does with what comes to it, until it is idle.
-ghost use Rattle.std.specs.Prelude.{◌≡◌, ℕ, ◌<◌, ◌≤◌, true, false, List, ◌++◌, Option, Some, None, IfSome, IfErr, OnOk, length};
+ghost use Rattle.std.specs.Prelude.{◌≡◌, ℕ, ◌<◌, ◌≤◌, true, false, List, ◌++◌, Option, Some, None, IfSome, IfErr, OnOk};
 ghost use Rattle.link_io.specs.Stored.{Stored};
 ghost use Rattle.rpc_handlers.specs.Limits.{is_long_out};
 ghost use Rattle.rpc_ids.specs.declared.method.Role.TheVariants.{Client as client_role};
 ghost use Rattle.rpc_journal.specs.Calls.{call_count};
-ghost use Rattle.rpc_journal.specs.Items.{input_ended, items_flushed};
+ghost use Rattle.rpc_journal.specs.Items.{items_flushed};
 ghost use Rattle.rpc_journal.specs.Refusals.{is_full};
 ghost use Rattle.rpc_schedule.specs.Kept.{Holds};
 ghost use Rattle.rpc_schedule.specs.Serving.{deeds};
@@ -16,7 +16,7 @@ ghost use Rattle.world_turns.specs.Setup.{client_setting};
 ghost use Rattle.world_turns.specs.Turns.{under_with};
 ghost use Rattle.world_ends.specs.Resting.{IsResting};
 ghost use Rattle.world_ends.specs.Wiring.{GoesOut};
-ghost use Rattle.world_client.specs.ClientSide.{ClientWorks};
+ghost use Rattle.world_client.specs.ClientSide.{ClientHearingStops};
 ghost use Rattle.world_client.specs.Speaking.{SayingStops, polled_with, said_with};
 ghost use Rattle.world_client.specs.Underway.{call_seen, last_poll, task_seen, under_seen};
 ghost use Rattle.world_client.specs.Working.{ClientFlushes, ClientRuns, ClientRunsFull, ClientSays, IsKept, Settled, TakesMore, stop_of};
@@ -55,6 +55,7 @@ pub(crate) fn feed_all<S: Store>(
     ensures out { OnOk result (GoesOut client_role items.old.items wires.old items.new.items wires.new) }
     ensures holds { OnOk result ((st : Option Stored) → Holds items.old.items st (S.holds store.old) → Holds items.new.items st (S.holds store.new)) }
     ensures fed { OnOk result ((bytes : List ℕ) → WasFed client_role client.old bytes → WasFed client_role client.new (bytes ++ frame.now)) }
+    ensures full { IfErr result (λ why. why ≡ Stopped.Journal → (bytes : List ℕ) → WasFed client_role client.old bytes → ClientHearingStops now client.old.serving under.old bytes frame.now) }
 {
     let mut done = 0;
     'frames: while done < frame.len() {

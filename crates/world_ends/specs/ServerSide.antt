@@ -15,6 +15,7 @@ use Rattle.rpc_channel.specs.Rising.{has_id}
 use Rattle.rpc_schedule.specs.Kept.{kept}
 use Rattle.rpc_schedule.specs.Serving.{Serving, deeds}
 use Rattle.rpc_schedule.specs.ends.EndState.{EndState}
+use Rattle.world_turns.specs.Limits.{ServerTakingStops}
 use Rattle.world_turns.specs.Turns.{ServerTakes}
 use Rattle.world_ends.specs.Resting.{IsResting}
 use Rattle.world_ends.specs.Wiring.{GoesOut, Wiring}
@@ -41,6 +42,12 @@ pub record ServerHears (rule : HandlerRule) (before after : Serving) (fed frame 
   pub packets : List Packet
   pub heard : heard_packets Server (fed ++ frame) ≡ heard_packets Server fed ++ packets
   pub takes : ServerTakes rule before.table.setting packets before.table.entries after.table.entries
+
+-- behind these bytes the frame was fed up to a packet that has no room, or behind which the settling has none
+pub record ServerHearingStops (rule : HandlerRule) (before : Serving) (fed frame : List ℕ) : Type 0 where
+  pub packets : List Packet
+  pub heard : heard_packets Server (fed ++ frame) ≡ heard_packets Server fed ++ packets
+  pub stops : ServerTakingStops rule before.table.setting packets before.table.entries
 
 -- how many calls end where a channel is closed, if it is in
 abbrev pub ended_at_close : Setting → List Deed → ℕ → Option ℕ

@@ -16,7 +16,7 @@ ghost use Rattle.world_turns.specs.Turns.{closed_by};
 ghost use Rattle.rpc_schedule.specs.Schedule.{Settles, flush_seat, input_seat};
 ghost use Rattle.rpc_schedule.specs.Serving.{deeds};
 ghost use Rattle.rpc_schedule.specs.ends.EndState.{WasFed};
-ghost use Rattle.world_ends.specs.ServerSide.{ServerHears, ServerMoves, ServerRests, ended_at_close};
+ghost use Rattle.world_ends.specs.ServerSide.{ServerHearingStops, ServerHears, ServerMoves, ServerRests, ended_at_close};
 
 use crate::channels::world_channels;
 use crate::progress::committed;
@@ -127,6 +127,7 @@ impl ServerEnd {
         ensures hears { OnOk result ((fed : List ℕ) → WasFed server_role self.old.end fed → ServerHears demo_rule self.old.end.serving self.new.end.serving fed frame.now) }
         ensures fed { OnOk result ((fed : List ℕ) → WasFed server_role self.old.end fed → WasFed server_role self.new.end (fed ++ frame.now)) }
         ensures moves { OnOk result (ServerMoves self.old wires.old self.new wires.new) }
+        ensures full { IfErr result (λ why. why ≡ Stopped.Journal → (fed : List ℕ) → WasFed server_role self.old.end fed → ServerHearingStops demo_rule self.old.end.serving fed frame.now) }
     {
         feed_all(
             &mut self.server,

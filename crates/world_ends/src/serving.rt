@@ -6,7 +6,7 @@ ghost use Rattle.rpc_journal.specs.Items.{items_flushed, packet_of};
 ghost use Rattle.rpc_schedule.specs.Kept.{Holds};
 ghost use Rattle.rpc_schedule.specs.Serving.{deeds};
 ghost use Rattle.rpc_schedule.specs.Settling.{FlushesAll, Grows, IsOrderly, RunsAll, RunsAndFlushes, SettlesAll, StopsFull};
-ghost use Rattle.world_ends.specs.Resting.{IsResting, TakesMore};
+ghost use Rattle.world_ends.specs.Resting.{IsResting, StopsWithin, TakesMore};
 ghost use Rattle.world_ends.specs.Wiring.{GoesOut, with_all_sent};
 
 use crate::stopped::Stopped;
@@ -33,6 +33,7 @@ pub(crate) fn feed_all<T: Serves, S: Store>(
     ensures out { OnOk result (GoesOut server_role items.old.items wires.old items.new.items wires.new) }
     ensures holds { OnOk result ((st : Option Stored) → Holds items.old.items st (S.holds store.old) → Holds items.new.items st (S.holds store.new)) }
     ensures fed { OnOk result ((s : List ℕ) → T.stands server.old s → T.stands server.new (s ++ frame.now)) }
+    ensures full { IfErr result (λ why. why ≡ Stopped.Journal → (s : List ℕ) → T.stands server.old s → StopsWithin T.rule T.heard (T.seen server.old) s frame.now) }
 {
     let mut done = 0;
     'frames: while done < frame.len() {

@@ -1,15 +1,18 @@
-use Rattle.std.proofs.Common.{◌≡◌, ◌<◌, ℕ, ◌∙◌, length, length-take, length-drop, IfSome, ap, sym, subst, arith}
+use Rattle.std.proofs.Common.{◌≡◌, ◌<◌, ℕ, ◌+◌, ◌∙◌, length, length-take, length-drop, IfSome, Err, ap, sym, subst, arith}
 use Rattle.rpc_ids.specs.declared.method.Role.TheVariants.{Client as client_role}
+use Rattle.rpc_journal.specs.declared.answers.StartRefused.TheVariants.{JournalFull}
 use Rattle.rpc_journal.specs.Calls.{call_count}
 use Rattle.rpc_journal.specs.CallTable.{Table}
-use Rattle.rpc_schedule.specs.Serving.{TakesPacket, deeds}
+use Rattle.rpc_schedule.specs.Serving.{Feeds, TakesPacket, deeds}
 use Rattle.rpc_schedule.specs.ends.EndState.{WasFed}
 use Rattle.rpc_schedule.proofs.StreamLemmas.{piece_parts}
 use Rattle.world_ends.specs.Resting.{IsResting}
 use Rattle.world_ends.proofs.OutLemmas.{goes_out_then}
+use Rattle.world_ends.proofs.StopLemmas.{if_err_by, stopped_full}
 use Rattle.world_client.specs.Underway.{call_seen}
 use Rattle.world_client.specs.Working.{IsKept, TakesMore}
 use Rattle.world_client.proofs.ArriveLemmas.{fed_calls, fed_kept, fed_packet, fed_rests, fed_same, fed_takes, there_still}
+use Rattle.world_client.proofs.StopLemmas.{packet_stops, work_stops}
 use Rattle.world_client.proofs.working.feed_all.Goals as goal
 
 pub settle-requires-clause-kept : goal.settle-requires-clause-kept
@@ -72,3 +75,32 @@ frames-preserved g c =
       fed = λ s stood. subst (WasFed client_role c.feed.new.self) (piece_parts s c.args.frame.now c.frames.done count)
           (c.in_ok-done.ensures.fed.fed _ (c.frames.invariant.fed s stood));
     }
+
+pub returns-in_err-done-clause-full : goal.returns-in_err-done-clause-full
+returns-in_err-done-clause-full g c =
+    let old = c.frames.client.serving in
+    let mid = c.feed.new.self.serving in
+    let part = c.in_err-done.ensures.refused_fed in
+    if_err_by c.from_residual.result _ _ c.from_residual.ensures (λ journal bytes stood.
+    let full : c.in_err-done.field-0.0 ≡ JournalFull = stopped_full c.in_err-done.field-0.0 journal in
+    let refuses : Feeds old (Err JournalFull) mid = subst (λ why. Feeds old (Err why) mid) full c.in_err-done.ensures.step in
+    let fed : WasFed client_role c.feed.new.self _ = subst (WasFed client_role c.feed.new.self) (piece_parts bytes c.args.frame.now c.frames.done part.0)
+    (part.1.fed _ (c.frames.invariant.fed bytes stood)) in
+    packet_stops c.args.now c.args.client.now.serving c.args.under.now old c.frames.under bytes c.args.frame.now (c.frames.done + part.0)
+    stood.packets c.requires.rest.accepts c.frames.invariant.takes mid fed.packets refuses.0 refuses.1)
+
+pub returns-in_err-settle-clause-full : goal.returns-in_err-settle-clause-full
+returns-in_err-settle-clause-full g c =
+    let old = c.frames.client.serving in
+    let mid = c.feed.new.self.serving in
+    let count = c.in_ok-done.field-0 in
+    let was : c.len-count.result ≡ length old.table.entries =
+    c.len-count.ensures.len ∙ ap length (c.journal.ensures.entries ∙ ap (λ (t : Table). t.entries) c.calls.ensures.table) in
+    let is : c.len.result ≡ length mid.table.entries =
+    c.len.ensures.len ∙ ap length (c.journal-in-frames.ensures.entries ∙ ap (λ (t : Table). t.entries) c.calls-in-frames.ensures.table) in
+    let packet : TakesPacket old mid = fed_packet old mid count c.in_ok-done.ensures.step (omega (arith, was, is, c.if-count-len.true)) in
+    if_err_by c.from_residual-in_err-settle.result _ _ c.from_residual-in_err-settle.ensures (λ journal bytes stood.
+    let fed : WasFed client_role c.feed.new.self _ = subst (WasFed client_role c.feed.new.self) (piece_parts bytes c.args.frame.now c.frames.done count)
+    (c.in_ok-done.ensures.fed.fed _ (c.frames.invariant.fed bytes stood)) in
+    work_stops c.args.now c.args.client.now.serving c.args.under.now old c.frames.under bytes c.args.frame.now (c.frames.done + count)
+    stood.packets c.requires.rest.accepts c.frames.invariant.takes mid fed.packets c.frames.invariant.rest.accepts packet (c.in_err-settle.ensures.full journal))

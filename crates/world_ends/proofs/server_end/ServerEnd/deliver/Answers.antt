@@ -1,6 +1,12 @@
-use Rattle.std.proofs.Common.{OnOk, subst}
-use Rattle.world_ends.specs.ServerSide.{ServerMoves, ServerState}
+use Rattle.std.proofs.Common.{◌≡◌, ℕ, List, IfErr, OnOk, subst}
+use Rattle.std.proofs.lemmas.Result.{IfErr-weaker}
+use Rattle.demo_services.specs.DemoRule.{demo_rule}
+use Rattle.rpc_ids.specs.declared.method.Role.TheVariants.{Server as server_role}
+use Rattle.rpc_schedule.specs.ends.EndState.{WasFed}
+use Rattle.world_ends.specs.declared.stopped.Stopped.TheVariants.{Journal}
+use Rattle.world_ends.specs.ServerSide.{ServerHearingStops, ServerMoves, ServerState}
 use Rattle.world_ends.proofs.OutLemmas.{moves_by, on_ok_three}
+use Rattle.world_ends.proofs.StopLemmas.{hearing_stops}
 use Rattle.world_ends.proofs.server_end.ServerEnd.deliver.Goals as goal
 
 pub returns-clause-moves : goal.returns-clause-moves
@@ -10,3 +16,10 @@ returns-clause-moves c =
     subst (λ s. OnOk c.feed_all.result (ServerMoves s c.args.wires.now after c.feed_all.new.wires)) c.self.view_is
     (on_ok_three c.feed_all.result (λ takes out holds. moves_by before after c.args.wires.now c.feed_all.new.wires takes.setting out holds)
     c.feed_all.ensures.takes c.feed_all.ensures.out c.feed_all.ensures.holds)
+
+pub returns-clause-full : goal.returns-clause-full
+returns-clause-full c =
+    let before : ServerState = record { end = c.self.inside.server; stored = c.self.inside.store.stored; items = c.self.inside.items.items } in
+    subst (λ s. IfErr c.feed_all.result (λ why. why ≡ Journal → (fed : List ℕ) → WasFed server_role s.end fed → ServerHearingStops demo_rule s.end.serving fed c.args.frame.now)) c.self.view_is
+    (IfErr-weaker c.feed_all.result _ (λ why. why ≡ Journal → (fed : List ℕ) → WasFed server_role before.end fed → ServerHearingStops demo_rule before.end.serving fed c.args.frame.now)
+    (λ why stops journal fed was. hearing_stops demo_rule before.end.serving fed c.args.frame.now (stops journal fed was)) c.feed_all.ensures.full)
