@@ -1,3 +1,9 @@
+pub mod Grid
 pub mod Parts
-pub mod ReadPhases
-pub mod WritePhases
+pub mod Sending
+pub mod Receiving
+pub mod Turns
+pub mod Flowing
+pub mod Downloads
+pub mod Uploads
+pub mod Refusals

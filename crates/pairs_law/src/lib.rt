@@ -1,5 +1,5 @@
-//! Both ends of a transfer, over links that lose nothing. It has laws, which are functions that do nothing and promise
-//! something of the definitions. Enter at [`laws::reads_end_well`].
+//! Both ends of one transfer by themselves, over a link that loses nothing. It has laws, which are functions that do nothing
+//! and promise something of the definitions. Enter at [`laws::reads_end_well`].
 #![tactic(auto)]
 
 pub mod laws;

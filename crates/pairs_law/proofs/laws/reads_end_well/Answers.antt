@@ -1,4 +1,4 @@
-use Rattle.pairs_law.proofs.ReadPhases.{reads_end_well}
+use Rattle.pairs_law.proofs.Downloads.{reads_end_well}
 use Rattle.pairs_law.proofs.laws.reads_end_well.Goals as goal
 
 pub returns : goal.returns

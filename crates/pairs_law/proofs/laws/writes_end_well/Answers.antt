@@ -1,4 +1,4 @@
-use Rattle.pairs_law.proofs.WritePhases.{writes_end_well}
+use Rattle.pairs_law.proofs.Uploads.{writes_end_well}
 use Rattle.pairs_law.proofs.laws.writes_end_well.Goals as goal
 
 pub returns : goal.returns
