@@ -1,0 +1,12 @@
+pub mod Grid
+pub mod DataPhase
+pub mod Answering
+pub mod Losing
+pub mod Late
+pub mod Openings
+pub mod Asking
+pub mod ReadSurvival
+pub mod RefusalSurvival
+pub mod WriteSurvival
+pub mod Numbers
+pub mod Rows
