@@ -98,13 +98,13 @@ pub answer_fits : (s : Sender) (ask : Ask) → length s.bytes ≤ MAX_RESOURCE �
 answer_fits s ask size = answer_fits_by s ask (is_past_end s ask) size
 
 -- Where a session stands so.
-abbrev StageFits : Stage → Type 0
+abbrev pub StageFits : Stage → Type 0
 StageFits (stage.Opening o) = o.agreed ≤ MAX_RESOURCE
 StageFits (stage.Sending s) = length s.bytes ≤ MAX_RESOURCE
 StageFits (stage.Receiving r) = IsBounded r
 StageFits (stage.Ended status) = Unit {0}
 
-abbrev StageDone : Stepped Stage → Type 0
+abbrev pub StageDone : Stepped Stage → Type 0
 StageDone t = StageFits t.after × AllFit t.sayings
 
 sending_by : (s : Sender) (o : Option Status) → length s.bytes ≤ MAX_RESOURCE → StageFits (sending_or_ended s o)
@@ -176,7 +176,7 @@ module _ (side : Side) (shelf : Shelf) (window chunk : ℕ) (w_high : window ≤
   confirmed_done Write time o ask within =
       let bounded = new_bounded o.agreed window chunk time within w_high c_high in (bounded, (first_fits (new_receiver o.agreed window chunk time) bounded, tt))
 
-  stage_done : (time : ℕ) (s : Stage) (w : Word) → StageFits s → StageDone (stage_hears (serving side shelf window chunk time) s w)
+  pub stage_done : (time : ℕ) (s : Stage) (w : Word) → StageFits s → StageDone (stage_hears (serving side shelf window chunk time) s w)
   stage_done time (stage.Opening o) (start resource offset) fits = (fits, again_fits (o.resource == resource) o.agreed fits)
   stage_done time (stage.Opening o) (start_ack offset) fits = (fits, tt)
   stage_done time (stage.Opening o) (confirmation ask) fits = confirmed_done side time o ask fits
@@ -207,7 +207,7 @@ module _ (side : Side) (shelf : Shelf) (window chunk : ℕ) (w_high : window ≤
       by_size false e true f = (tt, (tt, tt))
       by_size false e false f = let within = small (length bytes) e f in (within, (omega (arith, within), tt))
 
-  opened_done : (x : Side) (time resource offset : ℕ) → StageDone (opened x (serving side shelf window chunk time) resource offset)
+  pub opened_done : (x : Side) (time resource offset : ℕ) → StageDone (opened x (serving side shelf window chunk time) resource offset)
   opened_done Read time resource offset = opened_read_done time resource offset (first_of resource shelf.full)
   opened_done Write time resource offset =
       let a : ℕ = agreed_offset shelf resource offset in let within : a ≤ MAX_RESOURCE = omega arith in (within, (tt, (omega (arith, within), tt)))
@@ -246,7 +246,7 @@ module _ (side : Side) (shelf : Shelf) (window chunk : ℕ) (w_high : window ≤
   receiver_ticked now r is =
       let done = tick_done (is_open r.phase) r now is in (over_fits (tick_outcome r now).after (tick_outcome r now).answer done.0, done.1)
 
-  ticks_done : (now : ℕ) (s : Stage) → StageFits s → StageDone (stage_ticks side now s)
+  pub ticks_done : (now : ℕ) (s : Stage) → StageFits s → StageDone (stage_ticks side now s)
   ticks_done now (stage.Opening o) fits = opening_by now o (nat_le (o.active + TIMEOUT) now) fits
   ticks_done now (stage.Sending s) fits = ticked_by now s (nat_le (s.active + TIMEOUT) now) fits
   ticks_done now (stage.Receiving r) fits = receiver_ticked now r fits

@@ -21,22 +21,22 @@ made_length : (n x : ℕ) → length (made_bytes n x) ≡ n
 made_length zero x = refl
 made_length (suc n) x = omega (arith, made_length n (number_behind x))
 
-made_small : (stocks : List Stock) → AllByRecursion IsStock stocks → AreSmall (made_resources stocks)
+pub made_small : (stocks : List Stock) → AllByRecursion IsStock stocks → AreSmall (made_resources stocks)
 made_small [] all = tt
 made_small (s ∷ stocks) all = (omega (arith, made_length s.length s.seed, all.0.length), made_small stocks all.1)
 
-put_in : (es rows : Resources) → AreSmall es → AreSmall rows → AreSmall (with_resources es rows)
+pub put_in : (es rows : Resources) → AreSmall es → AreSmall rows → AreSmall (with_resources es rows)
 put_in [] rows new old = old
 put_in (e ∷ es) rows new old = put_in es _ new.1 (insert_all (λ r. length r.1 ≤ MAX_RESOURCE) nat_cmp rows e.0 e.1 old new.0 (λ r small. new.0))
 
-begins_small : (s : Script) → IsScript s → BeginsSmall (setup_of s)
+pub begins_small : (s : Script) → IsScript s → BeginsSmall (setup_of s)
 begins_small s is = record {
   client = refl;
   small = record { full = put_in (made_resources s.client) [] (made_small s.client is.client) tt; left = put_in (made_resources s.left_client) [] (made_small s.left_client is.left_client) tt };
   no_work = refl;
 }
 
-is_demo : (s : Script) → IsScript s → IsDemo (setup_of s)
+pub is_demo : (s : Script) → IsScript s → IsDemo (setup_of s)
 is_demo s is = record { rule = refl; server = refl; client = refl; window = is.window; chunk = is.chunk }
 
 pub scripts_mean_the_bytes : ScriptsMeanTheBytes

@@ -1,0 +1,15 @@
+pub mod Linking
+pub mod Flushing
+pub mod Serving
+pub mod ServiceWords
+pub mod Machines
+pub mod ReadSteps
+pub mod WriteSteps
+pub mod Words
+pub mod Rounds
+pub mod ServerTurns
+pub mod ClientTurns
+pub mod Chain
+pub mod Beginning
+pub mod Finishing
+pub mod LateSteps

@@ -1,0 +1,4 @@
+pub mod Shows
+pub mod Chunks
+pub mod Begins
+pub mod Finishes
