@@ -1,0 +1,10 @@
+pub mod Concerns
+pub mod Beside
+pub mod ClientRest
+pub mod EndsRest
+pub mod Ending
+pub mod Numbers
+pub mod Spared
+pub mod ClientBeside
+pub mod Calling
+pub mod Commands

@@ -1,0 +1,4 @@
+pub mod Rests
+pub mod Between
+pub mod Commands
+pub mod Ended
