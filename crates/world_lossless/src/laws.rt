@@ -1,0 +1,15 @@
+//! What follows from the definitions. Each function does nothing: what counts is its contract.
+ghost use Rattle.world_lossless.specs.Lossless.{LosslessRunsEndWell};
+ghost use Rattle.world_lossless.specs.Within.{RowsAreWithin};
+
+/// Over a link that loses nothing each command of a script that closes no channel comes to its line. A read whose resource
+/// the server has, from an offset in it, and a write whose resource the client has end with OK, and no more chunks are sent for
+/// them than their bound.
+pub fn lossless_runs_end_well()
+    ensures { LosslessRunsEndWell }
+{}
+
+/// So it is told of the computed runs of whole transfers.
+pub fn rows_are_within()
+    ensures { RowsAreWithin }
+{}
