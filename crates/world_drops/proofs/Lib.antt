@@ -1,0 +1,17 @@
+mod Begin
+mod Books
+mod Chain
+mod ClientRound
+mod ClientStep
+mod Ends
+mod Few
+mod Late
+pub mod Links
+mod Mixes
+mod Numbers
+mod ServerStep
+mod StrayStep
+pub mod Survive
+mod Tail
+mod TickStep
+mod TimeStep

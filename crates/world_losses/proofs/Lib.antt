@@ -1,0 +1,4 @@
+pub mod Starting
+pub mod Finishing
+pub mod Passing
+pub mod Walking
