@@ -60,7 +60,7 @@ once_made : (stocks : List Stock) → AreOnce stocks → IsOnce (made_resources 
 once_made [] once = tt
 once_made (s ∷ stocks) once = (not_found stocks s.id once.0, once_made stocks once.1)
 
-all_push : {A : Type 0} (P : A → Type 0) (xs : List A) (x : A) → AllByRecursion P xs → P x → AllByRecursion P (xs ++ x ∷ [])
+pub all_push : {A : Type 0} (P : A → Type 0) (xs : List A) (x : A) → AllByRecursion P xs → P x → AllByRecursion P (xs ++ x ∷ [])
 all_push P [] x all last = (last, tt)
 all_push P (y ∷ xs) x all last = (all.0, all_push P xs x all.1 last)
 

@@ -2,6 +2,7 @@ pub mod WireLemmas
 pub mod ServerLemmas
 pub mod ClientLemmas
 pub mod TimeLemmas
+pub mod StopLemmas
 pub mod SizeLemmas
 pub mod LineLemmas
 pub mod EndLemmas
@@ -11,3 +12,5 @@ pub mod RunLemmas
 pub mod OverLemmas
 pub mod NewLemmas
 pub mod BoundsLemmas
+pub mod ScriptLemmas
+pub mod PromiseLemmas

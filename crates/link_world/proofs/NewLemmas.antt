@@ -8,7 +8,9 @@ use Rattle.demo_services.specs.DemoRule.{demo_rule}
 use Rattle.rpc_journal.specs.declared.setting.Setting.{Setting}
 use Rattle.rpc_schedule.specs.Kept.{kept}
 use Rattle.transfer_base.specs.declared.tuning.Tuning.{Tuning}
+use Rattle.world_turns.specs.Limits.{EndStops, IsPastJournal}
 use Rattle.world_turns.specs.Setup.{client_setting, setup_of}
+use Rattle.world_turns.specs.Turns.{ending}
 use Rattle.world_turns.specs.World.{Setup, first_world}
 use Rattle.world_client.specs.ClientSide.{ClientState}
 use Rattle.world_ends.specs.ServerSide.{ServerState}
@@ -20,6 +22,7 @@ use Rattle.link_world.specs.Over.{EndsAs}
 use Rattle.link_world.specs.Running.{EndsWith, setup_by}
 use Rattle.link_world.specs.Showing.{Shows, wiring_of}
 use Rattle.link_world.specs.Starting.{IsNew}
+use Rattle.link_world.proofs.StopLemmas.{next_stops, past_journal}
 
 pub if_ok_more : {T E : Type 0} {P Q : T → Type 0} (r : Result T E) → ((x : T) → P x → Q x) → IfOk r P → IfOk r Q
 if_ok_more (Ok x) more holds = more x holds
@@ -89,3 +92,12 @@ module _ (script : Script) (tuning : Tuning) (s : ServerState) (c : ClientState)
     server_store = ended.server_store;
     client_store = ended.client_store;
   })
+
+  -- the end of a run stops
+  pub end_stopped : (server : ServerState) (client : ClientState) (y : Wiring) (d : Course)
+      → (ends : EndsWith (setup_by s c x tuning) script.commands server client y d) → EndStops (setup_by s c x tuning) ends.comes.now
+      → IsPastJournal (setup_of script) script.commands
+  end_stopped server client y d ends stops =
+      let k : Setup = setup_by s c x tuning in
+      subst (λ k. IsPastJournal k script.commands) setup_is
+      (past_journal k script.commands server client y d ends.comes (next_stops k ends.comes.now ending ends.last stops))

@@ -105,7 +105,7 @@ module _ (k : Setup) where
       }
 
   -- how many calls the closing of a channel ends
-  ended_is : (w : World) (channel : ℕ) (s : ServerState) → ServerShows k s w.server w.fed_server
+  pub ended_is : (w : World) (channel : ℕ) (s : ServerState) → ServerShows k s w.server w.fed_server
       → ended_at_close s.end.serving.table.setting (deeds s.end.serving) channel ≡ ended_by_close k w channel
   ended_is w channel s shows =
       let same : deeds s.end.serving ≡ server_deeds k w =

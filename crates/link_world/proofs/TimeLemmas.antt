@@ -25,7 +25,7 @@ use Rattle.link_world.proofs.ServerLemmas.{losses_by, moved_on, ruled, server_go
 use Rattle.link_world.proofs.WireLemmas.{with_wiring}
 
 module _ (k : Setup) where
-  later_shows : (commands : List Command) (d : Course) (w : World) → CourseShows commands d w → CourseShows commands (record d { times = d.times + 1 }) (later w)
+  pub later_shows : (commands : List Command) (d : Course) (w : World) → CourseShows commands d w → CourseShows commands (record d { times = d.times + 1 }) (later w)
   later_shows commands d w course = record {
     coming = course.coming;
     under = course.under;
@@ -36,7 +36,7 @@ module _ (k : Setup) where
   }
 
   -- the server is told of the moment of the world
-  ticks_at : (P : ℕ → Type 0) (commands : List Command) (d : Course) (w : World) → CourseShows commands d w → P (TURN_OF_TIME * (d.times + 1)) → P (moment (later w))
+  pub ticks_at : (P : ℕ → Type 0) (commands : List Command) (d : Course) (w : World) → CourseShows commands d w → P (TURN_OF_TIME * (d.times + 1)) → P (moment (later w))
   ticks_at P commands d w course holds = subst (λ n. P (TURN_OF_TIME * (n + 1))) course.times holds
 
   pub time_passed : (commands : List Command) (w : World) (s server : ServerState) (c client : ClientState) (x y z : Wiring) (d : Course) (under : Option Under)

@@ -1,10 +1,16 @@
 //! What follows from the definitions. Each function does nothing: what counts is its contract.
-ghost use Rattle.std.specs.Prelude.{ℕ, List};
+ghost use Rattle.std.specs.Prelude.{ℕ, ◌+◌, ◌^◌, ◌<◌, List, length};
 ghost use Rattle.link_script.specs.declared.script.Script.{Script};
 ghost use Rattle.script_text.specs.Reading.{IsScriptText};
+ghost use Rattle.world_fits.specs.Scripts.{IsScript};
 ghost use Rattle.link_world.specs.Starting.{IsWithinBounds};
 
 /// The script that a text says may be run.
 pub fn scripts_keep_the_bounds()
     ensures { (text : List ℕ) (script : Script) → IsScriptText text script → IsWithinBounds script }
+{}
+
+/// The numbers of the script that a text says fit, where the text isn't so long that its commands can't be numbered.
+pub fn numbers_of_a_text_fit()
+    ensures { (text : List ℕ) (script : Script) → IsScriptText text script → length text + 1 < 2 ^ 32 → IsScript script }
 {}

@@ -1,5 +1,5 @@
 //! A whole turn.
-ghost use Rattle.std.specs.Prelude.{◌≡◌, ◌*◌, ◌<◌, ◌≤◌, List, Err, OnOk, length};
+ghost use Rattle.std.specs.Prelude.{◌≡◌, ◌<◌, ◌≤◌, List, Err, OnOk, length};
 ghost use Rattle.link_script.specs.declared.command.Command.{Command};
 ghost use Rattle.world_turns.specs.declared.limits.TheConstants.{MAX_DELIVERIES};
 ghost use Rattle.world_turns.specs.Limits.{StopsIn};
@@ -36,6 +36,9 @@ pub(crate) fn make_turn(
     ensures turn { OnOk result ((k : Setup) (commands : List Command) (w : World) → ServerShows k server.old w.server w.fed_server
         → ClientShows k client.old w.client w.fed_client → CourseShows commands course.old w → IsTuned k tuning → TakesTurn k w wires.old turn.entry
         → MakesTurn k commands w server.new client.new wires.new course.new) }
+    ensures journal { result ≡ Err Stopped.Journal → (k : Setup) (commands : List Command) (w : World) → ServerShows k server.old w.server w.fed_server
+        → ClientShows k client.old w.client w.fed_client → CourseShows commands course.old w → IsTuned k tuning → TakesTurn k w wires.old turn.entry
+        → StopsIn k w (next_kind w) }
 {
     act(turn, tuning, server, client, wires, course)?;
     finish(server, client, wires, course)?;
@@ -59,6 +62,9 @@ fn act(
     ensures turn { OnOk result ((k : Setup) (commands : List Command) (w : World) → ServerShows k server.old w.server w.fed_server
         → ClientShows k client.old w.client w.fed_client → CourseShows commands course.old w → IsTuned k tuning → TakesTurn k w wires.old turn.entry
         → WorldTurns k commands w (next_kind w) server.new client.new wires.new course.new) }
+    ensures journal { result ≡ Err Stopped.Journal → (k : Setup) (commands : List Command) (w : World) → ServerShows k server.old w.server w.fed_server
+        → ClientShows k client.old w.client w.fed_client → CourseShows commands course.old w → IsTuned k tuning → TakesTurn k w wires.old turn.entry
+        → StopsIn k w (next_kind w) }
     ensures room { OnOk result (IsTimed turn.entry server.old) }
 {
     match turn {

@@ -4,7 +4,7 @@ ghost use Rattle.demo_services.specs.DemoRule.{demo_rule};
 ghost use Rattle.link_script.specs.declared.command.Command.{Command};
 ghost use Rattle.rpc_journal.specs.Lawful.{IsLegal};
 ghost use Rattle.world_turns.specs.Limits.{EndStops};
-ghost use Rattle.world_turns.specs.Setup.{client_setting, quiet_rule};
+ghost use Rattle.world_turns.specs.Setup.{quiet_rule};
 ghost use Rattle.world_turns.specs.World.{Setup, World};
 ghost use Rattle.link_world.specs.Over.{EndsAs, Tells};
 ghost use Rattle.link_world.specs.Showing.{Shows, Stands};
@@ -28,6 +28,7 @@ pub(crate) fn end(
     requires { Stands server client course }
     ensures ends { IfOk result (λ outcome. (k : Setup) (commands : List Command) (w : World) → Shows k commands server client wires course w → EndsAs k w outcome) }
     ensures frames { result ≡ Err WorldRefused.Frames → ⊥ }
+    ensures journal { result ≡ Err WorldRefused.Journal → (k : Setup) (commands : List Command) (w : World) → Shows k commands server client wires course w → EndStops k w }
     ensures server { IfOk result (λ outcome. IsLegal demo_rule server.end.serving.table.setting outcome.server.entries) }
     ensures client { IfOk result (λ outcome. IsLegal quiet_rule client.end.serving.table.setting outcome.client.entries) }
 {

@@ -33,6 +33,7 @@ pub(crate) fn run_turns(
     ensures stands { OnOk result (Stands server.new client.new course.new) }
     ensures ends { OnOk result (EndsWith (setup_by server.old client.old wires.old tuning) commands.now server.new client.new wires.new course.new) }
     ensures frames { result ≡ Err WorldRefused.Frames → IsPastFrames (setup_by server.old client.old wires.old tuning) commands.now }
+    ensures journal { result ≡ Err WorldRefused.Journal → IsPastJournal (setup_by server.old client.old wires.old tuning) commands.now }
 {
     'turns: while let Some(turn) = next_turn(commands, course, wires) {
         if course.delivered >= MAX_DELIVERIES {

@@ -38,6 +38,9 @@ pub(crate) fn ask(
     ensures turn { OnOk result ((k : Setup) (commands : List Command) (w : World) (rest : List Command) → ClientShows k client.old w.client w.fed_client
         → wires.old ≡ wiring_of k w → IsTuned k tuning → CourseShows commands course.old (with_coming rest w)
         → ClientTurns k commands w (starting command.now rest) client.new wires.new course.new) }
+    ensures journal { result ≡ Err Stopped.Journal → (k : Setup) (commands : List Command) (w : World) (rest : List Command)
+        → ClientShows k client.old w.client w.fed_client → IsTuned k tuning → CourseShows commands course.old (with_coming rest w)
+        → StopsIn k w (starting command.now rest) }
 {
     if course.sessions == u32::MAX {
         return Err(Stopped::Memory);
@@ -62,6 +65,8 @@ pub(crate) fn close(
         → wires.old ≡ wiring_of k w → CourseShows commands course.old (with_coming rest w)
         → ServerTurns k commands w (starting (Close channel) rest) server.new wires.new course.new) }
     ensures attends { OnOk result ((c : ClientState) (now : ℕ) → Attends c course.new.under now) }
+    ensures journal { result ≡ Err Stopped.Journal → (k : Setup) (w : World) (rest : List Command) → ServerShows k server.old w.server w.fed_server
+        → StopsIn k w (starting (Close channel) rest) }
 {
     let ended = server.close_channel(channel, wires)?;
     course.under = Some(Under::Closing(channel, ended));
@@ -84,6 +89,9 @@ pub(crate) fn start(
     ensures turn { OnOk result ((k : Setup) (commands : List Command) (w : World) (rest : List Command) → ServerShows k server.old w.server w.fed_server
         → ClientShows k client.old w.client w.fed_client → CourseShows commands course.old w → IsTuned k tuning → wires.old ≡ wiring_of k w
         → next_kind w ≡ starting command.now rest → WorldTurns k commands w (starting command.now rest) server.new client.new wires.new course.new) }
+    ensures journal { result ≡ Err Stopped.Journal → (k : Setup) (commands : List Command) (w : World) (rest : List Command)
+        → ServerShows k server.old w.server w.fed_server → ClientShows k client.old w.client w.fed_client → CourseShows commands course.old w → IsTuned k tuning
+        → next_kind w ≡ starting command.now rest → StopsIn k w (starting command.now rest) }
 {
     course.started += 1;
     match command {

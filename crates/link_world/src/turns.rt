@@ -41,6 +41,8 @@ pub(crate) fn deliver_to_server(
     ensures turn { OnOk result ((k : Setup) (commands : List Command) (w : World) (rest : List (List ℕ)) → ServerShows k server.old w.server w.fed_server
         → wires.old ≡ wiring_of k (with_rest_up rest w) → CourseShows commands course.old w
         → ServerTurns k commands w (to_server frame.now rest) server.new wires.new course.new) }
+    ensures journal { result ≡ Err Stopped.Journal → (k : Setup) (w : World) (rest : List (List ℕ)) → ServerShows k server.old w.server w.fed_server
+        → StopsIn k w (to_server frame.now rest) }
 {
     course.delivered += 1;
     server.deliver(frame, wires)
@@ -63,6 +65,8 @@ pub(crate) fn deliver_to_client(
     ensures turn { OnOk result ((k : Setup) (commands : List Command) (w : World) (rest : List (List ℕ)) → ClientShows k client.old w.client w.fed_client
         → wires.old ≡ wiring_of k (with_rest_down rest w) → CourseShows commands course.old w
         → ClientTurns k commands w (to_client frame.now rest) client.new wires.new course.new) }
+    ensures journal { result ≡ Err Stopped.Journal → (k : Setup) (commands : List Command) (w : World) (rest : List (List ℕ))
+        → ClientShows k client.old w.client w.fed_client → CourseShows commands course.old w → StopsIn k w (to_client frame.now rest) }
 {
     course.delivered += 1;
     let now = moment(course.times);
@@ -85,6 +89,8 @@ pub(crate) fn cancel(
     ensures turn { OnOk result ((k : Setup) (commands : List Command) (w : World) → ClientShows k client.old w.client w.fed_client
         → wires.old ≡ wiring_of k w → CourseShows commands course.now w
         → ClientTurns k commands w (cancelling call) client.new wires.new course.now) }
+    ensures journal { result ≡ Err Stopped.Journal → (k : Setup) (commands : List Command) (w : World) → ClientShows k client.old w.client w.fed_client
+        → CourseShows commands course.now w → StopsIn k w (cancelling call) }
 {
     let now = moment(course.times);
     client.cancel(call, now, wires)
@@ -108,6 +114,8 @@ pub(crate) fn pass_time(
     ensures turn { OnOk result ((k : Setup) (commands : List Command) (w : World) → ServerShows k server.old w.server w.fed_server
         → ClientShows k client.old w.client w.fed_client → wires.old ≡ wiring_of k w → CourseShows commands course.old w
         → WorldTurns k commands w timing server.new client.new wires.new course.new) }
+    ensures journal { result ≡ Err Stopped.Journal → (k : Setup) (commands : List Command) (w : World) → ServerShows k server.old w.server w.fed_server
+        → ClientShows k client.old w.client w.fed_client → CourseShows commands course.old w → StopsIn k w timing }
     ensures room { OnOk result (is_full server.old.end.serving.table.entries ≡ false) }
 {
     course.times += 1;

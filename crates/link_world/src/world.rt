@@ -4,7 +4,11 @@ ghost use Rattle.demo_services.specs.DemoRule.{demo_rule};
 ghost use Rattle.rpc_journal.specs.Lawful.{IsLegal};
 ghost use Rattle.world_turns.specs.Limits.{IsPastFrames, IsPastJournal};
 ghost use Rattle.world_turns.specs.Setup.{client_setting, quiet_rule, script_chunk, script_window, setup_of};
-ghost use Rattle.link_world.specs.Outcomes.{IsRunOf};
+ghost use Rattle.world_turns.specs.Sound.{NoFlips};
+ghost use Rattle.world_fits.specs.Scripts.{IsScript};
+ghost use Rattle.world_lossless.specs.Lossless.{IsLosslessScript};
+ghost use Rattle.world_lossless.specs.Scripts.{IsOpenScript};
+ghost use Rattle.link_world.specs.Outcomes.{AllEndWell, IsRunOf, IsRunWith, LinesHold, LossesEndWell};
 ghost use Rattle.link_world.specs.Starting.{IsWithinBounds};
 
 use crate::course::Course;
@@ -80,8 +84,12 @@ impl World {
     pub fn run(self) -> Result<Outcome, WorldRefused>
         ensures ok { IfOk result (IsRunOf self) }
         ensures frames { result ≡ Err WorldRefused.Frames → IsPastFrames (setup_of self) self.commands }
+        ensures journal { result ≡ Err WorldRefused.Journal → IsPastJournal (setup_of self) self.commands }
         ensures server { IfOk result (λ outcome. IsLegal demo_rule (setup_of self).server outcome.server.entries) }
         ensures client { IfOk result (λ outcome. IsLegal quiet_rule client_setting outcome.client.entries) }
+        ensures bytes { IsScript self → NoFlips self.losses → IfOk result (IsRunWith LinesHold self) }
+        ensures lossless { IsLosslessScript self → IfOk result (IsRunWith AllEndWell self) }
+        ensures losses { IsOpenScript self → IfOk result (IsRunWith LossesEndWell self) }
     {
         let World {
             alloc,

@@ -1,8 +1,10 @@
 use Rattle.std.proofs.Common.{subst}
 use Rattle.world_ends.proofs.OutLemmas.{on_ok_one}
-use Rattle.world_turns.specs.Turns.{cancelling, to_client, to_server}
+use Rattle.world_turns.specs.Limits.{StopsIn}
+use Rattle.world_turns.specs.Turns.{cancelling, starting, timing, to_client, to_server}
 use Rattle.link_world.specs.Making.{ClientTurns, ServerTurns, TakesTurn}
 use Rattle.link_world.proofs.MakeLemmas.{client_turns, next_turns, server_turns}
+use Rattle.link_world.proofs.StopLemmas.{next_stops}
 use Rattle.link_world.proofs.making.act.Goals as goal
 
 pub returns-in-ToServer-clause-turn : goal.returns-in-ToServer-clause-turn
@@ -40,3 +42,30 @@ returns-in-Cancel-clause-turn c =
     (client_turns k commands w (cancelling c.in-Cancel.call) c.args.server.now c.cancel.new.client c.cancel.new.wires c.args.course.now
     (turn k commands w shown t.1 course) shows))
     c.cancel.ensures.turn
+
+pub returns-in-ToServer-clause-journal : goal.returns-in-ToServer-clause-journal
+returns-in-ToServer-clause-journal c = λ is k commands w shows shown course tuned takes.
+    let t = subst (TakesTurn k w c.args.wires.now) c.in-ToServer.is takes in
+    next_stops k w (to_server c.in-ToServer.frame t.0) t.1
+    (subst (λ frame. StopsIn k w (to_server frame t.0)) c.as_slice.ensures (c.deliver_to_server.ensures.journal is k w t.0 shows))
+
+pub returns-in-ToClient-clause-journal : goal.returns-in-ToClient-clause-journal
+returns-in-ToClient-clause-journal c = λ is k commands w shows shown course tuned takes.
+    let t = subst (TakesTurn k w c.args.wires.now) c.in-ToClient.is takes in
+    next_stops k w (to_client c.in-ToClient.frame t.0) t.1
+    (subst (λ frame. StopsIn k w (to_client frame t.0)) c.as_slice-in-ToClient.ensures (c.deliver_to_client.ensures.journal is k commands w t.0 shown course))
+
+pub returns-in-Start-clause-journal : goal.returns-in-Start-clause-journal
+returns-in-Start-clause-journal c = λ is k commands w shows shown course tuned takes.
+    let t = subst (TakesTurn k w c.args.wires.now) c.in-Start.is takes in
+    next_stops k w (starting c.in-Start.command.now t.0) t.1 (c.start.ensures.journal is k commands w t.0 shows shown course tuned t.1)
+
+pub returns-in-Cancel-clause-journal : goal.returns-in-Cancel-clause-journal
+returns-in-Cancel-clause-journal c = λ is k commands w shows shown course tuned takes.
+    let t = subst (TakesTurn k w c.args.wires.now) c.in-Cancel.is takes in
+    next_stops k w (cancelling c.in-Cancel.call) t.0 (c.cancel.ensures.journal is k commands w shown course)
+
+pub returns-in-Time-clause-journal : goal.returns-in-Time-clause-journal
+returns-in-Time-clause-journal c = λ is k commands w shows shown course tuned takes.
+    let t = subst (TakesTurn k w c.args.wires.now) c.in-Time.is takes in
+    next_stops k w timing t.0 (c.pass_time.ensures.journal is k commands w shows shown course)

@@ -2,6 +2,7 @@ use Rattle.std.proofs.Common.{◌*◌, refl}
 use Rattle.world_turns.specs.declared.limits.TheConstants.{TURN_OF_TIME}
 use Rattle.link_world.specs.Running.{setup_by}
 use Rattle.link_world.proofs.RunLemmas.{can_turn, ends_with, goes_on, past_frames}
+use Rattle.link_world.proofs.StopLemmas.{past_journal, stopped_so}
 use Rattle.link_world.proofs.running.run_turns.Goals as goal
 
 pub returns-then-course-ge-MAX_DELIVERIES-clause-frames : goal.returns-then-course-ge-MAX_DELIVERIES-clause-frames
@@ -44,3 +45,12 @@ returns-clause-ends c =
     let comes = c.turns.invariant.comes in
     ends_with k c.args.commands.now c.turns.server c.turns.client c.turns.wires c.next_turn.new.wires c.turns.course comes
     (c.in_default.ensures.end k comes.now comes.shows.wires comes.shows.course)
+
+pub returns-in_err-make_turn-clause-journal : goal.returns-in_err-make_turn-clause-journal
+returns-in_err-make_turn-clause-journal c = λ is.
+    let k = setup_by c.args.server.now c.args.client.now c.args.wires.now c.args.tuning in
+    let comes = c.turns.invariant.comes in
+    past_journal k c.args.commands.now c.turns.server c.turns.client c.turns.wires c.turns.course comes
+    (c.make_turn.ensures.journal (stopped_so c.from_residual.result c.make_turn.result c.in_err-make_turn.field-0.0 c.in_err-make_turn.was c.from_residual.ensures is)
+    k c.args.commands.now comes.now comes.shows.server comes.shows.client comes.shows.course (record { window = refl; chunk = refl })
+    (c.in-Some.ensures.turn k comes.now comes.shows.wires comes.shows.course))

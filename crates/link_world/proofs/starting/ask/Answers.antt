@@ -1,6 +1,10 @@
-use Rattle.std.proofs.Common.{subst, sym}
+use Rattle.std.proofs.Common.{refl, subst, sym}
+use Rattle.std.proofs.lemmas.Result.{IfErr-at_err}
+use Rattle.rpc_schedule.proofs.StreamLemmas.{handed_on}
 use Rattle.world_client.specs.Asking.{IsClientOf}
+use Rattle.world_ends.specs.declared.stopped.Stopped.TheVariants.{Journal}
 use Rattle.link_world.proofs.ClientLemmas.{asked_so, client_of}
+use Rattle.link_world.proofs.StopLemmas.{start_stops}
 use Rattle.link_world.proofs.starting.ask.Goals as goal
 
 pub returns-clause-turn : goal.returns-clause-turn
@@ -11,3 +15,11 @@ returns-clause-turn c = λ k commands w rest shows wires tuned course.
     (subst (λ at. IsClientOf k w c.args.client.now c.args.course.now.sessions c.args.tuning at) (sym c.moment-now.ensures)
     (client_of k commands w rest c.args.client.now c.args.course.now c.args.tuning shows tuned course)))
     (c.in_ok-under.ensures.fed w.fed_client shows.fed) c.in_ok-under.ensures.moves
+
+pub returns-in_err-under-clause-journal : goal.returns-in_err-under-clause-journal
+returns-in_err-under-clause-journal c = λ is k commands w rest shows tuned course.
+    let stopped = handed_on c.from_residual.result c.start.result c.in_err-under.field-0.0 Journal c.in_err-under.was c.from_residual.ensures is in
+    start_stops k w c.args.command.now c.requires.asked
+    (IfErr-at_err _ stopped c.start.ensures.full refl k w
+    (subst (λ at. IsClientOf k w c.args.client.now c.args.course.now.sessions c.args.tuning at) (sym c.moment-now.ensures)
+    (client_of k commands w rest c.args.client.now c.args.course.now c.args.tuning shows tuned course)))

@@ -1,6 +1,7 @@
 use Rattle.std.proofs.Common.{◌+◌, subst, sym}
 use Rattle.link_script.specs.declared.command.Command.TheVariants.{Close}
 use Rattle.world_ends.proofs.OutLemmas.{on_ok_one, on_ok_two}
+use Rattle.world_turns.specs.Limits.{StopsIn}
 use Rattle.world_turns.specs.Turns.{starting}
 use Rattle.link_world.specs.Making.{WorldTurns}
 use Rattle.link_world.proofs.MakeLemmas.{client_turns, rest_is, server_turns, stands_after, taken_so}
@@ -33,3 +34,12 @@ returns-in-Read-clause-turn c =
     client_turns k commands w (starting c.args.command.now rest) c.args.server.now c.ask.new.client c.ask.new.wires c.ask.new.course
     (turn k commands w rest shown wires tuned (taken_so commands d w rest course (rest_is commands d w c.args.command.now rest course kind))) shows)
     c.ask.ensures.turn
+
+pub returns-in-Close-clause-journal : goal.returns-in-Close-clause-journal
+returns-in-Close-clause-journal c = λ is k commands w rest shows shown course tuned kind.
+    subst (λ command. StopsIn k w (starting command rest)) (sym c.in-Close.is) (c.close.ensures.journal is k w rest shows)
+
+pub returns-in-Read-clause-journal : goal.returns-in-Read-clause-journal
+returns-in-Read-clause-journal c = λ is k commands w rest shows shown course tuned kind.
+    c.ask.ensures.journal is k commands w rest shown tuned
+    (taken_so commands c.args.course.now w rest course (rest_is commands c.args.course.now w c.args.command.now rest course kind))

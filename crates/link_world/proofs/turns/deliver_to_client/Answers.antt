@@ -1,7 +1,9 @@
-use Rattle.std.proofs.Common.{subst}
-use Rattle.world_client.specs.ClientSide.{ClientHears}
+use Rattle.std.proofs.Common.{refl, subst}
+use Rattle.std.proofs.lemmas.Result.{IfErr-at_err}
+use Rattle.world_client.specs.ClientSide.{ClientHearingStops, ClientHears}
 use Rattle.link_world.proofs.MakeLemmas.{on_ok_four}
 use Rattle.link_world.proofs.ClientLemmas.{delivered_down}
+use Rattle.link_world.proofs.StopLemmas.{down_stops}
 use Rattle.link_world.proofs.turns.deliver_to_client.Goals as goal
 
 pub returns-clause-turn : goal.returns-clause-turn
@@ -14,3 +16,9 @@ returns-clause-turn c =
     c.moment-now.ensures (hears w.fed_client shows.fed))
     (fed w.fed_client shows.fed) moves)
     c.deliver.ensures.rest c.deliver.ensures.hears c.deliver.ensures.fed c.deliver.ensures.moves
+
+pub returns-clause-journal : goal.returns-clause-journal
+returns-clause-journal c = λ is k commands w rest shows course.
+    down_stops k commands w c.args.frame.now c.args.client.now c.args.course.now shows course
+    (subst (λ at. ClientHearingStops at c.args.client.now.end.serving c.args.course.now.under w.fed_client c.args.frame.now) c.moment-now.ensures
+    (IfErr-at_err _ is c.deliver.ensures.full refl w.fed_client shows.fed))

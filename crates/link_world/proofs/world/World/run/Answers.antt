@@ -1,8 +1,15 @@
-use Rattle.std.proofs.Common.{subst}
+use Rattle.std.proofs.Common.{ap, subst, ◌∙◌}
 use Rattle.std.specs.Prelude.{IfOk}
+use Rattle.demo_services.specs.DemoRule.{demo_rule}
+use Rattle.rpc_journal.specs.Lawful.{IsLegal}
+use Rattle.rpc_schedule.proofs.StreamLemmas.{handed_on}
+use Rattle.world_turns.specs.Limits.{IsPastJournal}
+use Rattle.world_turns.specs.Setup.{quiet_rule, setup_of}
+use Rattle.link_world.specs.declared.outcome.WorldRefused.TheVariants.{Journal}
 use Rattle.link_world.specs.Outcomes.{IsRunOf}
 use Rattle.link_world.specs.Running.{EndsWith, setup_by}
-use Rattle.link_world.proofs.NewLemmas.{if_ok_more, run_is}
+use Rattle.link_world.proofs.PromiseLemmas.{Runs, all_end_well, all_mean, all_run, losses_end_well}
+use Rattle.link_world.proofs.NewLemmas.{end_stopped, if_ok_more, run_is, setup_is}
 use Rattle.link_world.proofs.world.World.run.Goals as goal
 
 pub returns-clause-ok : goal.returns-clause-ok
@@ -16,3 +23,43 @@ returns-clause-ok c =
     (λ outcome ended. run_is i.script i.tuning i.server i.client i.wires c.self.invariant t.server t.client t.wires t.course outcome ends
     (ended k i.script.commands ends.comes.now ends.comes.shows))
     c.end.ensures.ends)
+
+-- the outcome is that of the run, and both its journals are legal
+runs : (c : goal.After-drop-script-7) → IfOk c.end.result (Runs c.args.self)
+runs c =
+    let i = c.self.inside in
+    let t = c.run_turns.new in
+    let k = setup_by i.server i.client i.wires i.tuning in
+    let ends = subst (λ commands. EndsWith k commands t.server t.client t.wires t.course) c.as_slice.ensures c.in_ok-run_turns.ensures.ends in
+    let shows = ends.comes.shows in
+    let setting = shows.server.setting ∙ ap (λ k. k.server) (setup_is i.script i.tuning i.server i.client i.wires c.self.invariant) in
+    all_run c.args.self c.end.result (returns-clause-ok c)
+    (subst (λ set. IfOk c.end.result (λ outcome. IsLegal demo_rule set outcome.server.entries)) (setting ∙ ap (λ script. (setup_of script).server) c.self.view_is) c.end.ensures.server)
+    (subst (λ set. IfOk c.end.result (λ outcome. IsLegal quiet_rule set outcome.client.entries)) shows.client.setting c.end.ensures.client)
+
+pub returns-clause-bytes : goal.returns-clause-bytes
+returns-clause-bytes c = λ is calm. all_mean c.args.self c.end.result is calm (runs c)
+
+pub returns-clause-lossless : goal.returns-clause-lossless
+returns-clause-lossless c = λ is. all_end_well c.args.self c.end.result is (runs c)
+
+pub returns-clause-losses : goal.returns-clause-losses
+returns-clause-losses c = λ is. losses_end_well c.args.self c.end.result is (runs c)
+
+pub returns-in_err-run_turns-clause-journal : goal.returns-in_err-run_turns-clause-journal
+returns-in_err-run_turns-clause-journal c = λ is.
+    let i = c.self.inside in
+    let stopped = handed_on c.from_residual.result c.run_turns.result c.in_err-run_turns.field-0.0 Journal c.in_err-run_turns.was c.from_residual.ensures is in
+    subst (λ script. IsPastJournal (setup_of script) script.commands) c.self.view_is
+    (subst (λ k. IsPastJournal k i.script.commands) (setup_is i.script i.tuning i.server i.client i.wires c.self.invariant)
+    (subst (λ commands. IsPastJournal (setup_by i.server i.client i.wires i.tuning) commands) c.as_slice.ensures (c.run_turns.ensures.journal stopped)))
+
+pub returns-clause-journal : goal.returns-clause-journal
+returns-clause-journal c = λ is.
+    let i = c.self.inside in
+    let t = c.run_turns.new in
+    let k = setup_by i.server i.client i.wires i.tuning in
+    let ends = subst (λ commands. EndsWith k commands t.server t.client t.wires t.course) c.as_slice.ensures c.in_ok-run_turns.ensures.ends in
+    subst (λ script. IsPastJournal (setup_of script) script.commands) c.self.view_is
+    (end_stopped i.script i.tuning i.server i.client i.wires c.self.invariant t.server t.client t.wires t.course ends
+    (c.end.ensures.journal is k i.script.commands ends.comes.now ends.comes.shows))

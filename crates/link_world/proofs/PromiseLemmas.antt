@@ -1,0 +1,53 @@
+-- What the run of a script promises of its outcome.
+use Rattle.std.proofs.Common.{◌≡◌, subst}
+use Rattle.std.specs.Prelude.{IfOk, Result, Ok, Err}
+use Rattle.demo_services.specs.DemoRule.{demo_rule}
+use Rattle.link_script.specs.declared.script.Script.{Script}
+use Rattle.rpc_journal.specs.Lawful.{IsLegal}
+use Rattle.world_turns.specs.Setup.{client_setting, quiet_rule, setup_of}
+use Rattle.world_turns.specs.Sound.{NoFlips}
+use Rattle.world_fits.specs.Scripts.{IsScript}
+use Rattle.world_fits.proofs.OfScripts.{scripts_mean_the_bytes}
+use Rattle.world_lossless.specs.Lossless.{IsLosslessScript}
+use Rattle.world_lossless.specs.Scripts.{IsOpenScript}
+use Rattle.world_lossless.proofs.Walking.{lossless_runs_end_well}
+use Rattle.world_losses.proofs.Walking.{lossy_runs_end_well}
+use Rattle.link_world.specs.declared.outcome.Outcome.{Outcome}
+use Rattle.link_world.specs.Outcomes.{AllEndWell, IsRunOf, IsRunWith, LinesHold, LossesEndWell}
+
+-- the outcome is that of a run of the script, and both its journals are legal
+pub record Runs (script : Script) (outcome : Outcome) : Type 0 where
+  pub run : IsRunOf script outcome
+  pub server : IsLegal demo_rule (setup_of script).server run.now.server
+  pub client : IsLegal quiet_rule client_setting run.now.client
+
+runs : (script : Script) (outcome : Outcome) → IsRunOf script outcome → IsLegal demo_rule (setup_of script).server outcome.server.entries
+    → IsLegal quiet_rule client_setting outcome.client.entries → Runs script outcome
+runs script outcome run server client = record {
+  run = run;
+  server = subst (IsLegal demo_rule (setup_of script).server) run.server server;
+  client = subst (IsLegal quiet_rule client_setting) run.client client;
+}
+
+pub all_run : {E : Type 0} (script : Script) (result : Result Outcome E) → IfOk result (IsRunOf script)
+    → IfOk result (λ outcome. IsLegal demo_rule (setup_of script).server outcome.server.entries) → IfOk result (λ outcome. IsLegal quiet_rule client_setting outcome.client.entries)
+    → IfOk result (Runs script)
+all_run script (Ok outcome) run server client = runs script outcome run server client
+all_run script (Err e) run server client = tt
+
+pub all_mean : {E : Type 0} (script : Script) (result : Result Outcome E) → IsScript script → NoFlips script.losses → IfOk result (Runs script)
+    → IfOk result (IsRunWith LinesHold script)
+all_mean script (Ok outcome) is calm r = record { run = r.run; holds = scripts_mean_the_bytes script r.run.now is calm r.run.run r.server r.client }
+all_mean script (Err e) is calm r = tt
+
+pub all_end_well : {E : Type 0} (script : Script) (result : Result Outcome E) → IsLosslessScript script → IfOk result (Runs script)
+    → IfOk result (IsRunWith AllEndWell script)
+all_end_well script (Ok outcome) is r =
+    record { run = r.run; holds = λ number command there. lossless_runs_end_well script r.run.now number command is r.run.run r.server r.client there }
+all_end_well script (Err e) is r = tt
+
+pub losses_end_well : {E : Type 0} (script : Script) (result : Result Outcome E) → IsOpenScript script → IfOk result (Runs script)
+    → IfOk result (IsRunWith LossesEndWell script)
+losses_end_well script (Ok outcome) is r =
+    record { run = r.run; holds = λ drops number command there. lossy_runs_end_well script r.run.now number command is drops r.run.run r.server r.client there }
+losses_end_well script (Err e) is r = tt
