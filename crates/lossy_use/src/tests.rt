@@ -1,0 +1,50 @@
+//! Scripts of one transfer, and of several where an older one still speaks.
+
+mod again;
+mod damage;
+mod drops;
+mod lossless;
+
+use link_script::{Report, ReportLine};
+use link_world::World;
+use rpc_ids::Status;
+use script_text::read_script;
+use std::alloc::{AllocError, Global};
+
+/// What is told of the run of a script's text, where it is a script and meets no limit.
+fn told(alloc: Global, text: &str) -> Result<Option<Report>, AllocError> {
+    let Ok(script) = read_script(alloc, text.as_bytes())? else {
+        return Ok(None);
+    };
+    match World::new(alloc, script)?.run() {
+        Ok(outcome) => Ok(Some(outcome.report)),
+        Err(_) => Ok(None),
+    }
+}
+
+/// Whether the script's one transfer, of resource 7, ended OK, and made it so long.
+fn is_whole(report: &Report, size: u64) -> bool {
+    match report.lines.as_slice() {
+        [
+            ReportLine::Read {
+                resource: 7,
+                status: Status::Okay,
+                length,
+                ..
+            }
+            | ReportLine::Write {
+                resource: 7,
+                status: Status::Okay,
+                length,
+                ..
+            },
+        ] => *length == size,
+        _ => false,
+    }
+}
+
+/// Whether the transfer of a script ends OK with all bytes.
+fn ends_whole(alloc: Global, script: &str, size: u64) -> Result<bool, AllocError> {
+    let report = told(alloc, script)?;
+    Ok(report.is_some_and(|report| is_whole(&report, size)))
+}

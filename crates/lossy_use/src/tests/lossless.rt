@@ -1,0 +1,114 @@
+//! Over a link that loses nothing each transfer whose resource is there and whose offset fits ends OK, within its number of chunks.
+
+use super::{is_whole, told};
+use std::alloc::{AllocError, Global};
+use std::test::Fail;
+
+/// The sizes of a chunk in bytes.
+const CHUNKS: [u64; 4] = [1, 16, 100, 256];
+
+/// The first windows, in chunks.
+const WINDOWS: [u64; 3] = [1, 4, 64];
+
+/// How many chunks a resource has, but for a byte.
+const MULTIPLES: [u64; 3] = [1, 3, 9];
+
+/// A transfer of a resource of so many bytes, from an offset on.
+#[derive(Drop)]
+struct Row {
+    chunk: u64,
+    window: u64,
+    size: u64,
+    offset: u64,
+}
+
+// The lengths of resources that are a multiple of a chunk, or one byte beside it.
+fn sizes(alloc: Global, chunk: u64) -> Result<Vec<u64>, AllocError> {
+    let mut sizes = Vec::new(alloc);
+    for multiple in MULTIPLES {
+        let size = multiple.saturating_mul(chunk);
+        for size in [size.saturating_sub(1), size, size.saturating_add(1)] {
+            sizes.push(size)?;
+        }
+    }
+    Ok(sizes)
+}
+
+// Each length with each chunk and window, from its first byte, from its middle and at its end.
+fn rows(alloc: Global) -> Result<Vec<Row>, AllocError> {
+    let mut rows = Vec::new(alloc);
+    for chunk in CHUNKS {
+        for window in WINDOWS {
+            for size in sizes(alloc, chunk)? {
+                for offset in [0, size / 2, size] {
+                    rows.push(Row {
+                        chunk,
+                        window,
+                        size,
+                        offset,
+                    })?;
+                }
+            }
+        }
+    }
+    Ok(rows)
+}
+
+// How many chunks the rest of a resource needs, and how many frames carry one at most.
+fn most_chunks(row: &Row) -> u64 {
+    let rest = row.size.saturating_sub(row.offset);
+    let need = rest.div_ceil(row.chunk.max(1)).max(1);
+    let twice = need.saturating_mul(2).saturating_add(6);
+    let wide = need.saturating_add(need / 32).saturating_add(11);
+    twice.min(wide)
+}
+
+// Whether the transfer of a script ends OK and each of its frames is delivered, with no more chunks than promised.
+fn keeps_promise(alloc: Global, row: &Row, script: &str) -> Result<bool, AllocError> {
+    let Some(report) = told(alloc, script)? else {
+        return Ok(false);
+    };
+    Ok(
+        is_whole(&report, row.size)
+            && report.delivered == report.frames
+            && report.chunks <= most_chunks(row),
+    )
+}
+
+#[test]
+fn each_read_ends_well(rt: HostRuntime) -> Result<(), Fail> {
+    let alloc = rt.alloc();
+    let rows = rows(alloc)?;
+    assert_eq!(rt; rows.len(), 324);
+    for row in &rows {
+        let Row {
+            chunk,
+            window,
+            size,
+            offset,
+        } = row;
+        let script = format!(in alloc;
+            "chunk {chunk}\nwindow {window}\nserver 7 {size} 1\nleft client 7 {size} 1\nread 7 {offset}\n"
+        )?;
+        assert!(rt; keeps_promise(alloc, row, script.as_str())?, "{script}");
+    }
+    Ok(())
+}
+
+#[test]
+fn each_write_ends_well(rt: HostRuntime) -> Result<(), Fail> {
+    let alloc = rt.alloc();
+    for row in &rows(alloc)? {
+        let Row {
+            chunk,
+            window,
+            size,
+            offset,
+        } = row;
+        let script = format!(in alloc;
+            "chunk {chunk}\nwindow {window}\nclient 7 {size} 1\nleft server 7 {size} 1\nwrite 7 {offset}\n"
+        )?;
+        assert!(rt; keeps_promise(alloc, row, script.as_str())?, "{script}");
+    }
+    Ok(())
+}
