@@ -107,8 +107,8 @@ module _ {T : Type 0} (polls : T → Visit → T → Type 0) (task : T) where
     alone = λ key there. sym (eqb-true 0 key (sym (or-false (0 == key)) ∙ (stands.is_added key ∙ there)));
   }
 
-  pub told_new : (tasks : Tasks T) (ear : Heard) → StandsFor tasks (added 0 task ∷ []) → ear.looks ≡ [] → Tells polls task tasks ear true 0 0 None [] [] None
-  told_new tasks ear stands new = record {
+  pub told_new : (tasks : Tasks T) (ear : Heard) → StandsFor tasks (added 0 task ∷ []) → ear.looks ≡ [] → (start upto : ℕ) → Tells polls task tasks ear true start upto None [] [] None
+  told_new tasks ear stands new start upto = record {
     told = record {
       log = added 0 task ∷ [];
       stands = stands;

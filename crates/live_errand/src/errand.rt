@@ -24,6 +24,12 @@ pub trait Errand {
     /// The moment that it knows.
     ghost moment: { Self → ℕ };
 
+    /// What it was made for, which stays.
+    ghost Origin: { Type 0 };
+
+    /// The same, of this one.
+    ghost origin: { Self → Origin };
+
     /// Whether it takes further events.
     ghost listens: { Self → Bool };
 
@@ -47,6 +53,7 @@ pub trait Errand {
         ensures kept { OnErr result ((all : Bool) (start upto : ℕ) (cut : Option End) (events : List Heard) (outs : List Said) (ended : Option End) → did self.old all start upto cut events outs ended → did self.new all start upto cut events outs ended) }
         ensures uncut { OnErr result (cuts self.old ≡ false → cuts self.new ≡ false) }
         ensures moment { moment self.new ≡ moment self.old }
+        ensures origin { origin self.new ≡ origin self.old }
         ensures fits { (tower : Tower) → fits self.old tower → fits self.new tower };
 
     /// It goes on at a moment, as far as it can.
@@ -58,6 +65,7 @@ pub trait Errand {
         ensures did { (all : Bool) (start upto : ℕ) (cut : Option End) (events : List Heard) (outs : List Said) (ended : Option End) → start ≤ now → upto ≤ now → did self.old all start upto cut events outs ended
             → (next : Option End) × did self.new false start now cut events outs next }
         ensures moment { moment self.new ≡ now }
+        ensures origin { origin self.new ≡ origin self.old }
         ensures uncut { cuts self.old ≡ false → cuts self.new ≡ false }
         ensures fits { fits self.new bells.now };
 
@@ -69,6 +77,7 @@ pub trait Errand {
         ensures none { IfNone result ((all : Bool) (start upto : ℕ) (cut : Option End) (events : List Heard) (outs : List Said) (ended : Option End) → did self.old all start upto cut events outs ended → did self.new true start upto cut events outs ended) }
         ensures speaks { IfSome result (λ _. watches ≡ false) }
         ensures moment { moment self.new ≡ moment self.old }
+        ensures origin { origin self.new ≡ origin self.old }
         ensures uncut { cuts self.new ≡ cuts self.old }
         ensures fits { (tower : Tower) → fits self.old tower → fits self.new tower };
 
@@ -87,6 +96,7 @@ pub trait Errand {
         ensures did { cuts self.old ≡ true → (all : Bool) (start upto : ℕ) (before : Option End) (events : List Heard) (outs : List Said) (ended : Option End) → did self.old all start upto before events outs ended → (next : Option End) × did self.new all start upto (Some status) events outs next }
         ensures uncut { cuts self.new ≡ false }
         ensures moment { moment self.new ≡ moment self.old }
+        ensures origin { origin self.new ≡ origin self.old }
         ensures fits { (tower : Tower) → fits self.old tower → fits self.new tower };
 
     /// How it ended, if it did.

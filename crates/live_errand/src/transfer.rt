@@ -1,7 +1,7 @@
 //! A task that speaks through a call.
-ghost use Rattle.std.specs.Prelude.{◌≡◌, [], None, true, map, IfOk, OnOk, OnErr};
-ghost use Rattle.task_core.specs.Log.{posted};
-ghost use Rattle.task_core.specs.Tasks.{AddsNothing, Keeps};
+ghost use Rattle.std.specs.Prelude.{◌≡◌, ℕ, List, [], None, Some, true, map, IfOk, OnOk, OnErr};
+ghost use Rattle.task_core.specs.Log.{Step, posted, task_of};
+ghost use Rattle.task_core.specs.Tasks.{AddsNothing, Keeps, StandsFor};
 ghost use Rattle.live_errand.specs.Tasks.{mail_of};
 ghost use Rattle.live_errand.specs.Telling.{AllAdd, HasWord, IsAlone, Tells, told_weaker};
 
@@ -36,7 +36,7 @@ impl<T: Task + Drop> TaskErrand<T> {
         ensures ear { IfOk result (λ e. e.ear ≡ ear) }
         ensures moment { IfOk result (λ e. e.tasks.moment ≡ 0) }
         ensures there { IfOk result (λ e. IsAlone e.tasks) }
-        ensures told { IfOk result (λ e. Tells T.polls task e.tasks ear true 0 0 None [] [] None) }
+        ensures told { IfOk result (λ e. (start upto : ℕ) → Tells T.polls task e.tasks ear true start upto None [] [] None) }
     {
         let first = Snapshot::of(&task);
         let mut tasks = Dispatcher::new(alloc)?;
@@ -49,6 +49,7 @@ impl<T: Task + Drop> TaskErrand<T> {
     /// The task as its last poll left it.
     pub fn task(&self) -> &T
         requires { IsAlone self.now.tasks }
+        ensures { (log : List (Step T)) → StandsFor self.now.tasks log → task_of log 0 ≡ Some result.now }
     {
         self.tasks.task(KEY)
     }
@@ -79,6 +80,10 @@ impl<T: Task + Drop> Errand for TaskErrand<T> {
     ghost fits = { λ x tower. HasWord x.ear tower };
 
     ghost moment = { λ x. x.tasks.moment };
+
+    ghost Origin = { T };
+
+    ghost origin = { λ x. x.first.value };
 
     ghost listens = { λ _. true };
 

@@ -49,7 +49,7 @@ impl WatchErrand {
 }
 
 impl Errand for WatchErrand {
-    ghost use Rattle.std.specs.Prelude.{true};
+    ghost use Rattle.std.specs.Prelude.{ℕ, true};
 
     ghost watches = { true };
 
@@ -58,6 +58,10 @@ impl Errand for WatchErrand {
     ghost fits = { λ _ _. Unit {0} };
 
     ghost moment = { λ w. w.moment };
+
+    ghost Origin = { ℕ };
+
+    ghost origin = { λ w. w.limit };
 
     ghost listens = { takes_more };
 

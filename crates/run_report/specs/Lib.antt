@@ -3,6 +3,7 @@ pub mod CrewReport
 pub mod Items
 pub mod ItemsByCall
 pub mod Lines
+pub mod LiveReport
 pub mod Load
 pub mod Report
 pub mod Uploads

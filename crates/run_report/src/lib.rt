@@ -2,7 +2,8 @@
 //!
 //! Each is made whole from what the run left: the counts of the stream, the table of calls, and the items that went out.
 //! `report_text` tells all of it in order, `crew_text` tells the items call by call, and `connection_text` leaves them out.
-//! `frame_bytes` gives the frames alone, as they stand on the link, and `load_text` the totals of a generated stream.
+//! `frame_bytes` gives the frames alone, as they stand on the link, `load_text` the totals of a generated stream, and `live_text` what
+//! came of a client's call.
 //! Nothing here writes to a device.
 #![tactic(auto)]
 
@@ -11,6 +12,7 @@ mod crew_report;
 mod items;
 mod items_by_call;
 mod lines;
+mod live_report;
 mod load;
 mod report;
 mod totals;
@@ -19,6 +21,7 @@ mod uploads;
 pub use connection_report::connection_text;
 pub use crew_report::crew_text;
 pub use items::frame_bytes;
+pub use live_report::{LiveLine, live_line, live_text};
 pub use load::load_text;
 pub use report::{last_line, report_text};
 

@@ -4,15 +4,15 @@ ghost use Rattle.rpc_ids.specs.declared.method.Role.TheVariants.{Server};
 
 mod by_calls;
 
-use crate::{frame_bytes, load_text, report_text};
+use crate::{LiveLine, frame_bytes, live_line, live_text, load_text, report_text};
 use bytes::Bytes;
 use demo_services::{DemoCall, DemoMaker, demo_registry};
-use link_io::{Fulls, Lefts, Shelf};
+use link_io::{Fulls, Lefts, Shelf, Why};
 use rpc_calls::Calls;
 use rpc_channel::Channels;
 use rpc_frames::Counts;
 use rpc_handlers::{Handler, Maker, Out};
-use rpc_ids::Role;
+use rpc_ids::{Role, Status};
 use rpc_journal::{Act, Item};
 use rpc_packet::{CallName, Packet, PacketType};
 use rpc_schedule::Ending;
@@ -330,5 +330,41 @@ fn a_load_is_told_in_four_lines(rt: HostRuntime) -> Result<(), Fail> {
         text.as_str(),
         "load 3 18446744073709551615\ncalls 3\npackets 3\npayload 5\n"
     );
+    Ok(())
+}
+
+#[test]
+fn a_client_is_told_by_what_it_was_asked(rt: HostRuntime) -> Result<(), Fail> {
+    let alloc = rt.alloc();
+    let read = LiveLine::Get {
+        resource: 7,
+        from: 3,
+        status: Status::Okay,
+        length: 1_000,
+    };
+    let sent = LiveLine::Put {
+        resource: 8,
+        from: 0,
+        status: Status::NotFound,
+        length: 0,
+    };
+    let watched = LiveLine::Watch {
+        status: Status::Cancelled,
+        messages: 64,
+    };
+    let rows = [
+        (Some(read), Why::Settled, "get 7 3 OK 1000\ndone\n"),
+        (
+            Some(watched),
+            Why::Source,
+            "watch CANCELLED 64\nsource fault\n",
+        ),
+        (None, Why::Sink, "sink fault\n"),
+        (None, Why::Memory, ""),
+    ];
+    for (told, why, text) in rows {
+        assert_eq!(rt; live_text(alloc, told, why)?.as_str(), text);
+    }
+    assert_eq!(rt; live_line(alloc, sent)?.as_str(), "put 8 0 NOT_FOUND 0\n");
     Ok(())
 }

@@ -1,0 +1,15 @@
+pub mod AskLemmas
+pub mod ClientEntries
+pub mod DriveLemmas
+pub mod FeedLemmas
+pub mod LengthLemmas
+pub mod OpenLemmas
+pub mod RunLemmas
+pub mod StepsOf
+pub mod TableLemmas
+pub mod TalkLemmas
+pub mod WholeLemmas
+pub mod WholeLive
+pub mod WholeReplies
+pub mod WorkLemmas
+pub mod WriteLemmas

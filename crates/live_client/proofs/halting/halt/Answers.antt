@@ -1,0 +1,15 @@
+use Rattle.rpc_crew.proofs.StepLemmas.{can_halt, halt_adds, halt_halted, halt_mine}
+use Rattle.live_client.specs.Silent.{silent_rule}
+use Rattle.live_client.proofs.halting.halt.Goals as goal
+
+pub halt-requires-clause-can : goal.halt-requires-clause-can
+halt-requires-clause-can g c = can_halt c.args.why c.requires.why
+
+pub returns-clause-adds : goal.returns-clause-adds
+returns-clause-adds g c = halt_adds silent_rule c.args.table.now c.args.pass.now c.halt.new.pass c.args.why c.halt.ensures.did c.requires.full
+
+pub returns-clause-mine : goal.returns-clause-mine
+returns-clause-mine g c = halt_mine silent_rule c.args.table.now c.args.pass.now c.halt.new.pass c.args.why c.halt.ensures.did
+
+pub returns-clause-halted : goal.returns-clause-halted
+returns-clause-halted g c = halt_halted silent_rule c.args.table.now c.args.pass.now c.halt.new.pass c.args.why c.halt.ensures.did

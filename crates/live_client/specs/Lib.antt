@@ -1,0 +1,11 @@
+pub mod Asks
+pub mod Driving
+pub mod Feeding
+pub mod Histories
+pub mod Lengths
+pub mod Live
+pub mod Opening
+pub mod Ran
+pub mod Silent
+pub mod Told
+pub mod Waking

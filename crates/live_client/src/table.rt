@@ -1,0 +1,157 @@
+//! The table of a live client: one channel, three methods, and two passes.
+ghost use Rattle.std.specs.Prelude.{◌≡◌, ◌≤◌, ◌++◌, [], ◌∷◌, true, false, is_none, IfOk, OnOk, IsNone, vec_len, vec_capacity};
+ghost use Rattle.turn_cell.specs.Passes.{AreAll, IsNew};
+ghost use Rattle.rpc_ids.specs.Names.{name_id};
+ghost use Rattle.rpc_ids.specs.Registry.{method_of};
+ghost use Rattle.rpc_crew.specs.Reasons.{reason_of};
+ghost use Rattle.live_client.specs.Asks.{live_methods, live_setting};
+
+use crate::halting::{Seat, Table};
+use crate::silent::Silent;
+use demo_services::ids::ids_are_of_names;
+use link_io::{Ending, Why};
+use rpc_calls::Calls;
+use rpc_channel::Channels;
+use rpc_handlers::{Maker, Nobody};
+use rpc_ids::{AddRefused, Kind, Registry, Role};
+use rpc_shared::Shared;
+use std::alloc::{AllocError, Global};
+
+/// The passes of the table: pass 0 feeds the input, and pass 1 drives the call.
+#[derive(Drop)]
+pub(crate) struct Seats {
+    pub reader: Seat,
+    pub driver: Seat,
+    /// Where they come together again.
+    pub room: Vec<Seat>,
+}
+
+/// The table, and its passes.
+pub(crate) fn new_table(
+    alloc: Global,
+    maker: &Nobody<Silent>,
+) -> Result<(Table, Vec<Seat>), AllocError>
+    ensures turn { IfOk result (λ made. (made.0.count ≡ 2) × (made.0.base ≡ live_setting)) }
+    ensures passes { IfOk result (λ made. AreAll made.0 (IsNew made.0) made.1.items) }
+{
+    let calls = new_calls(alloc, maker)?;
+    match Shared::with(alloc, calls, 2) {
+        Ok(made) => Ok(made),
+        Err(_) => Err(AllocError),
+    }
+}
+
+// A table of calls without an entry.
+fn new_calls(alloc: Global, maker: &Nobody<Silent>) -> Result<Calls<Silent>, AllocError>
+    ensures setting { IfOk result (λ calls. calls.setting ≡ live_setting) }
+    ensures entries { IfOk result (λ calls. calls.entries ≡ []) }
+{
+    let channels = live_channels(alloc)?;
+    let registry = live_registry(alloc)?;
+    let seed = maker.seed()?;
+    Calls::new(alloc, Role::Client, channels, registry, seed)
+}
+
+fn live_channels(alloc: Global) -> Result<Channels, AllocError>
+    ensures { IfOk result (λ channels. channels ≡ 1 ∷ []) }
+{
+    let mut channels = Channels::new(alloc);
+    match channels.add(1) {
+        Ok(()) => Ok(channels),
+        Err(_) => Err(AllocError),
+    }
+}
+
+#[tactic(auto, unfolding(rpc_ids::specs::Names::name_id))]
+fn live_registry(alloc: Global) -> Result<Registry, AllocError>
+    ensures { IfOk result (λ registry. registry ≡ live_methods) }
+{
+    ids_are_of_names();
+    let mut registry = Registry::new(alloc);
+    add(
+        &mut registry,
+        b"demo.Demo",
+        b"Count",
+        Kind::ServerStream,
+        false,
+    )?;
+    add(
+        &mut registry,
+        b"pw.transfer.Transfer",
+        b"Read",
+        Kind::Bidi,
+        true,
+    )?;
+    add(
+        &mut registry,
+        b"pw.transfer.Transfer",
+        b"Write",
+        Kind::Bidi,
+        true,
+    )?;
+    Ok(registry)
+}
+
+// Adds a method, which isn't in yet.
+fn add(
+    registry: &mut Registry,
+    service: &[u8],
+    method: &[u8],
+    kind: Kind,
+    ticks: bool,
+) -> Result<(), AllocError>
+    requires { IsNone (method_of registry.old (name_id service.now) (name_id method.now)) }
+    ensures { OnOk result (registry.new ≡ registry.old ++ record { service = name_id service.now; method = name_id method.now; kind = kind; ticks = ticks } ∷ []) }
+{
+    match registry.add(service, method, kind, ticks) {
+        Ok(_) => Ok(()),
+        Err(AddRefused::Memory) => Err(AllocError),
+        Err(AddRefused::Clash) => unreachable!(),
+    }
+}
+
+/// Takes both passes apart.
+pub(crate) fn apart(mut passes: Vec<Seat>) -> Seats
+    requires { vec_len passes ≡ 2 }
+    ensures parts { passes.items ≡ result.reader ∷ result.driver ∷ [] }
+    ensures room { (result.room.items ≡ []) × (2 ≤ vec_capacity result.room) }
+{
+    let driver = passes.remove(1);
+    let reader = passes.remove(0);
+    Seats {
+        reader,
+        driver,
+        room: passes,
+    }
+}
+
+/// Both passes again, in the order of their numbers.
+pub(crate) fn together(seats: Seats) -> Vec<Seat>
+    requires { (seats.room.items ≡ []) × (2 ≤ vec_capacity seats.room) }
+    ensures { result.items ≡ seats.reader ∷ seats.driver ∷ [] }
+{
+    let Seats {
+        reader,
+        driver,
+        mut room,
+    } = seats;
+    room.push_reserved(reader);
+    room.push_reserved(driver);
+    room
+}
+
+/// Why a live client ended: for the reason of the halt, else as the reading ended.
+pub(crate) fn why_of(halted: Option<Why>, ending: Option<Ending>) -> Why
+    requires { is_none halted ≡ true → is_none ending ≡ false }
+    ensures { result ≡ reason_of halted ending }
+{
+    if let Some(why) = halted {
+        return why;
+    }
+    match ending {
+        Some(Ending::AtEnd) => Why::Settled,
+        Some(Ending::AtLimit) => Why::InputLimit,
+        Some(Ending::Failed) => Why::Source,
+        None => unreachable!(),
+    }
+}

@@ -1,0 +1,158 @@
+//! A transfer: a resource is fetched, or sent.
+ghost use Rattle.std.specs.Prelude.{◌≡◌, ◌≤◌, [], true, false, length, is_some, IfOk, OnErr};
+ghost use Rattle.rpc_journal.specs.Lawful.{has_zero};
+ghost use Rattle.rpc_crew.specs.Sessions.{is_halted};
+ghost use Rattle.live_errand.specs.Telling.{IsAlone, Tells};
+ghost use Rattle.live_client.specs.declared.ask.LiveAsk.TheVariants.{Get, Put};
+ghost use Rattle.live_client.specs.Asks.{live_name, live_setting, opens};
+ghost use Rattle.live_client.specs.Live.{AskRan};
+ghost use Rattle.live_client.specs.Ran.{HasRun};
+ghost use Rattle.live_client.specs.Told.{HasTold};
+
+use crate::ask::Live;
+use crate::length::{committed, put_length};
+use crate::running::{Run, run_live};
+use crate::wakes::Wakes;
+use bytes::Bytes;
+use demo_services::ids::{READ, TRANSFER, WRITE};
+use link_io::{Clock, Sink, Source, Store};
+use live_errand::{Errand, TaskErrand};
+use std::alloc::{AllocError, Global};
+use std::sync::Wait;
+use std::thread::Threads;
+use task_core::Task;
+use transfer_base::{MAX_RESOURCE, Tuning};
+use transfer_client::{ReadTask, WriteTask};
+
+// A transfer has one session.
+const SESSION: u32 = 1;
+
+// What a fetch asks for: windows of four chunks.
+const TUNING: Tuning = Tuning {
+    window: 4,
+    chunk: 256,
+};
+
+// A transfer that ran: what its table did, and its task.
+#[derive(Drop)]
+struct Moved<T: Task + Drop> {
+    run: Run,
+    errand: TaskErrand<T>,
+}
+
+// Runs a task that transfers, in the call of this method.
+fn transfer<
+    R: Threads + Wait + Sync,
+    T: Task + Drop,
+    I: Source + Send,
+    O: Sink,
+    S: Store,
+    C: Clock,
+>(
+    rt: &R,
+    alloc: Global,
+    link_in: &mut I,
+    link_out: &mut O,
+    store: &mut S,
+    clock: &mut C,
+    task: T,
+    method: u32,
+) -> Result<Moved<T>, AllocError>
+    requires open { O.finished link_out.old ≡ false }
+    requires named { has_zero (live_name TRANSFER method) ≡ false }
+    ensures ran { IfOk result (λ m. HasRun false (opens TRANSFER method []) (I.left link_in.old) (I.left link_in.new) (O.written link_out.old) (O.written link_out.new) (S.holds store.old) (S.holds store.new) (I.faults link_in.old) (I.faults link_in.new) (O.faults link_out.old) (O.faults link_out.new) (S.faults store.old) (S.faults store.new) m.run.why m.run.read m.run.journal.entries) }
+    ensures told { IfOk result (λ m. HasTold (λ all. Tells T.polls task m.errand.tasks m.errand.ear all (C.last clock.old) (C.last clock.new)) m.run.journal.entries) }
+    ensures ready { IfOk result (λ m. IsAlone m.errand.tasks) }
+    ensures first { IfOk result (λ m. m.errand.first.value ≡ task) }
+    ensures later { (I.faults link_in.old ≤ I.faults link_in.new) × (O.faults link_out.old ≤ O.faults link_out.new) × (S.faults store.old ≤ S.faults store.new) }
+    ensures clock { C.last clock.old ≤ C.last clock.new }
+    ensures untouched { OnErr result ((link_in.new ≡ link_in.old) × (link_out.new ≡ link_out.old) × (store.new ≡ store.old) × (clock.new ≡ clock.old)) }
+{
+    let (wakes, ear, mut bell) = Wakes::with(alloc)?;
+    let mut errand = TaskErrand::new(alloc, task, ear)?;
+    let run = run_live(
+        rt,
+        alloc,
+        link_in,
+        link_out,
+        store,
+        clock,
+        &mut errand,
+        &wakes,
+        &mut bell,
+        TRANSFER,
+        method,
+        Bytes::new(),
+    )?;
+    Ok(Moved { run, errand })
+}
+
+/// Fetches a resource.
+pub(crate) fn get<R: Threads + Wait + Sync, I: Source + Send, O: Sink, S: Store, C: Clock>(
+    rt: &R,
+    alloc: Global,
+    link_in: &mut I,
+    link_out: &mut O,
+    store: &mut S,
+    clock: &mut C,
+    resource: u32,
+    offset: u64,
+) -> Result<Live, AllocError>
+    requires offset { offset ≤ MAX_RESOURCE }
+    requires open { O.finished link_out.old ≡ false }
+    ensures ran { IfOk result (λ l. HasRun false (opens TRANSFER READ []) (I.left link_in.old) (I.left link_in.new) (O.written link_out.old) (O.written link_out.new) (S.holds store.old) (S.holds store.new) (I.faults link_in.old) (I.faults link_in.new) (O.faults link_out.old) (O.faults link_out.new) (S.faults store.old) (S.faults store.new) l.why l.read l.journal.entries) }
+    ensures asked { IfOk result (λ l. AskRan (Get resource offset) (C.last clock.old) (C.last clock.new) l) }
+    ensures ended { IfOk result (λ l. is_halted live_setting l.journal.entries ≡ false → is_some l.ended ≡ true) }
+    ensures later { (I.faults link_in.old ≤ I.faults link_in.new) × (O.faults link_out.old ≤ O.faults link_out.new) × (S.faults store.old ≤ S.faults store.new) }
+    ensures clock { C.last clock.old ≤ C.last clock.new }
+    ensures untouched { OnErr result ((link_in.new ≡ link_in.old) × (link_out.new ≡ link_out.old) × (store.new ≡ store.old) × (clock.new ≡ clock.old)) }
+{
+    let task = ReadTask::new(alloc, SESSION, resource, offset, TUNING);
+    let Moved { run, errand } = transfer(rt, alloc, link_in, link_out, store, clock, task, READ)?;
+    Ok(Live {
+        ended: errand.end(),
+        from: errand.task().offset(),
+        length: committed(&run.journal),
+        messages: 0,
+        why: run.why,
+        read: run.read,
+        journal: run.journal,
+    })
+}
+
+/// Sends a resource.
+pub(crate) fn put<R: Threads + Wait + Sync, I: Source + Send, O: Sink, S: Store, C: Clock>(
+    rt: &R,
+    alloc: Global,
+    link_in: &mut I,
+    link_out: &mut O,
+    store: &mut S,
+    clock: &mut C,
+    resource: u32,
+    offset: u64,
+    bytes: Bytes,
+) -> Result<Live, AllocError>
+    requires offset { offset ≤ length bytes }
+    requires size { length bytes ≤ MAX_RESOURCE }
+    requires open { O.finished link_out.old ≡ false }
+    ensures ran { IfOk result (λ l. HasRun false (opens TRANSFER WRITE []) (I.left link_in.old) (I.left link_in.new) (O.written link_out.old) (O.written link_out.new) (S.holds store.old) (S.holds store.new) (I.faults link_in.old) (I.faults link_in.new) (O.faults link_out.old) (O.faults link_out.new) (S.faults store.old) (S.faults store.new) l.why l.read l.journal.entries) }
+    ensures asked { IfOk result (λ l. AskRan (Put resource offset bytes) (C.last clock.old) (C.last clock.new) l) }
+    ensures ended { IfOk result (λ l. is_halted live_setting l.journal.entries ≡ false → is_some l.ended ≡ true) }
+    ensures later { (I.faults link_in.old ≤ I.faults link_in.new) × (O.faults link_out.old ≤ O.faults link_out.new) × (S.faults store.old ≤ S.faults store.new) }
+    ensures clock { C.last clock.old ≤ C.last clock.new }
+    ensures untouched { OnErr result ((link_in.new ≡ link_in.old) × (link_out.new ≡ link_out.old) × (store.new ≡ store.old) × (clock.new ≡ clock.old)) }
+{
+    let whole = bytes.len() as u64;
+    let task = WriteTask::new(alloc, SESSION, resource, bytes, offset);
+    let Moved { run, errand } = transfer(rt, alloc, link_in, link_out, store, clock, task, WRITE)?;
+    let ended = errand.end();
+    Ok(Live {
+        ended,
+        from: errand.task().offset(),
+        length: put_length(whole, ended),
+        messages: 0,
+        why: run.why,
+        read: run.read,
+        journal: run.journal,
+    })
+}

@@ -1,0 +1,40 @@
+//! What the reader wakes the driver by.
+ghost use Rattle.std.specs.Prelude.{◌≡◌, ◌∷◌, [], IfOk};
+ghost use Rattle.live_errand.specs.Telling.{HasWord};
+ghost use Rattle.live_client.specs.Waking.{CanRing};
+
+use crate::signal::Signals;
+use std::alloc::{AllocError, Global};
+use wake_bells::{Bell, Bells, Ear};
+
+/// The word of the driver's task, which the reader's bell rings, and the signals of the threads.
+#[derive(Drop)]
+pub(crate) struct Wakes {
+    pub bells: Bells,
+    pub signals: Signals,
+}
+
+impl Wakes {
+    /// The word of one task, with its ear and the one bell.
+    pub fn with(alloc: Global) -> Result<(Wakes, Ear, Bell), AllocError>
+        ensures bell { IfOk result (λ made. CanRing made.0.bells made.2) }
+        ensures ear { IfOk result (λ made. HasWord made.1 made.0.bells) }
+        ensures new { IfOk result (λ made. made.1.looks ≡ []) }
+    {
+        let (bells, ear, mut ringers) = Bells::with(alloc, 1, 1)?;
+        let Some(bell) = ringers.pop() else {
+            unreachable!()
+        };
+        let signals = Signals::new();
+        Ok((Wakes { bells, signals }, ear, bell))
+    }
+
+    /// Rings for the one task, and for the driver that polls it.
+    pub fn call(&self, bell: &mut Bell)
+        requires { CanRing self.now.bells bell.old }
+        ensures { bell.new.table ≡ bell.old.table }
+    {
+        self.bells.ring(bell, 0);
+        self.signals.driver.ring();
+    }
+}
