@@ -1,4 +1,5 @@
 mod ChannelLemmas
+mod ClientLemmas
 mod CrewLemmas
 mod DemoSizes
 mod FullLemmas

@@ -1,15 +1,45 @@
 -- What is told of the run of a script.
-use Rattle.std.proofs.Common.{◌≡◌, List, ℕ, sym, subst}
+use Rattle.std.proofs.Common.{◌≡◌, List, ℕ, refl, subst, sym}
+use Rattle.link_script.specs.declared.command.Command.{Command}
 use Rattle.link_script.specs.declared.script.Script.{Script}
 use Rattle.link_world.specs.declared.outcome.Outcome.{Outcome}
-use Rattle.link_world.specs.Outcomes.{IsRunOf}
+use Rattle.link_world.specs.Outcomes.{AllEndWell, IsRunOf, IsRunWith, LinesHold, LossesEndWell}
 use Rattle.script_text.specs.Report.{report_text}
+use Rattle.world_fits.specs.Scripts.{IsScript}
+use Rattle.world_laws.proofs.OneRun.{runs_are_one}
+use Rattle.world_lossless.specs.Lossless.{IsLosslessScript}
+use Rattle.world_lossless.specs.Scripts.{IsOpenScript}
+use Rattle.world_turns.specs.Setup.{setup_of}
+use Rattle.world_turns.specs.Sound.{NoFlips}
+use Rattle.world_turns.specs.World.{Setup, World}
 use Rattle.pw_run.specs.declared.told.Found.{Found}
 use Rattle.pw_run.specs.declared.told.Found.TheVariants.{Good}
-use Rattle.pw_run.specs.Link.{TellsRun}
+use Rattle.pw_run.specs.Link.{TellsReport, TellsRun}
 
-pub ran : (script read : Script) (outcome : Outcome) (told : List ℕ) (found : Found) → read ≡ script → IsRunOf read outcome → told ≡ report_text outcome.report
+-- a script has one run, so what holds of one holds of that whose report is told
+of_one : (Holds : Setup → List Command → World → Type 0) (script : Script) (outcome : Outcome) (run : IsRunOf script outcome) → IsRunWith Holds script outcome
+    → Holds (setup_of script) script.commands run.now
+of_one Holds script outcome run it =
+    subst (Holds (setup_of script) script.commands) (runs_are_one (setup_of script) script.commands it.run.now run.now refl it.run.run run.run) it.holds
+
+-- what a run of this script promises of its outcome
+pub record Promises (script : Script) (outcome : Outcome) : Type 0 where
+  pub run : IsRunOf script outcome
+  pub bytes : IsScript script → NoFlips script.losses → IsRunWith LinesHold script outcome
+  pub lossless : IsLosslessScript script → IsRunWith AllEndWell script outcome
+  pub losses : IsOpenScript script → IsRunWith LossesEndWell script outcome
+
+reported : (script : Script) (outcome : Outcome) (told : List ℕ) → Promises script outcome → told ≡ report_text outcome.report → TellsReport script told
+reported script outcome told p is = record {
+  now = p.run.now;
+  run = p.run.run;
+  report = subst (λ r. told ≡ report_text r) p.run.report is;
+  bytes = λ fits calm. of_one LinesHold script outcome p.run (p.bytes fits calm);
+  lossless = λ fits. of_one AllEndWell script outcome p.run (p.lossless fits);
+  losses = λ fits. of_one LossesEndWell script outcome p.run (p.losses fits);
+}
+
+pub ran : (script read : Script) (outcome : Outcome) (told : List ℕ) (found : Found) → read ≡ script → Promises read outcome → told ≡ report_text outcome.report
     → found ≡ Good → TellsRun script told found
-ran script read outcome told found same run is good =
-    let of_script : IsRunOf script outcome = subst (λ s. IsRunOf s outcome) same run in
-    subst (TellsRun script told) (sym good) (record { now = of_script.now; run = of_script.run; report = subst (λ r. told ≡ report_text r) of_script.report is })
+ran script read outcome told found same promises is good =
+    subst (TellsRun script told) (sym good) (reported script outcome told (subst (λ s. Promises s outcome) same promises) is)

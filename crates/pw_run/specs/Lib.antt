@@ -1,5 +1,7 @@
 pub mod Bridge
 pub mod Check
+pub mod Client
+pub mod ClientCommand
 pub mod Command
 pub mod Crew
 pub mod Demo

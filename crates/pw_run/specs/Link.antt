@@ -8,11 +8,16 @@ use Rattle.script_text.specs.Reading.{IsFirstBadLine, IsScriptText}
 use Rattle.script_text.specs.Report.{bad_line_text, report_text}
 use Rattle.text_fields.specs.Lines.{ended}
 use Rattle.world_turns.specs.declared.limits.TheConstants.{MAX_DELIVERIES}
-use Rattle.world_turns.specs.Limits.{IsPastFrames}
+use Rattle.world_turns.specs.Limits.{IsPastFrames, IsPastJournal}
 use Rattle.world_turns.specs.Reports.{report_of}
 use Rattle.world_turns.specs.Setup.{setup_of}
+use Rattle.world_turns.specs.Sound.{NoFlips}
 use Rattle.world_turns.specs.Turns.{Turned}
 use Rattle.world_turns.specs.World.{World}
+use Rattle.world_fits.specs.Scripts.{IsScript}
+use Rattle.world_lossless.specs.Lossless.{IsLosslessScript}
+use Rattle.world_lossless.specs.Scripts.{IsOpenScript}
+use Rattle.link_world.specs.Outcomes.{AllEndWell, LinesHold, LossesEndWell}
 use Rattle.pw_run.specs.declared.told.Found.{Found}
 use Rattle.pw_run.specs.declared.told.Found.TheVariants.{Good, BadLine, PastFrames, PastJournal}
 
@@ -20,18 +25,22 @@ use Rattle.pw_run.specs.declared.told.Found.TheVariants.{Good, BadLine, PastFram
 abbrev pub limit_text : List ℕ → ℕ → List ℕ
 limit_text what limit = line (codes "limit" ∷ what ∷ decimal limit ∷ [])
 
--- the script was run to its end, and this is the report of its run
+-- The script was run to its end, and this is the report of its run. Where its numbers fit and no loss damages a frame, OK means the
+-- bytes; and where nothing is lost, or three chunks at most, all end well.
 pub record TellsReport (script : Script) (told : List ℕ) : Type 0 where
   pub now : World
   pub run : Turned (setup_of script) script.commands now
   pub report : told ≡ report_text (report_of (setup_of script) now)
+  pub bytes : IsScript script → NoFlips script.losses → LinesHold (setup_of script) script.commands now
+  pub lossless : IsLosslessScript script → AllEndWell (setup_of script) script.commands now
+  pub losses : IsOpenScript script → LossesEndWell (setup_of script) script.commands now
 
 -- what is told of a script, by how its run ends
 abbrev pub TellsRun : Script → List ℕ → Found → Type 0
 TellsRun script told Good = TellsReport script told
 TellsRun script told BadLine = ⊥
 TellsRun script told PastFrames = IsPastFrames (setup_of script) script.commands × (told ≡ limit_text (codes "frames") MAX_DELIVERIES)
-TellsRun script told PastJournal = told ≡ limit_text (codes "journal") MAX_ENTRIES
+TellsRun script told PastJournal = IsPastJournal (setup_of script) script.commands × (told ≡ limit_text (codes "journal") MAX_ENTRIES)
 
 -- the text says a script, and this is told of its run
 pub record TellsScript (text told : List ℕ) (found : Found) : Type 0 where

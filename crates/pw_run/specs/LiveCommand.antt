@@ -2,8 +2,9 @@
 use Rattle.std.specs.Prelude.{◌≡◌, ◌≢◌, ℕ, ◌^◌, ◌<◌, ◌≤◌, List, [], ◌∷◌, codes}
 use Rattle.std.specs.Fmt.{decimal}
 use Rattle.pw_run.specs.declared.live_command.LiveCommand.{LiveCommand}
-use Rattle.pw_run.specs.declared.live_command.LiveCommand.TheVariants.{Crew, Serve, Bridge}
+use Rattle.pw_run.specs.declared.live_command.LiveCommand.TheVariants.{Crew, Serve, Bridge, Client}
 use Rattle.pw_run.specs.declared.live_command.TheConstants.{MAX_CONNECTIONS, MAX_WORKERS}
+use Rattle.pw_run.specs.ClientCommand.{IsClientCommand}
 
 -- a number of workers
 abbrev pub IsCrewSize : ℕ → Type 0
@@ -18,6 +19,7 @@ IsLiveCommand words (Serve workers connections) =
 IsLiveCommand words (Bridge at_right at_left) =
     (left right : List ℕ) × (words ≡ codes "bridge" ∷ left ∷ right ∷ decimal at_right ∷ decimal at_left ∷ []) × (left ≢ []) × (right ≢ []) ×
     (at_right < 2 ^ 32) × (at_left < 2 ^ 32) × (at_right ≢ at_left)
+IsLiveCommand words (Client command) = IsClientCommand words command
 
 -- the words name no such command
 abbrev pub IsNoLiveCommand : List (List ℕ) → Type 0

@@ -5,7 +5,7 @@ use Rattle.rpc_schedule.specs.declared.ending.Ending.TheVariants as ended
 use Rattle.link_io.specs.declared.why.Why.{Why}
 use Rattle.link_io.specs.declared.why.Why.TheVariants as reason
 use Rattle.pw_run.specs.declared.outcome.Outcome.{Outcome}
-use Rattle.pw_run.specs.declared.outcome.Outcome.TheVariants.{Done, NoMemory, BadWords, SourceFault, SinkFault, StoreFault, LinkFault, BadLine, InputLimit, JournalLimit, FrameLimit}
+use Rattle.pw_run.specs.declared.outcome.Outcome.TheVariants.{Done, NoMemory, BadWords, SourceFault, SinkFault, StoreFault, LinkFault, BadLine, InputLimit, JournalLimit, FrameLimit, NotOkay}
 
 abbrev pub code_of : Outcome → ℕ
 code_of Done = 0
@@ -19,6 +19,7 @@ code_of BadLine = 7
 code_of InputLimit = 8
 code_of JournalLimit = 8
 code_of FrameLimit = 8
+code_of NotOkay = 9
 
 -- the outcome of a run whose stream ended so, and whose text was written whole
 abbrev pub outcome_of : Ending → Outcome

@@ -1,11 +1,13 @@
 //! The numbers of the program. Nothing runs here.
 ghost use Rattle.std.specs.Prelude.{◌≡◌};
 
-use crate::{LAST_CHANNEL, MAX_LOAD, TEXT_LIMIT};
+use crate::{LAST_CHANNEL, MAX_LOAD, MAX_WATCH, TEXT_LIMIT};
 
-/// How many calls a load has at most, the last channel that is in, and how many bytes are too many for a text of lines.
+/// How many calls a load has at most, the last channel that is in, how many bytes are too many for a text of lines, and how many
+/// messages a watch waits for at most.
 pub fn numbers_of_the_program()
     ensures load { MAX_LOAD ≡ 30000 }
     ensures channels { LAST_CHANNEL ≡ 8 }
     ensures text { TEXT_LIMIT ≡ 1048576 }
+    ensures watch { MAX_WATCH ≡ 64 }
 {}

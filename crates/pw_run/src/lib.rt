@@ -5,6 +5,9 @@
 
 mod bridge;
 mod check;
+mod client;
+mod client_command;
+mod client_text;
 mod command;
 mod crew;
 mod demo;
@@ -30,6 +33,7 @@ mod text_command;
 mod told;
 mod writing;
 
+pub use client_command::{ClientCommand, MAX_WATCH};
 pub use command::{Command, Form, MAX_LOAD};
 pub use demo::LAST_CHANNEL;
 pub use live_command::{LiveCommand, MAX_CONNECTIONS, MAX_WORKERS};

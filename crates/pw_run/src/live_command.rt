@@ -1,7 +1,8 @@
 //! The words of the commands that work on threads.
-ghost use Rattle.std.specs.Prelude.{◌≡◌, ◌↔◌, [], ◌∷◌, map, string_bytes, IfSome, IsTrue, Some};
+ghost use Rattle.std.specs.Prelude.{◌≡◌, ◌↔◌, [], ◌∷◌, map, string_bytes, codes, IfSome, IsTrue, Some};
 ghost use Rattle.pw_run.specs.LiveCommand.{IsCrewSize, IsLiveCommand};
 
+use crate::ClientCommand;
 use text_fields::small_number;
 
 /// The most workers of a session.
@@ -10,7 +11,7 @@ pub const MAX_WORKERS: u32 = 16;
 /// The most connections that `serve` serves.
 pub const MAX_CONNECTIONS: u32 = 1_000;
 
-/// A command that works on threads. Where it listens at a path, that is the second word.
+/// A command that works on threads. Where it listens at a path or connects to one, that is the second word.
 #[derive(Clone, Copy, Debug, PartialEq, Eq)]
 pub enum LiveCommand {
     /// A recorded stream of a client is served by so many workers.
@@ -20,6 +21,8 @@ pub enum LiveCommand {
     /// Frames go between two links, where one address lies at the right and another at the left. The links are at the paths
     /// of the second and the third word.
     Bridge { at_right: u32, at_left: u32 },
+    /// A client does this over a link.
+    Client(ClientCommand),
 }
 
 impl LiveCommand {
@@ -30,11 +33,11 @@ impl LiveCommand {
     {
         match words {
             [word, workers] => of_two(word.as_str(), workers.as_str()),
-            [word, path, workers, connections] => of_four(
+            [word, path, first, second] => of_four(
                 word.as_str(),
                 path.as_str(),
-                workers.as_str(),
-                connections.as_str(),
+                first.as_str(),
+                second.as_str(),
             ),
             [word, left, right, at_right, at_left] => of_five(
                 word.as_str(),
@@ -62,12 +65,25 @@ fn of_two(word: &str, workers: &str) -> Option<LiveCommand>
     Some(LiveCommand::Crew { workers })
 }
 
-fn of_four(word: &str, path: &str, workers: &str, connections: &str) -> Option<LiveCommand>
-    ensures some { IfSome result (λ command. IsLiveCommand (word.now ∷ path.now ∷ workers.now ∷ connections.now ∷ []) command) }
-    ensures only { (command : LiveCommand) → IsLiveCommand (word.now ∷ path.now ∷ workers.now ∷ connections.now ∷ []) command →
+fn of_four(word: &str, path: &str, first: &str, second: &str) -> Option<LiveCommand>
+    ensures some { IfSome result (λ command. IsLiveCommand (word.now ∷ path.now ∷ first.now ∷ second.now ∷ []) command) }
+    ensures only { (command : LiveCommand) → IsLiveCommand (word.now ∷ path.now ∷ first.now ∷ second.now ∷ []) command →
         result ≡ Some command }
 {
-    if word != "serve" || path.is_empty() {
+    if word == "serve" {
+        return serve_of(path, first, second);
+    }
+    let command = ClientCommand::of(word, path, first, second)?;
+    Some(LiveCommand::Client(command))
+}
+
+// What stands behind the word `serve`.
+fn serve_of(path: &str, workers: &str, connections: &str) -> Option<LiveCommand>
+    ensures some { IfSome result (λ command. IsLiveCommand (codes "serve" ∷ path.now ∷ workers.now ∷ connections.now ∷ []) command) }
+    ensures only { (command : LiveCommand) → IsLiveCommand (codes "serve" ∷ path.now ∷ workers.now ∷ connections.now ∷ []) command →
+        result ≡ Some command }
+{
+    if path.is_empty() {
         return None;
     }
     let workers = small_number(workers.as_bytes())?;

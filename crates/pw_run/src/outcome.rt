@@ -28,6 +28,8 @@ pub enum Outcome {
     JournalLimit,
     /// So many frames were delivered as a run of a script may have.
     FrameLimit,
+    /// What a client was asked ended with another status than OK, and its line was written.
+    NotOkay,
 }
 
 impl Outcome {
@@ -47,6 +49,7 @@ impl Outcome {
             Outcome::LinkFault => 6,
             Outcome::BadLine => 7,
             Outcome::InputLimit | Outcome::JournalLimit | Outcome::FrameLimit => 8,
+            Outcome::NotOkay => 9,
         }
     }
 

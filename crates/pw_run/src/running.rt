@@ -9,12 +9,13 @@ ghost use Rattle.pw_run.specs.declared.outcome.Outcome.{Outcome};
 ghost use Rattle.pw_run.specs.declared.outcome.Outcome.TheVariants.{BadWords, LinkFault, SinkFault, SourceFault, StoreFault};
 ghost use Rattle.pw_run.specs.Command.{IsCommand, IsNoCommand};
 ghost use Rattle.pw_run.specs.Devices.{devices};
-ghost use Rattle.pw_run.specs.Live.{DidLive, IsBridge, IsServe};
+ghost use Rattle.pw_run.specs.Live.{DidLive, IsBridge, IsServe, MakesLinks};
 ghost use Rattle.pw_run.specs.LiveCommand.{IsLiveCommand, IsNoLiveCommand};
 ghost use Rattle.pw_run.specs.Outcome.{code_of, IsSilent};
 ghost use Rattle.pw_run.specs.Recorded.{Did, EndsWith, IsStoreless};
 
 use crate::bridge::bridge;
+use crate::client::client;
 use crate::crew::crew;
 use crate::serve::serve;
 use crate::{LiveCommand, run_recorded};
@@ -30,7 +31,8 @@ use std::thread::Threads;
 ///
 /// `crew` serves the input as `replay` does, by a number of workers, and writes a report by call. `serve` listens at a path and
 /// serves a number of connections in turn, each over the resources that the store lists then. `bridge` connects to two paths and
-/// lets frames go between the two links by their address. The answer is the program's exit status, as
+/// lets frames go between the two links by their address. `get`, `put` and `watch` connect to a path, read a resource into the store,
+/// write one out of it, or watch a stream of messages. The answer is the program's exit status, as
 /// [`Outcome::code`](crate::Outcome::code) tells it.
 pub fn run<
     R: Threads + Wait + Sync,
@@ -72,25 +74,22 @@ pub fn run<
         EndsWith result (DidLive command
         (devices (I.left input.old) (O.written output.old) (S.holds store.old) (N.links net.old) (C.last clock.old))
         (devices (I.left input.new) (O.written output.new) (S.holds store.new) (N.links net.new) (C.last clock.new))) }
-    ensures served { IsServe (map string_bytes words.now) → input.new ≡ input.old }
-    ensures bridged { IsBridge (map string_bytes words.now) → (input.new ≡ input.old) × (store.new ≡ store.old) × (clock.new ≡ clock.old) }
-    ensures unlinked { (IsServe (map string_bytes words.now) → ⊥) → (IsBridge (map string_bytes words.now) → ⊥) → net.new ≡ net.old }
+    ensures linked { MakesLinks (map string_bytes words.now) → input.new ≡ input.old }
+    ensures bridged { IsBridge (map string_bytes words.now) → (store.new ≡ store.old) × (clock.new ≡ clock.old) }
+    ensures unlinked { (MakesLinks (map string_bytes words.now) → ⊥) → net.new ≡ net.old }
     ensures silent { (IsServe (map string_bytes words.now) → ⊥) → (outcome : Outcome) →
         result ≡ code_of outcome → IsSilent outcome → output.new ≡ output.old }
     ensures read { ConsumesUpTo INPUT_LIMIT (I.left input.old) (I.left input.new) }
 
-    // A fault is told only where the device that it blames counted one; of `serve` and `bridge` that is a link, or the linker itself.
-    ensures source { (IsServe (map string_bytes words.now) → ⊥) → (IsBridge (map string_bytes words.now) → ⊥) → result ≡ code_of SourceFault →
+    // A fault is told only where the device that it blames counted one; of a command that makes links that is a link, or the linker
+    // itself.
+    ensures source { (MakesLinks (map string_bytes words.now) → ⊥) → result ≡ code_of SourceFault →
         Rose (I.faults input.old) (I.faults input.new) }
-    ensures sink { (IsServe (map string_bytes words.now) → ⊥) → (IsBridge (map string_bytes words.now) → ⊥) → result ≡ code_of SinkFault →
+    ensures sink { (MakesLinks (map string_bytes words.now) → ⊥) → result ≡ code_of SinkFault →
         Rose (O.faults output.old) (O.faults output.new) }
-    ensures link_source { IsServe (map string_bytes words.now) → result ≡ code_of SourceFault →
+    ensures link_source { MakesLinks (map string_bytes words.now) → result ≡ code_of SourceFault →
         Rose (N.links net.old).in_faults (N.links net.new).in_faults }
-    ensures link_sink { IsServe (map string_bytes words.now) → result ≡ code_of SinkFault →
-        Rose (N.links net.old).out_faults (N.links net.new).out_faults ⊎ Rose (O.faults output.old) (O.faults output.new) }
-    ensures bridge_source { IsBridge (map string_bytes words.now) → result ≡ code_of SourceFault →
-        Rose (N.links net.old).in_faults (N.links net.new).in_faults }
-    ensures bridge_sink { IsBridge (map string_bytes words.now) → result ≡ code_of SinkFault →
+    ensures link_sink { MakesLinks (map string_bytes words.now) → result ≡ code_of SinkFault →
         Rose (N.links net.old).out_faults (N.links net.new).out_faults ⊎ Rose (O.faults output.old) (O.faults output.new) }
     ensures store { result ≡ code_of StoreFault → Rose (S.faults store.old) (S.faults store.new) }
     ensures linker { result ≡ code_of LinkFault → Rose (N.links net.old).faults (N.links net.new).faults }
@@ -126,10 +125,21 @@ pub fn run<
             let (left, right) = paths_of(words);
             bridge(rt, alloc, left, right, at_right, at_left, output, net).code()
         }
+        Some(LiveCommand::Client(command)) => client(
+            rt,
+            alloc,
+            path_of(words),
+            command,
+            output,
+            store,
+            net,
+            clock,
+        )
+        .code(),
     }
 }
 
-// Where to listen.
+// Where to listen, or to connect to.
 fn path_of(words: &[String]) -> &str {
     match words {
         [_, path, ..] => path.as_str(),

@@ -2,6 +2,8 @@
 //! nothing proved, writes of the same bytes (`bench/replay`).
 
 mod bridges;
+mod client_words;
+mod clients;
 mod crew_gates;
 mod crew_reports;
 mod crews;
@@ -18,6 +20,7 @@ mod routes;
 mod scripts;
 mod serve_clock;
 mod serve_links;
+mod sockets;
 mod stores;
 mod streams;
 mod tokens;

@@ -1,3 +1,4 @@
+mod ClientEndLemmas
 pub mod CrewLemmas
 mod LiveStatusLemmas
 mod StatusLemmas

@@ -1,12 +1,15 @@
 -- How a run on threads ends where no device fails.
-use Rattle.std.proofs.Common.{◌≡◌, ◌≢◌, ◌⊎◌, ℕ, zero, suc, ◌+◌, ◌<◌, List, [], ◌∷◌, ◌++◌, length, Option, Some, None, refl, ap, sym, ◌∙◌, subst, inl, inr, arith, append_assoc, length-append}
+use Rattle.std.proofs.Common.{◌≡◌, ◌≢◌, ◌⊎◌, ℕ, zero, suc, ◌+◌, ◌<◌, ◌≤◌, List, [], ◌∷◌, ◌++◌, length, Result, Ok, Err, Option, Some, None, refl, ap, sym, ◌∙◌, subst, inl, inr, arith, append_assoc, length-append}
 use Rattle.std.specs.Io.KnownBytes.{Consumes}
 use Rattle.link_io.specs.declared.why.Why.{Why}
 use Rattle.link_io.specs.declared.why.Why.TheVariants as reason
 use Rattle.link_io.specs.Links.{Ends, HandsOut, Links}
 use Rattle.link_io.specs.Stored.{Stored}
 use Rattle.rpc_frames.specs.declared.counts.Counts.{Counts}
+use Rattle.rpc_ids.specs.declared.status.Status.{Status}
+use Rattle.rpc_ids.specs.declared.status.Status.TheVariants.{Okay}
 use Rattle.rpc_journal.specs.declared.entry.Entry.{Entry}
+use Rattle.rpc_journal.specs.declared.entry.TheConstants.{MAX_ENTRIES}
 use Rattle.rpc_journal.specs.declared.item.Item.{Item}
 use Rattle.rpc_journal.specs.declared.setting.Setting.{Setting}
 use Rattle.rpc_journal.specs.CallTable.{Table}
@@ -19,11 +22,18 @@ use Rattle.frame_router.specs.Pumped.{Pumps}
 use Rattle.frame_bridge.specs.Bridges.{Bridges, first_reason, reason_of}
 use Rattle.frame_bridge.specs.Printed.{bridge_text}
 use Rattle.demo_services.specs.DemoRule.{demo_rule}
+use Rattle.live_client.specs.declared.ask.Live.{Live}
+use Rattle.live_client.specs.declared.ask.LiveAsk.{LiveAsk}
+use Rattle.live_client.specs.Live.{IsLiveHistory}
+use Rattle.run_report.specs.declared.live_report.LiveLine.{LiveLine}
+use Rattle.run_report.specs.LiveReport.{live_line, live_report}
+use Rattle.pw_run.specs.declared.client_command.ClientCommand.{ClientCommand}
 use Rattle.pw_run.specs.declared.live_command.LiveCommand.{LiveCommand}
-use Rattle.pw_run.specs.declared.live_command.LiveCommand.TheVariants.{Crew, Serve, Bridge}
+use Rattle.pw_run.specs.declared.live_command.LiveCommand.TheVariants.{Crew, Serve, Bridge, Client}
 use Rattle.pw_run.specs.declared.outcome.Outcome.{Outcome}
-use Rattle.pw_run.specs.declared.outcome.Outcome.TheVariants.{Done, NoMemory, BadWords, SourceFault, SinkFault, StoreFault, LinkFault, BadLine, InputLimit, JournalLimit, FrameLimit}
+use Rattle.pw_run.specs.declared.outcome.Outcome.TheVariants.{Done, NoMemory, BadWords, SourceFault, SinkFault, StoreFault, LinkFault, BadLine, InputLimit, JournalLimit, FrameLimit, NotOkay}
 use Rattle.pw_run.specs.Bridge.{DidBridge, RunsBridge}
+use Rattle.pw_run.specs.Client.{AsksOverLink, DidClient, DoesAsked, DoesFoundOrNothing, WritesClient, WritesText, asked, client_outcome, ended_outcome, told_of}
 use Rattle.pw_run.specs.Crew.{DidCrew}
 use Rattle.pw_run.specs.Demo.{demo_setting}
 use Rattle.pw_run.specs.Devices.{Devices, LinkDevices, with_link}
@@ -33,7 +43,7 @@ use Rattle.pw_run.specs.Outcome.{code_of, outcome_for}
 use Rattle.pw_run.specs.Recorded.{EndsWith}
 use Rattle.pw_run.specs.Serve.{DidServe, GivesBack, FailsToLink, RunsConnection, ServesAll, ServesConnection, StopsServing}
 use Rattle.pw_run.specs.Writes.{Writes}
-use Rattle.run_law.specs.Statuses.{AreShort, AreShortUpTo, CrewHadRoom, EndsLive, FillsJournal, IsBlameless, LiveEndWell, ServeHadRoom}
+use Rattle.run_law.specs.Statuses.{AreShort, AreShortUpTo, CrewHadRoom, EndsClient, EndsLive, FillsJournal, IsBlameless, LiveEndWell, ServeHadRoom}
 use Rattle.run_law.proofs.CrewLemmas.{all_taken, settled_well}
 use Rattle.run_law.proofs.StatusLemmas.{Blameless, EndsSo, blameless, done_of, not_all, own_done, own_outcome, well}
 
@@ -65,6 +75,7 @@ wrote text why old new BadLine writes = inr writes
 wrote text why old new InputLimit writes = inr writes
 wrote text why old new JournalLimit writes = inr writes
 wrote text why old new FrameLimit writes = inr writes
+wrote text why old new NotOkay writes = inr writes
 
 -- fewer bytes than the limit were taken from known ones
 not_taken : (left left_new : Option (List ℕ)) (input bytes : List ℕ) (limit : ℕ) → left ≡ Some input → Consumes left left_new bytes → length bytes ≡ limit → length input < limit → ⊥
@@ -336,6 +347,112 @@ bridge_well at_right at_left before after outcome short (inl run) none = at (wro
         by (reason_of run.done) few run.no_journal did.0
         (own_outcome before.written after.written (bridge_text run.done) (outcome_for (reason_of run.done)) outcome none.sink did.1)
 
+-- ---- client
+
+-- the journal of a client was full
+record ClientFull (outcome : Outcome) : Type 0 where
+  pub limit : outcome ≡ JournalLimit
+  pub asks : LiveAsk
+  pub h : List Entry
+  pub journal : IsLiveHistory asks reason.JournalLimit h
+  pub full : MAX_ENTRIES ≤ length h
+
+abbrev ClientSo : Outcome → Type 0
+ClientSo outcome = (EndsSo outcome ⊎ (outcome ≡ NotOkay)) ⊎ ClientFull outcome
+
+client_so : (status : ℕ) (outcome : Outcome) → status ≡ code_of outcome → ClientSo outcome → EndsClient status
+client_so status outcome is (inl (inl so)) = inl (inl (well status outcome is so))
+client_so status outcome is (inl (inr other)) = inl (inr (is ∙ ap code_of other))
+client_so status outcome is (inr full) =
+    inr (record { limit = is ∙ ap code_of full.limit; asks = full.asks; h = full.h; journal = full.journal; full = full.full })
+
+-- what was written, where there was memory
+text_wrote : (text : List ℕ) (own : Outcome) (old new : Option (List ℕ)) (outcome : Outcome) → WritesText text own old new outcome
+    → (outcome ≡ NoMemory) ⊎ Writes old new text own outcome
+text_wrote text own old new NoMemory writes = inl refl
+text_wrote text own old new Done writes = inr writes
+text_wrote text own old new BadWords writes = inr writes
+text_wrote text own old new SourceFault writes = inr writes
+text_wrote text own old new SinkFault writes = inr writes
+text_wrote text own old new StoreFault writes = inr writes
+text_wrote text own old new LinkFault writes = inr writes
+text_wrote text own old new BadLine writes = inr writes
+text_wrote text own old new InputLimit writes = inr writes
+text_wrote text own old new JournalLimit writes = inr writes
+text_wrote text own old new FrameLimit writes = inr writes
+text_wrote text own old new NotOkay writes = inr writes
+
+-- the same of a client
+client_wrote : (command : ClientCommand) (l : Live) (old new : Option (List ℕ)) (outcome : Outcome) → WritesClient command l old new outcome
+    → (outcome ≡ NoMemory) ⊎ ((l.why ≢ reason.Memory) × Writes old new (live_report (told_of command l) l.why) (client_outcome l.why l.ended) outcome)
+client_wrote command l old new NoMemory writes = inl refl
+client_wrote command l old new Done writes = inr writes
+client_wrote command l old new BadWords writes = inr writes
+client_wrote command l old new SourceFault writes = inr writes
+client_wrote command l old new SinkFault writes = inr writes
+client_wrote command l old new StoreFault writes = inr writes
+client_wrote command l old new LinkFault writes = inr writes
+client_wrote command l old new BadLine writes = inr writes
+client_wrote command l old new InputLimit writes = inr writes
+client_wrote command l old new JournalLimit writes = inr writes
+client_wrote command l old new FrameLimit writes = inr writes
+client_wrote command l old new NotOkay writes = inr writes
+
+ended_so : (ended : Option Status) (outcome : Outcome) → outcome ≡ ended_outcome ended → EndsSo outcome ⊎ (outcome ≡ NotOkay)
+ended_so (Some Okay) outcome is = inl (inl is)
+ended_so _ outcome is = inr is
+
+-- a client over a link that gives few bytes
+module _ (asks : LiveAsk) (before after : LinkDevices) (input : List ℕ) (left : before.left ≡ Some input) (short : length input < INPUT_LIMIT) (l : Live) (does : DoesAsked asks before after l) where
+  by_reason : (why : Why) (outcome : Outcome) → l.why ≡ why → why ≢ reason.Memory → outcome ≡ client_outcome why l.ended → Blameless outcome → ClientSo outcome
+  by_reason reason.Settled outcome same other is none = inl (ended_so l.ended outcome is)
+  by_reason reason.Source outcome same other is none = absurd (none.source is)
+  by_reason reason.Sink outcome same other is none = absurd (none.sink is)
+  by_reason reason.Store outcome same other is none = absurd (none.store is)
+  by_reason reason.Memory outcome same other is none = absurd (other refl)
+  by_reason reason.InputLimit outcome same other is none =
+      let b = does.begins in absurd (not_taken before.left after.left input b.bytes INPUT_LIMIT left b.taken (b.count ∙ does.at_limit same) short)
+  by_reason reason.JournalLimit outcome same other is none = inr (record {
+    limit = is;
+    asks = asks;
+    h = l.journal.entries;
+    journal = subst (λ (why : Why). IsLiveHistory asks why l.journal.entries) same does.journal;
+    full = does.full same;
+  })
+
+  client_ends : (command : ClientCommand) (old new : Option (List ℕ)) (outcome : Outcome) → WritesClient command l old new outcome → Blameless outcome → ClientSo outcome
+  client_ends command old new outcome writes none = at (client_wrote command l old new outcome writes)
+    where
+      at : (outcome ≡ NoMemory) ⊎ ((l.why ≢ reason.Memory) × Writes old new (live_report (told_of command l) l.why) (client_outcome l.why l.ended) outcome) → ClientSo outcome
+      at (inl memory) = inl (inl (inr memory))
+      at (inr did) = by_reason l.why outcome refl did.0 (own_outcome old new (live_report (told_of command l) l.why) (client_outcome l.why l.ended) outcome none.sink did.1) none
+
+client_well : (command : ClientCommand) (before after : Devices) (outcome : Outcome) → Short before.links → DidClient command before after outcome → Blameless outcome → ClientSo outcome
+client_well command before after outcome short (inr (inr nothing)) none = inl (inl (inr nothing.memory))
+client_well command before after outcome short (inr (inl told)) none = at (text_wrote _ StoreFault before.written after.written outcome told.writes)
+  where
+    at : (outcome ≡ NoMemory) ⊎ Writes before.written after.written (live_report None reason.Store) StoreFault outcome → ClientSo outcome
+    at (inl memory) = inl (inl (inr memory))
+    at (inr did) = absurd (none.store (own_outcome before.written after.written (live_report None reason.Store) StoreFault outcome none.sink did))
+client_well command before after outcome short (inl shelf) none = found (asked command shelf.shelf) shelf.does
+  where
+    over : (asks : LiveAsk) → AsksOverLink command asks before after outcome → ClientSo outcome
+    over asks (inl run) =
+        let link = handed before.links run.lent.between run.left_old run.sent_old short run.lent.handed in
+        client_ends asks (with_link before run.left_old run.sent_old) (with_link after run.left_new run.sent_new) link.input link.left_is link.short run.did run.does
+        command before.written after.written outcome run.writes none
+    over asks (inr (inl given)) = inl (inl (inr given.memory))
+    over asks (inr (inr fails)) = absurd (none.linker fails.fault)
+
+    unfit : (line : LiveLine) → (outcome ≡ NoMemory) ⊎ Writes before.written after.written (live_line line) NotOkay outcome → ClientSo outcome
+    unfit line (inl memory) = inl (inl (inr memory))
+    unfit line (inr did) = inl (inr (own_outcome before.written after.written (live_line line) NotOkay outcome none.sink did))
+
+    found : (asks : Result LiveAsk LiveLine) → DoesFoundOrNothing command asks before after outcome → ClientSo outcome
+    found asks (inr nothing) = inl (inl (inr nothing.memory))
+    found (Ok asks) (inl does) = over asks does
+    found (Err line) (inl told) = unfit line (text_wrote (live_line line) NotOkay before.written after.written outcome told.writes)
+
 -- ---- all commands on threads
 
 pub live_end_well : LiveEndWell
@@ -347,6 +464,9 @@ live_end_well (Serve workers connections) status before after ends none inputs =
 live_end_well (Bridge at_right at_left) status before after ends none inputs =
     well status ends.0 ends.1
     (bridge_well at_right at_left before after ends.0 (record { coming = inputs.0; are = inputs.1; short = inputs.2 }) ends.2 (blameless status ends.0 ends.1 none))
+live_end_well (Client command) status before after ends none inputs =
+    client_so status ends.0 ends.1
+    (client_well command before after ends.0 (record { coming = inputs.0; are = inputs.1; short = inputs.2 }) ends.2 (blameless status ends.0 ends.1 none))
 
 pub crew_had_room : CrewHadRoom
 crew_had_room workers status before after input st ends is left held =

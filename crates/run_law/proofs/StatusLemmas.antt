@@ -26,7 +26,7 @@ use Rattle.pw_run.specs.declared.command.Command.{Command}
 use Rattle.pw_run.specs.declared.command.Command.TheVariants.{Replay, Text, Load}
 use Rattle.pw_run.specs.declared.command.Form.{Form}
 use Rattle.pw_run.specs.declared.outcome.Outcome.{Outcome}
-use Rattle.pw_run.specs.declared.outcome.Outcome.TheVariants.{Done, NoMemory, BadWords, SourceFault, SinkFault, StoreFault, LinkFault, BadLine, InputLimit, JournalLimit, FrameLimit}
+use Rattle.pw_run.specs.declared.outcome.Outcome.TheVariants.{Done, NoMemory, BadWords, SourceFault, SinkFault, StoreFault, LinkFault, BadLine, InputLimit, JournalLimit, FrameLimit, NotOkay}
 use Rattle.pw_run.specs.declared.text_command.TextCommand.{TextCommand}
 use Rattle.pw_run.specs.declared.told.Found.{Found}
 use Rattle.pw_run.specs.declared.told.Found.TheVariants as found
@@ -95,6 +95,7 @@ done_of BadLine is = absurd cc
 done_of InputLimit is = absurd cc
 done_of JournalLimit is = absurd cc
 done_of FrameLimit is = absurd cc
+done_of NotOkay is = absurd cc
 
 not_sink : Done ≡ SinkFault → ⊥
 not_sink is = cc
@@ -136,6 +137,7 @@ module _ (form : Form) (input : List ℕ) (st : Stored) (left_new written_old wr
   replayed InputLimit did = inr did
   replayed JournalLimit did = inr did
   replayed FrameLimit did = inr did
+  replayed NotOkay did = inr did
 
   module _ (short : length input < INPUT_LIMIT)
       (room : (bytes : List ℕ) (h : List Entry) → IsPrefix bytes input → IsFullBeginning demo_rule (setting_over st) (heard_packets Server bytes) h → ⊥) where
@@ -211,6 +213,7 @@ module _ (command : TextCommand) (input : List ℕ) (left_new written_old writte
   told InputLimit did = inr did
   told JournalLimit did = inr did
   told FrameLimit did = inr did
+  told NotOkay did = inr did
 
   text_well : (outcome : Outcome) → DidText command (Some input) left_new written_old written_new outcome → Blameless outcome → length input < limit_of command
       → HasShortRun command input → ((said : List ℕ) → Tells command input said found.BadLine → ⊥) → EndsSo outcome
@@ -255,6 +258,7 @@ load_well calls seed written_old written_new outcome did none = at outcome did n
     at InputLimit did none = by InputLimit did none
     at JournalLimit did none = by JournalLimit did none
     at FrameLimit did none = by FrameLimit did none
+    at NotOkay did none = by NotOkay did none
 
 -- ---- all recorded commands
 

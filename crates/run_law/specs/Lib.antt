@@ -1,2 +1,3 @@
 pub mod CalmCrews
+pub mod ClientEnds
 pub mod Statuses

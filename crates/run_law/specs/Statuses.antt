@@ -1,5 +1,5 @@
 -- Which statuses a run can end with where no device fails.
-use Rattle.std.specs.Prelude.{◌≡◌, ◌≢◌, ◌⊎◌, ℕ, ◌<◌, List, ◌++◌, length, Option, Some}
+use Rattle.std.specs.Prelude.{◌≡◌, ◌≢◌, ◌⊎◌, ℕ, ◌<◌, ◌≤◌, List, ◌++◌, length, Option, Some}
 use Rattle.std.specs.List.{AllByRecursion}
 use mathlib.Core.List.{IsPrefix}
 use Rattle.link_io.specs.declared.why.Why.TheVariants.{JournalLimit}
@@ -8,15 +8,18 @@ use Rattle.link_io.specs.Stored.{Stored}
 use Rattle.rpc_ids.specs.declared.method.Role.TheVariants.{Server}
 use Rattle.rpc_frames.specs.Heard.{heard_packets}
 use Rattle.rpc_journal.specs.declared.entry.Entry.{Entry}
+use Rattle.rpc_journal.specs.declared.entry.TheConstants.{MAX_ENTRIES}
 use Rattle.rpc_journal.specs.declared.setting.Setting.{Setting}
 use Rattle.rpc_schedule.specs.declared.stream.TheConstants.{INPUT_LIMIT}
 use Rattle.rpc_schedule.specs.OneThread.{HasRoom, IsFullBeginning, IsOneThreadHistory}
 use Rattle.rpc_crew.specs.Sessions.{IsSessionHistory}
 use Rattle.demo_services.specs.DemoRule.{demo_rule}
+use Rattle.live_client.specs.declared.ask.LiveAsk.{LiveAsk}
+use Rattle.live_client.specs.Live.{IsLiveHistory}
 use Rattle.pw_run.specs.declared.command.Command.{Command}
 use Rattle.pw_run.specs.declared.command.Command.TheVariants.{Replay, Text, Load}
 use Rattle.pw_run.specs.declared.live_command.LiveCommand.{LiveCommand}
-use Rattle.pw_run.specs.declared.live_command.LiveCommand.TheVariants.{Crew, Serve, Bridge}
+use Rattle.pw_run.specs.declared.live_command.LiveCommand.TheVariants.{Crew, Serve, Bridge, Client}
 use Rattle.pw_run.specs.declared.outcome.Outcome.TheVariants as outcome
 use Rattle.pw_run.specs.declared.text_command.TextCommand.{TextCommand}
 use Rattle.pw_run.specs.declared.told.Found.TheVariants.{BadLine, PastFrames, PastJournal}
@@ -86,11 +89,24 @@ pub record FillsJournal (workers status : ℕ) : Type 0 where
   pub h : List Entry
   pub journal : IsSessionHistory demo_rule set workers JournalLimit h
 
+-- The journal of a client was full.
+pub record FillsClientJournal (status : ℕ) : Type 0 where
+  pub limit : status ≡ code_of outcome.JournalLimit
+  pub asks : LiveAsk
+  pub h : List Entry
+  pub journal : IsLiveHistory asks JournalLimit h
+  pub full : MAX_ENTRIES ≤ length h
+
+-- what a client was asked may also end with another status than OK
+abbrev pub EndsClient : ℕ → Type 0
+EndsClient status = (IsWell status ⊎ (status ≡ code_of outcome.NotOkay)) ⊎ FillsClientJournal status
+
 -- how a command on threads ends where no device fails and no input is too long
 abbrev pub EndsLive : LiveCommand → ℕ → Type 0
 EndsLive (Crew workers) status = IsWell status ⊎ FillsJournal workers status
 EndsLive (Serve workers connections) status = IsWell status ⊎ FillsJournal workers status
 EndsLive (Bridge at_right at_left) status = IsWell status
+EndsLive (Client command) status = EndsClient status
 
 -- each of these ends of links gives fewer bytes than an input may have
 abbrev pub AreShort : List Ends → Type 0
@@ -101,6 +117,7 @@ abbrev pub HasShortInputs : LiveCommand → Devices → Type 0
 HasShortInputs (Crew workers) before = (input : List ℕ) × (before.left ≡ Some input) × (length input < INPUT_LIMIT)
 HasShortInputs (Serve workers connections) before = (links : List Ends) × (before.links.coming ≡ Some links) × AreShort links
 HasShortInputs (Bridge at_right at_left) before = (links : List Ends) × (before.links.coming ≡ Some links) × AreShort links
+HasShortInputs (Client command) before = (links : List Ends) × (before.links.coming ≡ Some links) × AreShort links
 
 abbrev pub LiveEndWell : Type 0
 LiveEndWell =

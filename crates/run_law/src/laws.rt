@@ -1,5 +1,6 @@
 //! What follows from the definitions. Each function does nothing: what counts is its contract.
 ghost use Rattle.run_law.specs.CalmCrews.{CrewsWriteAlike, LoadsAreWrittenAlike, NoCrewSizeMatters};
+ghost use Rattle.run_law.specs.ClientEnds.{NotOkayIsOther, OkayIsOkay};
 ghost use Rattle.run_law.specs.Statuses.{CrewHadRoom, LiveEndWell, RecordedEndWell, RecordedHadRoom, ServeHadRoom};
 
 /// A run of `crew` over a calm input that ends with status 0 writes the report of the history of one thread.
@@ -26,4 +27,11 @@ pub fn commands_on_threads_end_well()
     ensures well { LiveEndWell }
     ensures room { CrewHadRoom }
     ensures links { ServeHadRoom }
+{}
+
+/// With status 0 what a client was asked ended OK, and with 9 it ended otherwise, or there was nothing to send; its link was read to
+/// the end.
+pub fn clients_tell_how_they_ended()
+    ensures okay { OkayIsOkay }
+    ensures other { NotOkayIsOther }
 {}

@@ -50,7 +50,8 @@ fn other_words_are_refused(rt: HostRuntime) -> Result<(), AllocError> {
     Ok(())
 }
 
-fn words_of(alloc: Global, row: &str) -> Result<Vec<String>, AllocError> {
+/// The words, with a stroke between each two.
+pub(super) fn words_of(alloc: Global, row: &str) -> Result<Vec<String>, AllocError> {
     let mut words = Vec::new(alloc);
     for word in row.split('|') {
         words.push(String::from_str(alloc, word)?)?;

@@ -104,8 +104,8 @@ fn is(bytes: Option<&Bytes>, wanted: &[u8]) -> bool {
     }
 }
 
-// A chunk of this type of a session.
-fn of(ctype: u64, session: u32) -> ChunkRef<'static> {
+/// A chunk of this type of a session.
+pub(super) fn of(ctype: u64, session: u32) -> ChunkRef<'static> {
     ChunkRef {
         ctype: Some(ctype),
         session: Some(session),
@@ -125,7 +125,7 @@ fn start(session: u32, resource: u32, initial: u64) -> ChunkRef<'static> {
     }
 }
 
-fn start_ack(session: u32, initial: u64) -> ChunkRef<'static> {
+pub(super) fn start_ack(session: u32, initial: u64) -> ChunkRef<'static> {
     ChunkRef {
         version: Some(2),
         initial,
@@ -140,7 +140,12 @@ fn confirmation(session: u32) -> ChunkRef<'static> {
     }
 }
 
-fn data(session: u32, offset: u64, bytes: &'static [u8], last: bool) -> ChunkRef<'static> {
+pub(super) fn data(
+    session: u32,
+    offset: u64,
+    bytes: &'static [u8],
+    last: bool,
+) -> ChunkRef<'static> {
     ChunkRef {
         offset,
         bytes,
