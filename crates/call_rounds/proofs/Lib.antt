@@ -1,3 +1,4 @@
+pub mod Flushing
 pub mod PutLemmas
 pub mod RestLemmas
 pub mod RoundLemmas

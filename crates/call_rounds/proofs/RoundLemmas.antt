@@ -1,8 +1,7 @@
 -- A packet that puts an event to a call of a table at rest, and what follows from it.
-use Rattle.std.proofs.Common.{◌≡◌, ℕ, zero, suc, ◌+◌, ◌<◌, List, [], ◌∷◌, ◌++◌, length, flat_map, replicate, Option, Some, None, IsTrue, true, false, ◌&&◌, option_and_then, option_map, refl, ap, sym, ◌∙◌, subst, arith, append_assoc, length-append}
+use Rattle.std.proofs.Common.{◌≡◌, ℕ, ◌+◌, List, ◌∷◌, ◌++◌, length, flat_map, Option, Some, None, IsTrue, true, false, ◌&&◌, option_and_then, option_map, refl, ap, sym, ◌∙◌, subst}
 use Rattle.std.proofs.lemmas.Bool.{ne_eqb}
 use Rattle.std.proofs.lemmas.List.{append-nil}
-use Rattle.std.proofs.lemmas.Option.{slice_get_past}
 use Rattle.std.specs.List.{list_any}
 use Rattle.rpc_ids.specs.declared.method.MethodRef.{MethodRef}
 use Rattle.rpc_packet.specs.declared.owned.Packet.{Packet}
@@ -12,7 +11,7 @@ use Rattle.rpc_handlers.specs.declared.event.Event.TheVariants.{Message, Request
 use Rattle.rpc_handlers.specs.declared.event.Memo.{Memo}
 use Rattle.rpc_handlers.specs.HandlerRule.{HandlerRule}
 use Rattle.rpc_journal.specs.declared.entry.Entry.{Entry}
-use Rattle.rpc_journal.specs.declared.entry.EntryKind.TheVariants.{Arrive, Start, Finish, Flush}
+use Rattle.rpc_journal.specs.declared.entry.EntryKind.TheVariants.{Arrive, Start, Finish}
 use Rattle.rpc_journal.specs.declared.item.Item.{Item}
 use Rattle.rpc_journal.specs.declared.setting.Setting.{Setting}
 use Rattle.rpc_journal.specs.declared.waiting.Waiting.{Waiting}
@@ -24,61 +23,15 @@ use Rattle.rpc_journal.specs.History.{adding, deeds_with, entry_by, history}
 use Rattle.rpc_journal.specs.Items.{flush_count, is_for, items_sent, sends_completion}
 use Rattle.rpc_journal.specs.Queues.{is_ended, taken_event}
 use Rattle.rpc_journal.specs.Rows.{no_effect}
-use Rattle.rpc_journal.proofs.PlaceLemmas.{get_some}
 use Rattle.rpc_journal.proofs.Push.{history-push}
-use Rattle.rpc_schedule.specs.Schedule.{Flushed, IsOver, Ran, Reaches, Settles, answer_by_rule, flush_seat, input_seat, run_seat}
+use Rattle.rpc_schedule.specs.Schedule.{Ran, Settles, answer_by_rule, input_seat, run_seat}
 use Rattle.rpc_schedule.specs.Schedule.Stage.{running, flushing}
 use Rattle.rpc_schedule.proofs.ScheduleLemmas.{reaches_itself, reaches_then, reaches_turn, settles_same}
 use Rattle.call_rounds.specs.Rounds.{ComesToOpen, ComesToStream, IsRound, MessagesSettle, RequestsSettle, RoundsAreThere, opened_by, with_round}
 use Rattle.call_rounds.specs.Streams.{HasStream, IsAtRest, items_of}
+use Rattle.call_rounds.proofs.Flushing.{flushed_history, flushes_reach, rest_is_over}
 use Rattle.call_rounds.proofs.PutLemmas.{asked_other, asked_stream, message_puts, message_stream, put_alone, put_deed, request_opens}
-use Rattle.call_rounds.proofs.RunLemmas.{WaitsAlone, after_flushes, alone_first, before_run, ended_idle, ended_other, ended_ready, ended_sent, ended_stream, ended_taken, ended_waiting, finish_deed, finish_says, flush_deed, flushes_rest, flushes_sent, flushes_stream, none_left, none_ready, start_deed, took}
-
-abbrev flushed : List Entry → ℕ → List Entry
-flushed h n = h ++ replicate n (entry_by flush_seat Flush)
-
-next_flushed : (h : List Entry) (n : ℕ) → flushed (adding h flush_seat Flush) n ≡ flushed h (suc n)
-next_flushed h n = append_assoc h (entry_by flush_seat Flush ∷ []) (replicate n (entry_by flush_seat Flush))
-
-flush_history : (set : Setting) (h : List Entry) → history set (adding h flush_seat Flush) ≡ flush_deed ∷ history set h
-flush_history set h = history-push set h (entry_by flush_seat Flush)
-
-flushed_history : (set : Setting) (n : ℕ) (h : List Entry) → history set (flushed h n) ≡ after_flushes n (history set h)
-flushed_history set zero h = ap (history set) (append-nil h)
-flushed_history set (suc n) h =
-    ap (history set) (sym (next_flushed h n))
-    ∙ (flushed_history set n (adding h flush_seat Flush)
-    ∙ ap (after_flushes n) (flush_history set h))
-
--- an item that waits goes out
-flushes_one : (set : Setting) (h : List Entry) → flush_count (history set h) < length (items_sent (history set h)) → Flushed set h (adding h flush_seat Flush)
-flushes_one set h waits =
-    let there = get_some (items_sent (history set h)) (flush_count (history set h)) waits in
-    record { item = there.0; waits = there.1; adds = refl }
-
-one_fewer : (set : Setting) (h : List Entry) (n : ℕ) → flush_count (history set h) + suc n ≡ length (items_sent (history set h))
-    → flush_count (history set (adding h flush_seat Flush)) + n ≡ length (items_sent (history set (adding h flush_seat Flush)))
-one_fewer set h n waiting =
-    subst (λ ds. flush_count ds + n ≡ length (items_sent ds)) (sym (flush_history set h)) (omega (arith, waiting, length-append (items_sent (history set h)) []))
-
--- so many items wait, and go out
-flushes_reach : (rule : HandlerRule) (set : Setting) (n : ℕ) (h : List Entry) → flush_count (history set h) + n ≡ length (items_sent (history set h))
-    → Reaches rule set (flushing h) (flushing (flushed h n))
-flushes_reach rule set zero h waiting = subst (λ x. Reaches rule set (flushing h) (flushing x)) (sym (append-nil h)) (reaches_itself rule set (flushing h))
-flushes_reach rule set (suc n) h waiting =
-    let first : Reaches rule set (flushing h) (flushing (adding h flush_seat Flush)) =
-    reaches_turn rule set (flushing h) (flushing h) (flushing (adding h flush_seat Flush)) (reaches_itself rule set (flushing h))
-    (flushes_one set h (omega (arith, waiting))) in
-    subst (λ x. Reaches rule set (flushing h) (flushing x)) (next_flushed h n)
-    (reaches_then rule set (flushing h) (flushing (adding h flush_seat Flush)) (flushing (flushed (adding h flush_seat Flush) n)) first
-    (flushes_reach rule set n (adding h flush_seat Flush) (one_fewer set h n waiting)))
-
--- a table at rest has nothing to do
-rest_is_over : (set : Setting) (h : List Entry) → IsAtRest (history set h) → IsOver set h
-rest_is_over set h rest = record {
-  none_ready = λ k. none_ready (history set h) k (none_left (history set h) k (rest.taken k));
-  none_waits = slice_get_past (items_sent (history set h)) (flush_count (history set h)) (omega (arith, rest.flushed));
-}
+use Rattle.call_rounds.proofs.RunLemmas.{WaitsAlone, after_flushes, alone_first, before_run, ended_idle, ended_other, ended_ready, ended_sent, ended_stream, ended_taken, ended_waiting, finish_deed, finish_says, flushes_rest, flushes_sent, flushes_stream, start_deed, took}
 
 -- the packet puts this event to c, which has a stream then
 pub record Puts (rule : HandlerRule) (set : Setting) (h : List Entry) (p : Packet) (c : ℕ) (o : Opening) (m : Memo) (event : Event) : Type 0 where

@@ -1,5 +1,4 @@
 mod Examples
-mod Flushing
 mod Halfway
 mod OwnRun
 mod PutLemmas

@@ -33,7 +33,7 @@ use Rattle.rpc_schedule.proofs.ScheduleLemmas.{reaches_itself, reaches_then, rea
 use Rattle.call_rounds.specs.Streams.{HasStream, IsAtRest, items_of}
 use Rattle.call_rounds.proofs.RunLemmas.{after_flushes, finish_deed, flush_deed, flushes_rest, flushes_sent, flushes_stream, none_ready, start_deed}
 use Rattle.tick_rounds.specs.Ticks.{IsTicked, LiveCallsAreUncut, TicksAreThere, TicksAtRest, TicksSettle, all_tick_items, all_tick_runs, handler_state, is_ticking, tick_answer, tick_items, tick_run, ticked_state, ticking_calls, with_tick}
-use Rattle.tick_rounds.proofs.Flushing.{flushed_history, flushes_reach, rest_is_over}
+use Rattle.call_rounds.proofs.Flushing.{flushed_history, flushes_reach, rest_is_over}
 use Rattle.tick_rounds.proofs.Halfway.{IsHalfway, halfway_first, halfway_passed, halfway_run, own_state_now, own_waits, the_tick, tick_deed, tick_waiting, waits_past, will_run}
 use Rattle.tick_rounds.proofs.OwnRun.{own_event, own_state, run_says}
 use Rattle.tick_rounds.proofs.PutLemmas.{ticks_are_put}
