@@ -13,7 +13,8 @@ use Rattle.transfer_words.specs.Word.{Word, data_comes, parameters}
 use Rattle.transfer_receiver.specs.Receiver.{Receiver}
 use Rattle.transfer_law.proofs.AskLaws.{fits}
 use Rattle.words_law.proofs.Sessions.{all_join}
-use Rattle.losses_law.proofs.Grid.{Begins, ComeFrom, IsCut, IsPart, IsPieceAt, Setup, Stands, come_end, come_more, is_cut, part, part_size, size_stays}
+use Rattle.pairs_law.proofs.Sending.{size_stays}
+use Rattle.losses_law.proofs.Grid.{Begins, ComeFrom, IsCut, IsPart, IsPieceAt, Setup, Stands, come_end, come_more, is_cut, part, part_size}
 use Rattle.losses_law.proofs.DataPhase.{AskFrom, Flowing, IsClean, IsData, IsNone, IsOne, IsSound, ends, flows, rises, sender_at, waits}
 
 module _ (k : Setup) (p : ℕ) (a : Ask) where

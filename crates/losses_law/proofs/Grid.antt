@@ -1,12 +1,11 @@
 -- The places where the chunks of a transfer begin, and what a sender cuts between them.
-use Rattle.std.proofs.Common.{◌≡◌, ℕ, zero, suc, ◌+◌, ◌-◌, ◌*◌, ◌<◌, ◌≤◌, ◌==◌, ◌⊎◌, inl, inr, nat_lt, min, Bool, true, false, if◌then◌else◌, List, [], ◌∷◌, ◌++◌, length, map, refl, sym, ap, ◌∙◌, subst, arith}
+use Rattle.std.proofs.Common.{◌≡◌, ℕ, zero, suc, ◌+◌, ◌-◌, ◌*◌, ◌<◌, ◌≤◌, ◌⊎◌, inl, inr, nat_lt, min, Bool, true, false, List, [], ◌∷◌, ◌++◌, length, map, refl, sym, ap, ◌∙◌, subst, arith}
 use Rattle.std.proofs.lemmas.Bool.Decides.{nat_tests}
 use Rattle.std.proofs.Math.Nat.{mul-le-mul_right}
 use Rattle.std.specs.List.{AllByRecursion}
 use Rattle.transfer_base.specs.declared.Piece.{Piece}
 use Rattle.transfer_base.specs.declared.limits.TheConstants.{MAX_CHUNK, MAX_RESOURCE}
 use Rattle.transfer_base.specs.PieceLists.{end_of}
-use Rattle.transfer_sender.specs.Answer.{chunk_size}
 use Rattle.transfer_sender.specs.Cut.{piece_at, pieces_up_to}
 use Rattle.transfer_sender.proofs.CutLemmas.{length-piece_at, pieces_up_to-done, pieces_up_to-suc, pieces_up_to-zero}
 use Rattle.transfer_words.specs.Word.{Word, data_comes}
@@ -27,17 +26,6 @@ less_or_not a b = by_test (nat_lt a b) refl
     by_test : (t : Bool) → nat_lt a b ≡ t → (a < b) ⊎ (b ≤ a)
     by_test true e = inl (grind (arith, nat_tests))
     by_test false e = inr (grind (arith, nat_tests))
-
--- the chunks of an ask are as large as it says
-pub size_stays : (c : ℕ) → 1 ≤ c → c ≤ MAX_CHUNK → chunk_size c ≡ c
-size_stays c some high = by_test (c == 0) refl
-  where
-    none : 1 ≤ c → (c == 0) ≡ true → ⊥
-    none some e = grind (arith, nat_tests)
-
-    by_test : (b : Bool) → (c == 0) ≡ b → (if b then MAX_CHUNK else min c MAX_CHUNK) ≡ c
-    by_test true e = absurd (none some e)
-    by_test false e = omega (arith, high)
 
 -- the chunk at a place
 abbrev pub part : Setup → ℕ → Piece

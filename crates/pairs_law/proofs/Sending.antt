@@ -16,7 +16,7 @@ use Rattle.pairs_law.proofs.Grid.{Grid}
 use Rattle.pairs_law.proofs.Parts.{parts_from, cut, end_parts}
 
 -- a chunk that isn't 0 and no larger than the largest stays as it is asked
-size_stays : (c : ℕ) → 1 ≤ c → c ≤ MAX_CHUNK → chunk_size c ≡ c
+pub size_stays : (c : ℕ) → 1 ≤ c → c ≤ MAX_CHUNK → chunk_size c ≡ c
 size_stays c low high = by_none (c == 0) refl
   where
     by_none : (b : Bool) → (c == 0) ≡ b → (if b then MAX_CHUNK else min c MAX_CHUNK) ≡ c
