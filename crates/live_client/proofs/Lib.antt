@@ -8,6 +8,7 @@ pub mod RunLemmas
 pub mod StepsOf
 pub mod TableLemmas
 pub mod TalkLemmas
+pub mod WakeLemmas
 pub mod WholeLemmas
 pub mod WholeLive
 pub mod WholeReplies

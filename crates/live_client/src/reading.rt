@@ -12,7 +12,7 @@ ghost use Rattle.rpc_journal.specs.Items.{arrivals};
 ghost use Rattle.rpc_packet.specs.Hearing.{Hears};
 ghost use Rattle.rpc_packet.specs.Message.{message_of};
 ghost use Rattle.live_client.specs.Feeding.{Cut, Fed, HasRead, Reader, is_feeding, is_readers};
-ghost use Rattle.live_client.specs.Waking.{CanRing};
+ghost use Rattle.live_client.specs.Waking.{CanRing, RangForEach};
 ghost use Rattle.rpc_crew.specs.Sessions.{is_halted};
 
 use crate::halting::{Halted, Seat, Table, halt};
@@ -58,6 +58,7 @@ pub(crate) fn read<I: Source, R: Wait>(
     requires seed { table.now.base.seed ≡ empty_memo }
     requires bell { CanRing wakes.now.bells bell.old }
     ensures bell { bell.new.table ≡ bell.old.table }
+    ensures rung { RangForEach 1 bell.old bell.new pass.old pass.new }
     ensures ended { Reader is_readers table.now pass.new }
     ensures same { IsSame pass.old pass.new }
     ensures read { HasRead table.now.base (I.left input.old) (I.left input.new) result.ending result.read listener.new pass.new }
@@ -88,6 +89,7 @@ fn feed_source<I: Source, R: Wait>(
     requires seed { table.now.base.seed ≡ empty_memo }
     requires bell { CanRing wakes.now.bells bell.old }
     ensures bell { bell.new.table ≡ bell.old.table }
+    ensures rung { RangForEach 0 bell.old bell.new pass.old pass.new }
     ensures reader { Reader is_feeding table.now pass.new }
     ensures same { IsSame pass.old pass.new }
     ensures read { HasRead table.now.base (I.left input.old) (I.left input.new) result.ending result.read listener.new pass.new }
@@ -120,6 +122,7 @@ fn feed_stream<I: Source, R: Wait>(
     requires seed { table.now.base.seed ≡ empty_memo }
     requires bell { CanRing wakes.now.bells bell.old }
     ensures bell { bell.new.table ≡ bell.old.table }
+    ensures rung { RangForEach 0 bell.old bell.new pass.old pass.new }
     ensures reader { Reader is_feeding table.now pass.new }
     ensures same { IsSame pass.old pass.new }
     ensures read { HasRead table.now.base (I.left input.old) (I.left input.new) result.ending result.read listener.new pass.new }
@@ -183,6 +186,7 @@ fn feed_all<R: Wait>(
     requires seed { table.now.base.seed ≡ empty_memo }
     requires bell { CanRing wakes.now.bells bell.old }
     ensures bell { bell.new.table ≡ bell.old.table }
+    ensures rung { RangForEach 0 bell.old bell.new pass.old pass.new }
     ensures reader { Reader is_feeding table.now pass.new }
     ensures same { IsSame pass.old pass.new }
     ensures role { listener.new.role ≡ Client }
@@ -224,6 +228,7 @@ fn feed<R: Wait>(
     requires seed { table.now.base.seed ≡ empty_memo }
     requires bell { CanRing wakes.now.bells bell.old }
     ensures bell { bell.new.table ≡ bell.old.table }
+    ensures rung { RangForEach 0 bell.old bell.new pass.old pass.new }
     ensures taken { IfOk result (λ n. (0 < n) × (n ≤ length piece.now)) }
     ensures reader { Reader is_feeding table.now pass.new }
     ensures same { IsSame pass.old pass.new }
@@ -259,6 +264,7 @@ fn take_heard<R: Wait>(
     requires seed { table.now.base.seed ≡ empty_memo }
     requires bell { CanRing wakes.now.bells bell.old }
     ensures bell { bell.new.table ≡ bell.old.table }
+    ensures rung { RangForEach 0 bell.old bell.new pass.old pass.new }
     ensures reader { Reader is_feeding table.now pass.new }
     ensures same { IsSame pass.old pass.new }
     ensures arrived { OnOk result (arrivals pass.new.view.known.mine ≡ arrivals pass.old.view.known.mine ++ option_to_list heard.now) }
@@ -286,6 +292,7 @@ fn take_in<R: Wait>(
     requires seed { table.now.base.seed ≡ empty_memo }
     requires bell { CanRing wakes.now.bells bell.old }
     ensures bell { bell.new.table ≡ bell.old.table }
+    ensures rung { RangForEach 0 bell.old bell.new pass.old pass.new }
     ensures reader { Reader is_feeding table.now pass.new }
     ensures same { IsSame pass.old pass.new }
     ensures arrived { OnOk result (arrivals pass.new.view.known.mine ≡ arrivals pass.old.view.known.mine ++ packet.now ∷ []) }
@@ -321,6 +328,7 @@ fn try_in<R: Wait>(
     ensures lost { OnErr result (arrivals pass.new.view.known.mine ≡ arrivals pass.old.view.known.mine) }
     ensures halted { OnErr result (is_halted table.now.base pass.new.view.known.seen ≡ true) }
     ensures bell { bell.new.table ≡ bell.old.table }
+    ensures rung { RangForEach 0 bell.old bell.new pass.old pass.new }
 {
     let heard = wakes.signals.reader.rings();
     match table.arrive(rt, pass, packet, maker) {

@@ -32,7 +32,7 @@ impl Wakes {
     /// Rings for the one task, and for the driver that polls it.
     pub fn call(&self, bell: &mut Bell)
         requires { CanRing self.now.bells bell.old }
-        ensures { bell.new.table ≡ bell.old.table }
+        ensures { bell.new ≡ record bell.old { rings = 0 ∷ bell.old.rings } }
     {
         self.bells.ring(bell, 0);
         self.signals.driver.ring();

@@ -1,6 +1,7 @@
 use Rattle.std.proofs.Common.{take, refl}
 use Rattle.live_client.specs.Feeding.{is_feeding}
 use Rattle.live_client.proofs.FeedLemmas.{cut_lost, cut_part, fed_part, halted_arrivals, on_err_of, reader_on, take_begins}
+use Rattle.live_client.proofs.WakeLemmas.{rang_none}
 use Rattle.live_client.proofs.reading.feed.Goals as goal
 
 pub returns-in_err-take_heard-in-Ok-clause-cut : goal.returns-in_err-take_heard-in-Ok-clause-cut
@@ -26,3 +27,7 @@ pub returns-in-Err-clause-cut : goal.returns-in-Err-clause-cut
 returns-in-Err-clause-cut g c = λ bytes fed.
     cut_lost c.args.listener.now c.listen.new.self c.args.pass.now c.halt.new.pass bytes c.args.piece.now c.in-Err.ensures.lost fed
     (halted_arrivals c.args.pass.now.view.known.mine c.halt.new.pass.view.known.mine _ _ c.halt.ensures.mine)
+
+pub returns-in-Err-clause-rung : goal.returns-in-Err-clause-rung
+returns-in-Err-clause-rung g c =
+    rang_none c.args.bell.now c.args.pass.now c.halt.new.pass (halted_arrivals c.args.pass.now.view.known.mine c.halt.new.pass.view.known.mine _ _ c.halt.ensures.mine)

@@ -3,6 +3,7 @@ use Rattle.std.proofs.lemmas.List.{append-nil, take_all}
 use Rattle.turn_cell.proofs.Calls.{same_self, same_trans}
 use Rattle.live_client.specs.Feeding.{Fed}
 use Rattle.live_client.proofs.FeedLemmas.{cut_rest, fed_on, on_err_of}
+use Rattle.live_client.proofs.WakeLemmas.{rang_more, rang_none}
 use Rattle.live_client.proofs.reading.feed_all.Goals as goal
 
 pub frames-init : goal.frames-init
@@ -12,6 +13,7 @@ frames-init g c = record {
   same = same_self c.args.pass.now;
   role = c.requires.role;
   bell = refl;
+  rung = rang_none c.args.bell.now c.args.pass.now c.args.pass.now refl;
   fed = λ bytes fed. subst (Fed c.args.listener.now c.args.pass.now) (sym (append-nil bytes)) fed;
 }
 
@@ -22,6 +24,7 @@ frames-preserved g c = record {
   same = same_trans c.args.pass.now c.frames.pass c.feed.new.pass c.frames.invariant.same c.in_ok-done.ensures.same;
   role = c.in_ok-done.ensures.role;
   bell = c.in_ok-done.ensures.bell ∙ c.frames.invariant.bell;
+  rung = rang_more 0 c.args.bell.now c.frames.bell c.feed.new.bell c.args.pass.now c.frames.pass c.feed.new.pass c.frames.invariant.rung c.in_ok-done.ensures.rung;
   fed = λ bytes fed.
       fed_on c.frames.listener c.feed.new.listener c.frames.pass c.feed.new.pass bytes c.args.piece.now c.frames.done c.in_ok-done.field-0
       (c.in_ok-done.ensures.fed (bytes ++ take c.frames.done c.args.piece.now) (c.frames.invariant.fed bytes fed));
@@ -52,3 +55,10 @@ returns-in_err-done-clause-bell g c = c.in_err-done.ensures.bell ∙ c.frames.in
 
 pub returns-clause-bell : goal.returns-clause-bell
 returns-clause-bell g c = c.frames.invariant.bell
+
+pub returns-in_err-done-clause-rung : goal.returns-in_err-done-clause-rung
+returns-in_err-done-clause-rung g c =
+    rang_more 0 c.args.bell.now c.frames.bell c.feed.new.bell c.args.pass.now c.frames.pass c.feed.new.pass c.frames.invariant.rung c.in_err-done.ensures.rung
+
+pub returns-clause-rung : goal.returns-clause-rung
+returns-clause-rung g c = c.frames.invariant.rung

@@ -4,6 +4,7 @@ use Rattle.std.specs.Io.KnownBytes.{Consumes}
 use Rattle.turn_cell.proofs.Calls.{same_self, same_trans}
 use Rattle.live_client.specs.Feeding.{Cut, Fed}
 use Rattle.live_client.proofs.FeedLemmas.{has_fed_more, has_fed_none, has_read_cut, of_err, of_ok, read_ended, read_failed, read_limit}
+use Rattle.live_client.proofs.WakeLemmas.{rang_more, rang_none}
 use Rattle.live_client.proofs.reading.feed_stream.Goals as goal
 
 pub pieces-init : goal.pieces-init
@@ -13,6 +14,7 @@ pieces-init g c = record {
   fed = has_fed_none (g.I.Source.left c.args.input.now) c.args.listener.now c.args.pass.now c.requires.fed;
   later = le_refl (g.I.Source.faults c.args.input.now);
   bell = refl;
+  rung = rang_none c.args.bell.now c.args.pass.now c.args.pass.now refl;
 }
 
 pub feed_all-fed-requires-clause-role : goal.feed_all-fed-requires-clause-role
@@ -37,6 +39,7 @@ pieces-preserved g c =
           (λ bytes fed. subst (λ part. Fed c.feed_all-fed.new.listener c.feed_all-fed.new.pass (bytes ++ part)) piece (feeds bytes fed));
       later = omega arith;
       bell = c.feed_all-fed.ensures.bell ∙ c.pieces.invariant.bell;
+      rung = rang_more 0 c.args.bell.now c.pieces.bell c.feed_all-fed.new.bell c.args.pass.now c.pieces.pass c.feed_all-fed.new.pass c.pieces.invariant.rung c.feed_all-fed.ensures.rung;
     }
 
 pub returns-then-is_err-clause-read : goal.returns-then-is_err-clause-read
@@ -92,3 +95,16 @@ returns-in-Err-clause-bell g c = c.pieces.invariant.bell
 
 pub returns-clause-bell : goal.returns-clause-bell
 returns-clause-bell g c = c.pieces.invariant.bell
+
+pub returns-then-is_err-clause-rung : goal.returns-then-is_err-clause-rung
+returns-then-is_err-clause-rung g c =
+    rang_more 0 c.args.bell.now c.pieces.bell c.feed_all-fed.new.bell c.args.pass.now c.pieces.pass c.feed_all-fed.new.pass c.pieces.invariant.rung c.feed_all-fed.ensures.rung
+
+pub returns-in-Ok-eq0-clause-rung : goal.returns-in-Ok-eq0-clause-rung
+returns-in-Ok-eq0-clause-rung g c = c.pieces.invariant.rung
+
+pub returns-in-Err-clause-rung : goal.returns-in-Err-clause-rung
+returns-in-Err-clause-rung g c = c.pieces.invariant.rung
+
+pub returns-clause-rung : goal.returns-clause-rung
+returns-clause-rung g c = c.pieces.invariant.rung

@@ -1,8 +1,9 @@
-use Rattle.std.proofs.Common.{◌++◌, sym, ap, ◌∙◌}
+use Rattle.std.proofs.Common.{◌++◌, refl, sym, ap, ◌∙◌}
 use Rattle.std.proofs.lemmas.List.{append-nil}
 use Rattle.std.specs.Option.{option_to_list}
 use Rattle.turn_cell.proofs.Calls.{same_self}
 use Rattle.rpc_journal.specs.Items.{arrivals}
+use Rattle.live_client.proofs.WakeLemmas.{rang_none}
 use Rattle.live_client.proofs.reading.take_heard.Goals as goal
 
 pub returns-in-None-clause-arrived : goal.returns-in-None-clause-arrived
@@ -11,3 +12,6 @@ returns-in-None-clause-arrived g c =
 
 pub returns-in-None-clause-same : goal.returns-in-None-clause-same
 returns-in-None-clause-same g c = same_self c.args.pass.now
+
+pub returns-in-None-clause-rung : goal.returns-in-None-clause-rung
+returns-in-None-clause-rung g c = rang_none c.args.bell.now c.args.pass.now c.args.pass.now refl

@@ -6,6 +6,7 @@ use Rattle.live_client.proofs.FeedLemmas.{arrived_more, feeds, halted_arrivals, 
 use Rattle.rpc_crew.proofs.StepLemmas.{arrive_full, arrive_mine, look_adds, look_halted, look_mine, refused_mine}
 use Rattle.rpc_journal.specs.Items.{arrivals}
 use Rattle.turn_cell.proofs.Calls.{same_trans}
+use Rattle.live_client.proofs.WakeLemmas.{rang_none, rang_once}
 use Rattle.live_client.proofs.reading.try_in.Goals as goal
 
 pub arrive-requires-clause-input : goal.arrive-requires-clause-input
@@ -83,3 +84,36 @@ returns-in_ok-rest-in-Err-QueueFull-clause-kept g c = λ _.
 pub returns-in_err-rest-in-Err-QueueFull-clause-halted : goal.returns-in_err-rest-in-Err-QueueFull-clause-halted
 returns-in_err-rest-in-Err-QueueFull-clause-halted g c =
     on_err_of _ c.from_residual.result (look_halted silent_rule c.args.table.now c.arrive.new.pass c.look.new.pass c.look.result c.look.ensures.did c.in_err-rest-in-Err-QueueFull.ensures)
+
+pub returns-in-Ok-clause-rung : goal.returns-in-Ok-clause-rung
+returns-in-Ok-clause-rung g c =
+    rang_once c.args.bell.now c.call.new.bell c.args.pass.now c.arrive.new.pass c.args.packet.now c.call.ensures
+    (arrived_more c.args.pass.now c.arrive.new.pass c.args.packet.now c.args.pass.now.view.known.number
+    (arrive_mine silent_rule c.args.table.now c.args.pass.now c.arrive.new.pass c.args.packet.now c.arrive.result _ c.arrive.ensures.did c.in-Ok.is))
+
+pub returns-in-Ok-clause-bell : goal.returns-in-Ok-clause-bell
+returns-in-Ok-clause-bell g c = ap (λ b. b.table) c.call.ensures
+
+pub returns-in-Err-JournalFull-clause-rung : goal.returns-in-Err-JournalFull-clause-rung
+returns-in-Err-JournalFull-clause-rung g c =
+    rang_none c.args.bell.now c.args.pass.now c.halt.new.pass
+    (halted_arrivals c.arrive.new.pass.view.known.mine c.halt.new.pass.view.known.mine _ _ c.halt.ensures.mine
+    ∙ ap arrivals (refused_mine silent_rule c.args.table.now c.args.pass.now c.arrive.new.pass c.args.packet.now c.arrive.result _ c.arrive.ensures.did c.in-Err-JournalFull.is))
+
+pub returns-in-Err-Memory-clause-rung : goal.returns-in-Err-Memory-clause-rung
+returns-in-Err-Memory-clause-rung g c =
+    rang_none c.args.bell.now c.args.pass.now c.halt-in-Err-Memory.new.pass
+    (halted_arrivals c.arrive.new.pass.view.known.mine c.halt-in-Err-Memory.new.pass.view.known.mine _ _ c.halt-in-Err-Memory.ensures.mine
+    ∙ ap arrivals (refused_mine silent_rule c.args.table.now c.args.pass.now c.arrive.new.pass c.args.packet.now c.arrive.result _ c.arrive.ensures.did c.in-Err-Memory.is))
+
+pub returns-in_err-rest-in-Err-QueueFull-clause-rung : goal.returns-in_err-rest-in-Err-QueueFull-clause-rung
+returns-in_err-rest-in-Err-QueueFull-clause-rung g c =
+    rang_none c.args.bell.now c.args.pass.now c.look.new.pass
+    (ap arrivals (look_mine silent_rule c.args.table.now c.arrive.new.pass c.look.new.pass c.look.result c.look.ensures.did
+    ∙ refused_mine silent_rule c.args.table.now c.args.pass.now c.arrive.new.pass c.args.packet.now c.arrive.result _ c.arrive.ensures.did c.in-Err-QueueFull.is))
+
+pub returns-in_ok-rest-in-Err-QueueFull-clause-rung : goal.returns-in_ok-rest-in-Err-QueueFull-clause-rung
+returns-in_ok-rest-in-Err-QueueFull-clause-rung g c =
+    rang_none c.args.bell.now c.args.pass.now c.look.new.pass
+    (ap arrivals (look_mine silent_rule c.args.table.now c.arrive.new.pass c.look.new.pass c.look.result c.look.ensures.did
+    ∙ refused_mine silent_rule c.args.table.now c.args.pass.now c.arrive.new.pass c.args.packet.now c.arrive.result _ c.arrive.ensures.did c.in-Err-QueueFull.is))
