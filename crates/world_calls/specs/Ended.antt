@@ -24,14 +24,16 @@ EndsOkay k start (Write resource offset) told =
     → (size : ℕ) × (told ≡ line.Write resource (agreed_offset (shelf_of k.server_store) resource (min offset (length bytes))) Okay size)
 EndsOkay k start command told = Unit {0}
 
--- The command with this number has started in a world of the run, and has come to its line by a later one, in which the next
--- command starts, or the run ends. For a command that started there, the line tells of an end like this.
+-- The command with this number has started in a world of the run in which each command before it had its line, and has come to its
+-- own by a later one, in which the next command starts, or the run ends. For a command that started there, the line tells of an end
+-- like this.
 pub record HasEnded (k : Setup) (commands : List Command) (now : World) (number : ℕ) (command : Command) (EndsSo : World → ReportLine → Type 0) : Type 0 where
   pub start : World
   pub end : World
   pub count : ℕ
   pub way : Turns k count (first_world commands) start
   pub coming : List Command
+  pub before : length start.lines ≡ number
   pub starts : next_kind start ≡ starting command coming
   pub turns : ℕ
   pub goes : Turns k turns start end

@@ -86,6 +86,7 @@ module _ (k : Setup) (commands : List Command) (end : World) (Between : List Com
           count = s.count;
           way = s.way;
           coming = rest;
+          before = refl;
           starts = s.kind;
           turns = p.turns;
           goes = p.goes;
@@ -153,6 +154,7 @@ module _ (s : Script) (o : IsOpenScript s) (calm : NoFlips s.losses) (now : Worl
     count = e.count;
     way = e.way;
     coming = e.coming;
+    before = e.before;
     starts = e.starts;
     turns = e.turns;
     goes = e.goes;
