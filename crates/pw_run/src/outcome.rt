@@ -28,7 +28,7 @@ pub enum Outcome {
     JournalLimit,
     /// So many frames were delivered as a run of a script may have.
     FrameLimit,
-    /// What a client was asked ended with another status than OK, and its line was written.
+    /// What a client was asked ended with another status than OK, or there was nothing to send; its line was written.
     NotOkay,
 }
 
