@@ -9,12 +9,10 @@ use Rattle.live_client.specs.declared.ask.LiveAsk.{LiveAsk}
 use Rattle.run_report.specs.declared.live_report.LiveLine.{LiveLine}
 use Rattle.run_report.specs.LiveReport.{live_line}
 use Rattle.pw_run.specs.declared.client_command.ClientCommand.{ClientCommand}
-use Rattle.pw_run.specs.declared.live_command.LiveCommand.TheVariants.{Client}
 use Rattle.pw_run.specs.declared.outcome.Outcome.{Outcome}
 use Rattle.pw_run.specs.declared.outcome.Outcome.TheVariants.{Done, NoMemory, BadWords, SourceFault, SinkFault, StoreFault, LinkFault, BadLine, InputLimit, JournalLimit, FrameLimit, NotOkay}
 use Rattle.pw_run.specs.Client.{AsksOverLink, DidClient, DoesFoundOrNothing, asked, client_outcome, ended_outcome}
 use Rattle.pw_run.specs.Devices.{Devices}
-use Rattle.pw_run.specs.Live.{DidLive}
 use Rattle.pw_run.specs.Outcome.{code_of}
 use Rattle.pw_run.specs.Writes.{Writes}
 use Rattle.run_law.specs.ClientEnds.{EndedOkay, EndedOtherwise, HasNoneToSend, NotOkayIsOther, OkayIsOkay}

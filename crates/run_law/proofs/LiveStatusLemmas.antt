@@ -1,10 +1,9 @@
 -- How a run on threads ends where no device fails.
-use Rattle.std.proofs.Common.{◌≡◌, ◌≢◌, ◌⊎◌, ℕ, zero, suc, ◌+◌, ◌<◌, ◌≤◌, List, [], ◌∷◌, ◌++◌, length, Result, Ok, Err, Option, Some, None, refl, ap, sym, ◌∙◌, subst, inl, inr, arith, append_assoc, length-append}
+use Rattle.std.proofs.Common.{◌≡◌, ◌≢◌, ◌⊎◌, ℕ, zero, suc, ◌<◌, ◌≤◌, List, [], ◌∷◌, ◌++◌, length, Result, Ok, Err, Option, Some, None, refl, ap, sym, ◌∙◌, subst, inl, inr, arith, append_assoc, length-append}
 use Rattle.std.specs.Io.KnownBytes.{Consumes}
 use Rattle.link_io.specs.declared.why.Why.{Why}
 use Rattle.link_io.specs.declared.why.Why.TheVariants as reason
 use Rattle.link_io.specs.Links.{Ends, HandsOut, Links}
-use Rattle.link_io.specs.Stored.{Stored}
 use Rattle.rpc_frames.specs.declared.counts.Counts.{Counts}
 use Rattle.rpc_ids.specs.declared.status.Status.{Status}
 use Rattle.rpc_ids.specs.declared.status.Status.TheVariants.{Okay}
@@ -19,7 +18,7 @@ use Rattle.frame_router.specs.declared.port.Port.{Port}
 use Rattle.frame_router.specs.declared.pumping.Pumped.{Pumped}
 use Rattle.frame_router.specs.declared.routes.Route.{Route}
 use Rattle.frame_router.specs.Pumped.{Pumps}
-use Rattle.frame_bridge.specs.Bridges.{Bridges, first_reason, reason_of}
+use Rattle.frame_bridge.specs.Bridges.{Bridges, bridge_routes, first_reason, reason_of}
 use Rattle.frame_bridge.specs.Printed.{bridge_text}
 use Rattle.demo_services.specs.DemoRule.{demo_rule}
 use Rattle.live_client.specs.declared.ask.Live.{Live}
@@ -28,11 +27,10 @@ use Rattle.live_client.specs.Live.{IsLiveHistory}
 use Rattle.run_report.specs.declared.live_report.LiveLine.{LiveLine}
 use Rattle.run_report.specs.LiveReport.{live_line, live_report}
 use Rattle.pw_run.specs.declared.client_command.ClientCommand.{ClientCommand}
-use Rattle.pw_run.specs.declared.live_command.LiveCommand.{LiveCommand}
 use Rattle.pw_run.specs.declared.live_command.LiveCommand.TheVariants.{Crew, Serve, Bridge, Client}
 use Rattle.pw_run.specs.declared.outcome.Outcome.{Outcome}
 use Rattle.pw_run.specs.declared.outcome.Outcome.TheVariants.{Done, NoMemory, BadWords, SourceFault, SinkFault, StoreFault, LinkFault, BadLine, InputLimit, JournalLimit, FrameLimit, NotOkay}
-use Rattle.pw_run.specs.Bridge.{DidBridge, RunsBridge}
+use Rattle.pw_run.specs.Bridge.{DidBridge}
 use Rattle.pw_run.specs.Client.{AsksOverLink, DidClient, DoesAsked, DoesFoundOrNothing, WritesClient, WritesText, asked, client_outcome, ended_outcome, told_of}
 use Rattle.pw_run.specs.Crew.{DidCrew}
 use Rattle.pw_run.specs.Demo.{demo_setting}
@@ -40,10 +38,11 @@ use Rattle.pw_run.specs.Devices.{Devices, LinkDevices, with_link}
 use Rattle.pw_run.specs.LinkServed.{FindsNoShelf, ServesLink, ServesListed, WritesServed}
 use Rattle.pw_run.specs.Live.{DidLive}
 use Rattle.pw_run.specs.Outcome.{code_of, outcome_for}
-use Rattle.pw_run.specs.Recorded.{EndsWith}
-use Rattle.pw_run.specs.Serve.{DidServe, GivesBack, FailsToLink, RunsConnection, ServesAll, ServesConnection, StopsServing}
+use Rattle.pw_run.specs.Serve.{DidServe, ServesAll, ServesConnection, StopsServing}
 use Rattle.pw_run.specs.Writes.{Writes}
-use Rattle.run_law.specs.Statuses.{AreShort, AreShortUpTo, CrewHadRoom, EndsClient, EndsLive, FillsJournal, IsBlameless, LiveEndWell, ServeHadRoom}
+use Rattle.run_law.specs.ClientEnds.{EndedOkay}
+use Rattle.run_law.specs.Statuses.{AreShort, AreShortUpTo, BridgeHadRoom, ClientHadRoom, CrewHadRoom, EndsClient, EndsLive, LiveEndWell, ServeHadRoom}
+use Rattle.run_law.proofs.ClientEndLemmas.{okay_is_okay}
 use Rattle.run_law.proofs.CrewLemmas.{all_taken, settled_well}
 use Rattle.run_law.proofs.StatusLemmas.{Blameless, EndsSo, blameless, done_of, not_all, own_done, own_outcome, well}
 
@@ -347,6 +346,56 @@ bridge_well at_right at_left before after outcome short (inl run) none = at (wro
         by (reason_of run.done) few run.no_journal did.0
         (own_outcome before.written after.written (bridge_text run.done) (outcome_for (reason_of run.done)) outcome none.sink did.1)
 
+-- a pump that read its source to the end read fewer bytes than the limit
+pump_read : (routes : List Route) (from : Port) (left left_new old new : Option (List ℕ)) (done : Pumped) (input : List ℕ) → left ≡ Some input → done.why ≡ reason.Settled
+    → Pumps routes from left left_new old new done → length input < INPUT_LIMIT
+pump_read routes from left left_new old new done input is settled pumps =
+    let taken = subst (λ x. Consumes x left_new pumps.bytes) is pumps.taken in
+    let bytes = all_taken input pumps.bytes left_new taken (pumps.at_end settled) in
+    subst (λ n. n < INPUT_LIMIT) (ap length bytes) (pumps.below settled)
+
+both_settled : (left right : Why) → first_reason left right ≡ reason.Settled → (left ≡ reason.Settled) × (right ≡ reason.Settled)
+both_settled reason.Settled right is = (refl, is)
+both_settled reason.Source right is = absurd cc
+both_settled reason.Sink right is = absurd cc
+both_settled reason.Store right is = absurd cc
+both_settled reason.InputLimit right is = absurd cc
+both_settled reason.JournalLimit right is = absurd cc
+both_settled reason.Memory right is = absurd cc
+
+bridge_read : (at_right at_left : ℕ) (before after : Devices) (links : List Ends) → before.links.coming ≡ Some links → DidBridge at_right at_left before after Done
+    → AreShortUpTo 2 links
+bridge_read at_right at_left before after links are (inr fails) = absurd (not_link fails.fault)
+  where
+    not_link : Done ≡ LinkFault → ⊥
+    not_link is = cc
+bridge_read at_right at_left before after links are (inl run) = at links are
+  where
+    b : Bridges (bridge_routes at_right at_left) before.links after.links run.done
+    b = run.bridges
+
+    both : (run.done.from_left.why ≡ reason.Settled) × (run.done.from_right.why ≡ reason.Settled)
+    both =
+        both_settled run.done.from_left.why run.done.from_right.why
+        (settled_well (reason_of run.done) (own_done before.written after.written _ (outcome_for (reason_of run.done)) run.writes.1))
+
+    at : (coming : List Ends) → before.links.coming ≡ Some coming → AreShortUpTo 2 coming
+    at [] none = absurd (b.left_out.some none)
+    at (pair ∷ []) is = absurd (b.right_out.some (b.left_out.first pair [] is).2)
+    at (pair ∷ other ∷ rest) is =
+        let one = b.left_out.first pair (other ∷ rest) is in
+        let two = b.right_out.first other rest one.2 in
+        record {
+          first = pair ∷ other ∷ [];
+          others = rest;
+          split = refl;
+          many = refl;
+          short = (
+            pump_read _ _ b.left.left b.left_end.left b.right.written b.right_end.written run.done.from_left pair.0 one.0 both.0 b.from_left,
+            (pump_read _ _ b.right.left b.right_end.left b.left.written b.left_end.written run.done.from_right other.0 two.0 both.1 b.from_right, tt),
+          );
+        }
+
 -- ---- client
 
 -- the journal of a client was full
@@ -475,3 +524,28 @@ crew_had_room workers status before after input st ends is left held =
 pub serve_had_room : ServeHadRoom
 serve_had_room workers connections status before after links ends is are =
     serve_read workers connections before after links are (subst (DidLive (Serve workers connections) before after) (done_of ends.0 (sym ends.1 ∙ is)) ends.2)
+
+pub bridge_had_room : BridgeHadRoom
+bridge_had_room at_right at_left status before after links ends is are =
+    bridge_read at_right at_left before after links are (subst (DidLive (Bridge at_right at_left) before after) (done_of ends.0 (sym ends.1 ∙ is)) ends.2)
+
+pub client_had_room : ClientHadRoom
+client_had_room command status before after links ends is are = at links are
+  where
+    e : EndedOkay command before after
+    e = okay_is_okay command status before after ends is
+
+    at : (coming : List Ends) → before.links.coming ≡ Some coming → AreShortUpTo 1 coming
+    at [] none = absurd (e.run.lent.handed.some none)
+    at (pair ∷ rest) coming =
+        let does = e.run.does in
+        let begins = does.begins in
+        let taken = subst (λ x. Consumes x e.run.left_new begins.bytes) (e.run.lent.handed.first pair rest coming).0 begins.taken in
+        let bytes = all_taken pair.0 begins.bytes e.run.left_new taken (does.at_end e.settled) in
+        record {
+          first = pair ∷ [];
+          others = rest;
+          split = refl;
+          many = refl;
+          short = (subst (λ n. n < INPUT_LIMIT) (sym begins.count ∙ ap length bytes) (does.below (inl e.settled)), tt);
+        }

@@ -1,26 +1,20 @@
 -- How a run ends where no device fails.
-use Rattle.std.proofs.Common.{◌≡◌, ◌≢◌, ◌⊎◌, ℕ, zero, suc, ◌+◌, ◌<◌, ◌≤◌, List, [], ◌∷◌, ◌++◌, length, Option, Some, None, IfSome, refl, ap, sym, ◌∙◌, subst, inl, inr, arith, length-append, append_assoc}
-use Rattle.std.specs.Io.KnownBytes.{Consumes, IsAtEnd}
+use Rattle.std.proofs.Common.{◌≡◌, ◌≢◌, ◌⊎◌, ℕ, ◌<◌, ◌≤◌, List, ◌++◌, length, Option, Some, None, refl, ap, sym, ◌∙◌, subst, inl, inr, arith, length-append, append_assoc}
+use Rattle.std.specs.Io.KnownBytes.{Consumes}
 use mathlib.Core.List.{IsPrefix}
 use Rattle.link_io.specs.declared.shelf.Shelf.{Shelf}
-use Rattle.link_io.specs.declared.why.Why.{Why}
-use Rattle.link_io.specs.declared.why.Why.TheVariants as reason
-use Rattle.link_io.specs.Links.{Ends, HandsOut, Links}
 use Rattle.link_io.specs.Stored.{Stored, shelf_of}
 use Rattle.rpc_ids.specs.declared.method.Role.TheVariants.{Server}
 use Rattle.rpc_frames.specs.declared.counts.Counts.{Counts}
 use Rattle.rpc_frames.specs.Heard.{heard_packets}
 use Rattle.rpc_journal.specs.declared.entry.Entry.{Entry}
 use Rattle.rpc_journal.specs.declared.item.Item.{Item}
-use Rattle.rpc_journal.specs.declared.setting.Setting.{Setting}
 use Rattle.rpc_journal.specs.CallTable.{Table}
-use Rattle.rpc_journal.proofs.PlaceLemmas.{some_same}
 use Rattle.rpc_schedule.specs.declared.ending.Ending.{Ending}
 use Rattle.rpc_schedule.specs.declared.ending.Ending.TheVariants as ended
 use Rattle.rpc_schedule.specs.declared.stream.TheConstants.{INPUT_LIMIT}
 use Rattle.rpc_schedule.specs.OneThread.{HasRoom, IsFullBeginning, IsOneThreadHistory}
 use Rattle.rpc_schedule.proofs.ScheduleLemmas.{one_history}
-use Rattle.rpc_crew.specs.Sessions.{IsSessionHistory}
 use Rattle.demo_services.specs.DemoRule.{demo_rule}
 use Rattle.pw_run.specs.declared.command.Command.{Command}
 use Rattle.pw_run.specs.declared.command.Command.TheVariants.{Replay, Text, Load}
@@ -32,15 +26,15 @@ use Rattle.pw_run.specs.declared.told.Found.{Found}
 use Rattle.pw_run.specs.declared.told.Found.TheVariants as found
 use Rattle.pw_run.specs.Demo.{demo_setting}
 use Rattle.pw_run.specs.Load.{DidLoad, ServesLoad}
-use Rattle.pw_run.specs.Outcome.{code_of, outcome_for, outcome_of}
+use Rattle.pw_run.specs.Outcome.{code_of, outcome_of}
 use Rattle.pw_run.specs.Recorded.{Did, EndsWith}
 use Rattle.pw_run.specs.Replay.{DidReplay, ListsNothing, RunsReplay, ServesDemo, ServesStream}
 use Rattle.pw_run.specs.Tells.{DidText, ReadsText, Tells}
 use Rattle.pw_run.specs.Texts.{FailsToRead, MeetsLimit, limit_of, outcome_on}
 use Rattle.pw_run.specs.Writes.{Writes}
 use Rattle.run_law.specs.CalmCrews.{setting_over}
-use Rattle.run_law.specs.Statuses.{HadRoom, HasGoodLines, HasShortRun, IsBlameless, IsWell, IsWithinLimits, RecordedEndWell, RecordedHadRoom}
-use Rattle.run_law.proofs.CrewLemmas.{all_taken, shelf_is}
+use Rattle.run_law.specs.Statuses.{HadRoom, HasShortRun, IsBlameless, IsWell, RecordedEndWell, RecordedHadRoom}
+use Rattle.run_law.proofs.CrewLemmas.{all_taken}
 
 -- ---- bytes that were taken from known ones
 

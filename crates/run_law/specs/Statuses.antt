@@ -16,6 +16,7 @@ use Rattle.rpc_crew.specs.Sessions.{IsSessionHistory}
 use Rattle.demo_services.specs.DemoRule.{demo_rule}
 use Rattle.live_client.specs.declared.ask.LiveAsk.{LiveAsk}
 use Rattle.live_client.specs.Live.{IsLiveHistory}
+use Rattle.pw_run.specs.declared.client_command.ClientCommand.{ClientCommand}
 use Rattle.pw_run.specs.declared.command.Command.{Command}
 use Rattle.pw_run.specs.declared.command.Command.TheVariants.{Replay, Text, Load}
 use Rattle.pw_run.specs.declared.live_command.LiveCommand.{LiveCommand}
@@ -143,3 +144,15 @@ abbrev pub ServeHadRoom : Type 0
 ServeHadRoom =
     (workers connections status : ℕ) (before after : Devices) (links : List Ends) → EndsWith status (DidLive (Serve workers connections) before after)
     → status ≡ code_of outcome.Done → before.links.coming ≡ Some links → AreShortUpTo connections links
+
+-- and so are both links of a bridge that ended well
+abbrev pub BridgeHadRoom : Type 0
+BridgeHadRoom =
+    (at_right at_left status : ℕ) (before after : Devices) (links : List Ends) → EndsWith status (DidLive (Bridge at_right at_left) before after)
+    → status ≡ code_of outcome.Done → before.links.coming ≡ Some links → AreShortUpTo 2 links
+
+-- and so is the link of a client that ended well
+abbrev pub ClientHadRoom : Type 0
+ClientHadRoom =
+    (command : ClientCommand) (status : ℕ) (before after : Devices) (links : List Ends) → EndsWith status (DidLive (Client command) before after)
+    → status ≡ code_of outcome.Done → before.links.coming ≡ Some links → AreShortUpTo 1 links

@@ -1,7 +1,7 @@
 //! What follows from the definitions. Each function does nothing: what counts is its contract.
 ghost use Rattle.run_law.specs.CalmCrews.{CrewsWriteAlike, LoadsAreWrittenAlike, NoCrewSizeMatters};
 ghost use Rattle.run_law.specs.ClientEnds.{NotOkayIsOther, OkayIsOkay};
-ghost use Rattle.run_law.specs.Statuses.{CrewHadRoom, LiveEndWell, RecordedEndWell, RecordedHadRoom, ServeHadRoom};
+ghost use Rattle.run_law.specs.Statuses.{BridgeHadRoom, ClientHadRoom, CrewHadRoom, LiveEndWell, RecordedEndWell, RecordedHadRoom, ServeHadRoom};
 
 /// A run of `crew` over a calm input that ends with status 0 writes the report of the history of one thread.
 pub fn calm_crews_write_alike()
@@ -22,11 +22,14 @@ pub fn recorded_commands_end_well()
 {}
 
 /// So it is of the commands on threads, whose inputs are known: a session whose journal was full has its own status. A crew that ended
-/// with 0 read its input to the end, below the limit, and a run of `serve` that of each connection.
+/// with 0 read its input to the end, below the limit, a run of `serve` that of each connection, a bridge those of its two links, and a
+/// client that of its one link.
 pub fn commands_on_threads_end_well()
     ensures well { LiveEndWell }
     ensures room { CrewHadRoom }
     ensures links { ServeHadRoom }
+    ensures bridge { BridgeHadRoom }
+    ensures client { ClientHadRoom }
 {}
 
 /// With status 0 what a client was asked ended OK, and with 9 it ended otherwise, or there was nothing to send; its link was read to
