@@ -1,5 +1,5 @@
 -- A pump over one segment.
-use Rattle.std.proofs.Common.{◌≡◌, ℕ, ◌+◌, ◌-◌, ◌≤◌, true, List, [], ◌∷◌, ◌++◌, length, map, take, drop, nat_lt, Option, Some, None, IsNone, refl, sym, ◌∙◌, ap, subst, arith, append-nil, append_assoc, take-append-drop}
+use Rattle.std.proofs.Common.{◌≡◌, ℕ, ◌+◌, ◌-◌, ◌≤◌, true, List, [], ◌∷◌, ◌++◌, length, map, take, drop, nat_lt, Option, Some, None, IsNone, refl, sym, ◌∙◌, ap, subst, arith, append-nil, append_assoc, length-append, take-append-drop}
 use Rattle.std.specs.Io.KnownBytes.{Appends}
 use Rattle.std.specs.List.{filter, flat_map}
 use Rattle.std.specs.Option.{option_to_list}
@@ -16,7 +16,6 @@ use Rattle.frame_router.specs.Fates.{frame_bytes, passed}
 use Rattle.frame_router.specs.Pumped.{PumpsPart, all_kept, wire_of}
 use Rattle.frame_router.specs.Pumping.{IsPumped, PumpState, PumpsOn, StopsIn}
 use Rattle.frame_router.specs.Routed.{HasRouted, LaneView, RoutesMore, arriving}
-use Rattle.frame_router.proofs.Growing.{wire_begins}
 use Rattle.frame_router.proofs.Segments.{gives_front, passed_none}
 
 all_arrived : (fs : List FrameParts) → map (λ a. a.arrived) (all_kept fs) ≡ fs
@@ -107,15 +106,17 @@ pub stops_before :
     (routes : List Route) (from : Port) (old : LaneView) (was : Option (List ℕ)) (piece : List ℕ) (tally : Tally) → tally ≡ old.tally →
     StopsIn routes from (record { lane = old; written = was }) was piece tally
 stops_before routes from old was piece tally same first stream pumped =
-    let begins = wire_begins routes from stream piece in
+    let none = append-nil (wire_of routes from stream) in
     record {
       front = stream;
+      next = [];
       behind = piece;
       part = [];
-      unwritten = begins.0;
-      begins = refl;
-      wrote = subst (Appends first was) (sym (append-nil (wire_of routes from stream))) pumped.wrote;
-      within = sym begins.1 ∙ ap (λ xs. xs ++ begins.0) (sym (append-nil (wire_of routes from stream)));
+      unwritten = [];
+      begins = ap (λ xs. xs ++ piece) (sym (append-nil stream));
+      one = omega (arith, ap (λ s. length (passed routes from s)) (append-nil stream));
+      wrote = subst (Appends first was) (sym none) pumped.wrote;
+      within = ap (wire_of routes from) (append-nil stream) ∙ sym (append-nil (wire_of routes from stream ++ []) ∙ none);
       counts = same ∙ pumped.routed.tally;
     }
 
@@ -130,20 +131,19 @@ stops_within routes from old mid new piece taken bytes front was is tally some r
     let grows : wire_of routes from (stream ++ take taken piece) ≡ wire_of routes from stream ++ bytes =
     wire_grows routes from mid new.waiting rm.more stream (take taken piece) front brings all rm.one ∙ ap (λ f. wire_of routes from stream ++ bytes_in f) some in
     let whole : (stream ++ take taken piece) ++ drop taken piece ≡ stream ++ piece = append_assoc stream (take taken piece) (drop taken piece) ∙ ap (λ xs. stream ++ xs) (take-append-drop taken piece) in
-    let later = wire_begins routes from (stream ++ take taken piece) (drop taken piece) in
     let written = wire_of routes from stream in
     let part = take wrote.0 bytes in
     let rest = drop wrote.0 bytes in
     record {
       front = stream;
-      behind = piece;
+      next = take taken piece;
+      behind = drop taken piece;
       part = part;
-      unwritten = rest ++ later.0;
-      begins = refl;
+      unwritten = rest;
+      begins = sym whole;
+      one = omega (arith, ap length brings.grown, length-append (passed routes from stream) rm.more, rm.one);
       wrote = Appends-trans first was is written part pumped.wrote wrote.2;
-      within =
-          ap (wire_of routes from) (sym whole) ∙ sym later.1 ∙ ap (λ xs. xs ++ later.0) (grows ∙ ap (λ xs. written ++ xs) (sym (take-append-drop wrote.0 bytes)) ∙ sym (append_assoc written part rest)) ∙
-          append_assoc (written ++ part) rest later.0;
+      within = grows ∙ ap (λ xs. written ++ xs) (sym (take-append-drop wrote.0 bytes)) ∙ sym (append_assoc written part rest);
       counts = same ∙ pumped.routed.tally;
     }
 

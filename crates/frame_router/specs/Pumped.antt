@@ -1,5 +1,5 @@
 -- What a pump took from its source, and what it wrote.
-use Rattle.std.specs.Prelude.{◌≡◌, ℕ, ◌<◌, ◌≤◌, true, List, ◌++◌, length, map, Option}
+use Rattle.std.specs.Prelude.{◌≡◌, ℕ, ◌+◌, ◌<◌, ◌≤◌, true, List, ◌++◌, length, map, Option}
 use Rattle.std.specs.Io.KnownBytes.{Appends, Consumes, IsAtEnd}
 use Rattle.std.specs.List.{flat_map}
 use Rattle.hdlc_frame.specs.Found.{FrameParts}
@@ -28,16 +28,18 @@ pub record PumpsAll (routes : List Route) (from : Port) (bytes : List ℕ) (old 
   pub wrote : Appends old new (wire_of routes from bytes)
   pub counts : tally ≡ full_tally routes from bytes
 
--- It stopped at a frame of these bytes, or behind all of them: of the bytes before it all frames that pass were written and
--- all segments were counted, and of it at most a part was written.
+-- It stopped at a frame of these bytes, or behind all of them: of the bytes before it all frames that pass were written and all
+-- segments were counted, and at most this one frame passes up to its end, of which a part was written.
 pub record PumpsPart (routes : List Route) (from : Port) (bytes : List ℕ) (old new : Option (List ℕ)) (tally : Tally) : Type 0 where
   pub front : List ℕ
+  pub next : List ℕ
   pub behind : List ℕ
   pub part : List ℕ
   pub unwritten : List ℕ
-  pub begins : bytes ≡ front ++ behind
+  pub begins : bytes ≡ (front ++ next) ++ behind
+  pub one : length (passed routes from (front ++ next)) ≤ length (passed routes from front) + 1
   pub wrote : Appends old new (wire_of routes from front ++ part)
-  pub within : wire_of routes from bytes ≡ (wire_of routes from front ++ part) ++ unwritten
+  pub within : wire_of routes from (front ++ next) ≡ (wire_of routes from front ++ part) ++ unwritten
   pub counts : tally ≡ full_tally routes from front
 
 abbrev pub PumpsBy : Why → List Route → Port → List ℕ → Option (List ℕ) → Option (List ℕ) → Tally → Type 0
