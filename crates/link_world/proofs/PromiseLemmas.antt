@@ -10,10 +10,11 @@ use Rattle.world_fits.specs.Scripts.{IsScript}
 use Rattle.world_fits.proofs.OfScripts.{scripts_mean_the_bytes}
 use Rattle.world_lossless.specs.Lossless.{IsLosslessScript}
 use Rattle.world_lossless.specs.Scripts.{IsOpenScript}
+use Rattle.world_lossless.proofs.Arriving.{lossless_runs_arrive}
 use Rattle.world_lossless.proofs.Walking.{lossless_runs_end_well}
 use Rattle.world_losses.proofs.Walking.{lossy_runs_end_well}
 use Rattle.link_world.specs.declared.outcome.Outcome.{Outcome}
-use Rattle.link_world.specs.Outcomes.{AllEndWell, IsRunOf, IsRunWith, LinesHold, LossesEndWell}
+use Rattle.link_world.specs.Outcomes.{AllArrive, AllEndWell, IsRunOf, IsRunWith, LinesHold, LossesEndWell}
 
 -- the outcome is that of a run of the script, and both its journals are legal
 pub record Runs (script : Script) (outcome : Outcome) : Type 0 where
@@ -45,6 +46,11 @@ pub all_end_well : {E : Type 0} (script : Script) (result : Result Outcome E) �
 all_end_well script (Ok outcome) is r =
     record { run = r.run; holds = λ number command there. lossless_runs_end_well script r.run.now number command is r.run.run r.server r.client there }
 all_end_well script (Err e) is r = tt
+
+pub all_arrive : {E : Type 0} (script : Script) (result : Result Outcome E) → IsLosslessScript script → IfOk result (Runs script)
+    → IfOk result (IsRunWith AllArrive script)
+all_arrive script (Ok outcome) is r = record { run = r.run; holds = lossless_runs_arrive script r.run.now is r.run.run r.server r.client }
+all_arrive script (Err e) is r = tt
 
 pub losses_end_well : {E : Type 0} (script : Script) (result : Result Outcome E) → IsOpenScript script → IfOk result (Runs script)
     → IfOk result (IsRunWith LossesEndWell script)

@@ -9,6 +9,7 @@ use Rattle.world_turns.specs.Turns.{Turned}
 use Rattle.world_turns.specs.World.{Setup, World, client_store, server_store}
 use Rattle.world_calls.specs.Ended.{EndsOkay, HasEnded}
 use Rattle.world_drops.specs.Dropped.{DropsFew}
+use Rattle.world_laws.specs.InOrder.{HasAllArrived}
 use Rattle.world_lossless.specs.Lossless.{EndsAs, chunks_of}
 use Rattle.world_ok.specs.Okay.{LineHolds}
 use Rattle.link_world.specs.declared.outcome.Outcome.{Outcome}
@@ -43,6 +44,10 @@ LinesHold k commands now = AllByRecursion (LineHolds k commands now) now.lines
 abbrev pub AllEndWell : Setup → List Command → World → Type 0
 AllEndWell k commands now =
     (number : ℕ) (command : Command) → slice_get commands number ≡ Some command → HasEnded k commands now number command (λ start told. EndsAs k start command told (chunks_of (start.sessions + 1) now))
+
+-- AND ALL ARRIVES: what has arrived at each end are the packets that the other end flushed, in order
+abbrev pub AllArrive : Setup → List Command → World → Type 0
+AllArrive k commands now = HasAllArrived k now
 
 -- WITH THREE LOST CHUNKS ALL STILL ENDS WELL: where the script has at most three losses, all of them drops, and each frame that is
 -- dropped carries a chunk and none the START_ACK_CONFIRMATION of a read, each command has come to its line, and each transfer whose

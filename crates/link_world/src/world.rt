@@ -8,7 +8,7 @@ ghost use Rattle.world_turns.specs.Sound.{NoFlips};
 ghost use Rattle.world_fits.specs.Scripts.{IsScript};
 ghost use Rattle.world_lossless.specs.Lossless.{IsLosslessScript};
 ghost use Rattle.world_lossless.specs.Scripts.{IsOpenScript};
-ghost use Rattle.link_world.specs.Outcomes.{AllEndWell, IsRunOf, IsRunWith, LinesHold, LossesEndWell};
+ghost use Rattle.link_world.specs.Outcomes.{AllArrive, AllEndWell, IsRunOf, IsRunWith, LinesHold, LossesEndWell};
 ghost use Rattle.link_world.specs.Starting.{IsWithinBounds};
 
 use crate::course::Course;
@@ -89,6 +89,7 @@ impl World {
         ensures client { IfOk result (λ outcome. IsLegal quiet_rule client_setting outcome.client.entries) }
         ensures bytes { IsScript self → NoFlips self.losses → IfOk result (IsRunWith LinesHold self) }
         ensures lossless { IsLosslessScript self → IfOk result (IsRunWith AllEndWell self) }
+        ensures arrives { IsLosslessScript self → IfOk result (IsRunWith AllArrive self) }
         ensures losses { IsOpenScript self → IfOk result (IsRunWith LossesEndWell self) }
     {
         let World {

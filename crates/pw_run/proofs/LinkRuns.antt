@@ -3,7 +3,7 @@ use Rattle.std.proofs.Common.{◌≡◌, List, ℕ, refl, subst, sym}
 use Rattle.link_script.specs.declared.command.Command.{Command}
 use Rattle.link_script.specs.declared.script.Script.{Script}
 use Rattle.link_world.specs.declared.outcome.Outcome.{Outcome}
-use Rattle.link_world.specs.Outcomes.{AllEndWell, IsRunOf, IsRunWith, LinesHold, LossesEndWell}
+use Rattle.link_world.specs.Outcomes.{AllArrive, AllEndWell, IsRunOf, IsRunWith, LinesHold, LossesEndWell}
 use Rattle.script_text.specs.Report.{report_text}
 use Rattle.world_fits.specs.Scripts.{IsScript}
 use Rattle.world_laws.proofs.OneRun.{runs_are_one}
@@ -27,6 +27,7 @@ pub record Promises (script : Script) (outcome : Outcome) : Type 0 where
   pub run : IsRunOf script outcome
   pub bytes : IsScript script → NoFlips script.losses → IsRunWith LinesHold script outcome
   pub lossless : IsLosslessScript script → IsRunWith AllEndWell script outcome
+  pub arrives : IsLosslessScript script → IsRunWith AllArrive script outcome
   pub losses : IsOpenScript script → IsRunWith LossesEndWell script outcome
 
 reported : (script : Script) (outcome : Outcome) (told : List ℕ) → Promises script outcome → told ≡ report_text outcome.report → TellsReport script told
@@ -36,6 +37,7 @@ reported script outcome told p is = record {
   report = subst (λ r. told ≡ report_text r) p.run.report is;
   bytes = λ fits calm. of_one LinesHold script outcome p.run (p.bytes fits calm);
   lossless = λ fits. of_one AllEndWell script outcome p.run (p.lossless fits);
+  arrives = λ fits. of_one AllArrive script outcome p.run (p.arrives fits);
   losses = λ fits. of_one LossesEndWell script outcome p.run (p.losses fits);
 }
 

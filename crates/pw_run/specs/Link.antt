@@ -17,7 +17,7 @@ use Rattle.world_turns.specs.World.{World}
 use Rattle.world_fits.specs.Scripts.{IsScript}
 use Rattle.world_lossless.specs.Lossless.{IsLosslessScript}
 use Rattle.world_lossless.specs.Scripts.{IsOpenScript}
-use Rattle.link_world.specs.Outcomes.{AllEndWell, LinesHold, LossesEndWell}
+use Rattle.link_world.specs.Outcomes.{AllArrive, AllEndWell, LinesHold, LossesEndWell}
 use Rattle.pw_run.specs.declared.told.Found.{Found}
 use Rattle.pw_run.specs.declared.told.Found.TheVariants.{Good, BadLine, PastFrames, PastJournal}
 
@@ -26,13 +26,14 @@ abbrev pub limit_text : List ℕ → ℕ → List ℕ
 limit_text what limit = line (codes "limit" ∷ what ∷ decimal limit ∷ [])
 
 -- The script was run to its end, and this is the report of its run. Where its numbers fit and no loss damages a frame, OK means the
--- bytes; and where nothing is lost, or three chunks at most, all end well.
+-- bytes; where nothing is lost, or three chunks at most, all end well; and where nothing is lost all arrives.
 pub record TellsReport (script : Script) (told : List ℕ) : Type 0 where
   pub now : World
   pub run : Turned (setup_of script) script.commands now
   pub report : told ≡ report_text (report_of (setup_of script) now)
   pub bytes : IsScript script → NoFlips script.losses → LinesHold (setup_of script) script.commands now
   pub lossless : IsLosslessScript script → AllEndWell (setup_of script) script.commands now
+  pub arrives : IsLosslessScript script → AllArrive (setup_of script) script.commands now
   pub losses : IsOpenScript script → LossesEndWell (setup_of script) script.commands now
 
 -- what is told of a script, by how its run ends

@@ -1,3 +1,4 @@
+pub mod Arriving
 pub mod Offers
 pub mod Starting
 pub mod Finishing

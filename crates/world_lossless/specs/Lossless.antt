@@ -14,6 +14,7 @@ use Rattle.world_turns.specs.Setup.{quiet_rule, setup_of}
 use Rattle.world_turns.specs.Starts.{left_length}
 use Rattle.world_turns.specs.Turns.{Turned}
 use Rattle.world_turns.specs.World.{Setup, World, client_store}
+use Rattle.world_laws.specs.InOrder.{HasAllArrived}
 use Rattle.world_calls.specs.Ended.{EndsOkay, HasEnded}
 use Rattle.world_lift.specs.Chunks.{is_chunk_of}
 use Rattle.world_lossless.specs.Scripts.{IsOpenScript}
@@ -51,3 +52,9 @@ LosslessRunsEndWell =
     → IsLegal demo_rule (setup_of s).server now.server → IsLegal quiet_rule (setup_of s).client now.client
     → slice_get s.commands number ≡ Some command
     → HasEnded (setup_of s) s.commands now number command (λ start told. EndsAs (setup_of s) start command told (chunks_of (start.sessions + 1) now))
+
+-- AND ALL ARRIVES: when it ends, what has arrived at each end are the packets that the other end flushed, in order.
+abbrev pub LosslessRunsArrive : Type 0
+LosslessRunsArrive =
+    (s : Script) (now : World) → IsLosslessScript s → Turned (setup_of s) s.commands now
+    → IsLegal demo_rule (setup_of s).server now.server → IsLegal quiet_rule (setup_of s).client now.client → HasAllArrived (setup_of s) now

@@ -1,5 +1,5 @@
 //! What follows from the definitions. Each function does nothing: what counts is its contract.
-ghost use Rattle.world_lossless.specs.Lossless.{LosslessRunsEndWell};
+ghost use Rattle.world_lossless.specs.Lossless.{LosslessRunsArrive, LosslessRunsEndWell};
 ghost use Rattle.world_lossless.specs.Within.{RowsAreWithin};
 
 /// Over a link that loses nothing each command of a script that closes no channel comes to its line. A read whose resource
@@ -7,6 +7,11 @@ ghost use Rattle.world_lossless.specs.Within.{RowsAreWithin};
 /// them than their bound.
 pub fn lossless_runs_end_well()
     ensures { LosslessRunsEndWell }
+{}
+
+/// When such a run ends, what has arrived at each end are the packets that the other end flushed, in order.
+pub fn lossless_runs_arrive()
+    ensures { LosslessRunsArrive }
 {}
 
 /// So it is told of the computed runs of whole transfers.

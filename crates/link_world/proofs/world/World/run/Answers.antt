@@ -8,7 +8,7 @@ use Rattle.world_turns.specs.Setup.{quiet_rule, setup_of}
 use Rattle.link_world.specs.declared.outcome.WorldRefused.TheVariants.{Journal}
 use Rattle.link_world.specs.Outcomes.{IsRunOf}
 use Rattle.link_world.specs.Running.{EndsWith, setup_by}
-use Rattle.link_world.proofs.PromiseLemmas.{Runs, all_end_well, all_mean, all_run, losses_end_well}
+use Rattle.link_world.proofs.PromiseLemmas.{Runs, all_arrive, all_end_well, all_mean, all_run, losses_end_well}
 use Rattle.link_world.proofs.NewLemmas.{end_stopped, if_ok_more, run_is, setup_is}
 use Rattle.link_world.proofs.world.World.run.Goals as goal
 
@@ -42,6 +42,9 @@ returns-clause-bytes c = λ is calm. all_mean c.args.self c.end.result is calm (
 
 pub returns-clause-lossless : goal.returns-clause-lossless
 returns-clause-lossless c = λ is. all_end_well c.args.self c.end.result is (runs c)
+
+pub returns-clause-arrives : goal.returns-clause-arrives
+returns-clause-arrives c = λ is. all_arrive c.args.self c.end.result is (runs c)
 
 pub returns-clause-losses : goal.returns-clause-losses
 returns-clause-losses c = λ is. losses_end_well c.args.self c.end.result is (runs c)
