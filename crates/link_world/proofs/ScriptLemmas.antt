@@ -4,7 +4,6 @@ use Rattle.std.specs.List.{AllByRecursion, slice_split}
 use Rattle.std.proofs.lemmas.List.Splits.{length-slice_split}
 use Rattle.std.proofs.lemmas.List.Sums.{count_by-le-length}
 use Rattle.link_script.specs.declared.script.Script.{Script}
-use Rattle.link_script.specs.declared.stock.Stock.{Stock}
 use Rattle.link_script.specs.Script.{IsStock, new_script}
 use Rattle.rpc_ids.specs.declared.method.Role.TheVariants.{Server, Client}
 use Rattle.script_text.specs.declared.line.Line.{Line}
