@@ -95,7 +95,7 @@ fn a_watch_counts_until_the_end_or_its_limit(rt: HostRuntime) -> Result<(), Allo
     let rows = [
         ("watch p 2 64", both, 0, "watch OK 2\ndone\n"),
         ("watch p 2 1", &both[..1], 9, "watch CANCELLED 1\ndone\n"),
-        ("watch p 2 1", both, 9, "watch CANCELLED 1\ndone\n"),
+        ("watch p 2 1", &both[..2], 9, "watch CANCELLED 1\ndone\n"),
         ("watch p 2 2", &both[..1], 9, "watch UNAVAILABLE 1\ndone\n"),
         (
             "watch p 255 64",
