@@ -32,7 +32,7 @@ extern "C" {
 /* The check sequence of some bytes: the CRC-32 of Ethernet, of zlib and of pw_hdlc. */
 uint32_t kf_crc32(const uint8_t *bytes, size_t len);
 
-/* A decoder of a stream. All zeros are one that has read nothing. Its fields are its own affair. */
+/* A decoder of a stream, made by kf_decoder_start. Its fields are its own affair. */
 typedef struct kf_decoder {
   size_t len;
   uint8_t phase;

@@ -47,7 +47,7 @@ def seconds(room, sender, receiver, into):
 
 def main():
     launcher = os.path.join(TOP, "kirofantse")
-    subprocess.run([launcher, "load", "0", "0"], check=True, stdout=subprocess.DEVNULL)
+    subprocess.run([launcher, "build"], check=True)
     program = os.path.join(TOP, "crates", "pw_main", "out", "pw_main")
     stored = f"store/full-{RESOURCE}"
     ways = {

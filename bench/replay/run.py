@@ -26,7 +26,7 @@ def built():
     source = os.path.join(HERE, "plain_server.rs")
     subprocess.run(["rustc", "-O", "--edition", "2021", "-o", plain, source], check=True)
     launcher = os.path.join(TOP, "kirofantse")
-    subprocess.run([launcher, "load", "0", "0"], check=True, stdout=subprocess.DEVNULL)
+    subprocess.run([launcher, "build"], check=True)
     return os.path.join(TOP, "crates", "pw_main", "out", "pw_main"), plain
 
 

@@ -71,7 +71,7 @@ def seconds(command, sent, room):
 
 def main():
     launcher = os.path.join(TOP, "kirofantse")
-    subprocess.run([launcher, "load", "0", "0"], check=True, stdout=subprocess.DEVNULL)
+    subprocess.run([launcher, "build"], check=True)
     program = os.path.join(TOP, "crates", "pw_main", "out", "pw_main")
     ways = {"bridge": lambda left, right: [program, "bridge", left, right, "123", "5"]}
     if shutil.which("socat"):

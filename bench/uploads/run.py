@@ -73,7 +73,7 @@ def recording(resource, size):
 
 
 def built():
-    subprocess.run([os.path.join(TOP, "kirofantse"), "load", "0", "0"], check=True, stdout=subprocess.DEVNULL)
+    subprocess.run([os.path.join(TOP, "kirofantse"), "build"], check=True)
     return os.path.join(TOP, "crates", "pw_main", "out", "pw_main")
 
 

@@ -7,7 +7,8 @@ ghost use Rattle.c_codec.specs.Decoder.{bad_at, machine_at, phase_at, segment_to
 
 use hdlc_frame::{Bad, Machine, Phase, Place, Segment, Told};
 
-/// A decoder, as C keeps it. Zeros are one that has read nothing, and any other values are those of some decoder.
+/// A decoder, as C keeps it: `kf_decoder_start` makes one. Any values of the fields are safe; where no stream leads to
+/// them, what is told is a frame or a fault of no stream.
 #[repr(C)]
 #[derive(Clone, Copy, Debug, PartialEq, Eq)]
 pub struct KfDecoder {

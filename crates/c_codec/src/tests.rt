@@ -1,7 +1,8 @@
 use crate::{
-    KF_NO_ROOM, KfDecoder, KfPacket, kf_crc32, kf_decoder_push, kf_decoder_start, kf_encode_ui,
-    kf_packet_read, kf_packet_write, kf_write_frame,
+    KF_NO_ROOM, KfDecoder, KfPacket, KfPushed, kf_crc32, kf_decoder_push, kf_decoder_start,
+    kf_encode_ui, kf_packet_read, kf_packet_write, kf_write_frame,
 };
+use std::process::Abort;
 
 // A request of `demo.Demo`'s `Echo` with the payload `abc`, on channel 1.
 const REQUEST: KfPacket = KfPacket {
@@ -37,35 +38,75 @@ const REQUEST_FRAME: [u8; 27] = [
     0x03, 0x61, 0x62, 0x63, 0x38, 0x01, 0x03, 0xED, 0xCE, 0x63, 0x7E,
 ];
 
+fn code_is(rt: &impl Abort, code: u8, wanted: u8) {
+    assert_eq!(rt; code, wanted);
+}
+
+fn count_is(rt: &impl Abort, count: usize, wanted: usize) {
+    assert_eq!(rt; count, wanted);
+}
+
+fn bytes_are(rt: &impl Abort, bytes: &[u8], wanted: &[u8]) {
+    assert_eq!(rt; bytes, wanted);
+}
+
+fn packet_is(rt: &impl Abort, packet: KfPacket, wanted: KfPacket) {
+    assert_eq!(rt; packet, wanted);
+}
+
 #[test]
 fn a_packet_is_read_and_written(rt: HostRuntime) {
     let mut packet = NOTHING;
-    assert_eq!(rt; kf_packet_read(&REQUEST_BYTES, &mut packet), 0);
-    assert_eq!(rt; packet, REQUEST);
-    assert_eq!(rt; kf_packet_read(&REQUEST_BYTES[..18], &mut packet), 1);
-    assert_eq!(rt; packet, REQUEST);
+    code_is(&rt, kf_packet_read(&REQUEST_BYTES, &mut packet), 0);
+    packet_is(&rt, packet, REQUEST);
+    code_is(&rt, kf_packet_read(&REQUEST_BYTES[..18], &mut packet), 1);
+    packet_is(&rt, packet, REQUEST);
     let mut short = [0; 18];
-    assert_eq!(rt; kf_packet_write(&packet, b"abc", &mut short), KF_NO_ROOM);
+    count_is(
+        &rt,
+        kf_packet_write(&packet, b"abc", &mut short),
+        KF_NO_ROOM,
+    );
     let mut bytes = [0; 19];
-    assert_eq!(rt; kf_packet_write(&packet, b"abc", &mut bytes), 19);
-    assert_eq!(rt; bytes, REQUEST_BYTES);
+    count_is(&rt, kf_packet_write(&packet, b"abc", &mut bytes), 19);
+    bytes_are(&rt, &bytes, &REQUEST_BYTES);
 }
 
 #[test]
 fn a_frame_is_written(rt: HostRuntime) {
     assert_eq!(rt; kf_crc32(b"123456789"), 0xcbf4_3926);
     let mut frame = [0; 27];
-    assert_eq!(rt; kf_encode_ui(82, &REQUEST_BYTES, &mut frame), 27);
-    assert_eq!(rt; frame, REQUEST_FRAME);
+    count_is(&rt, kf_encode_ui(82, &REQUEST_BYTES, &mut frame), 27);
+    bytes_are(&rt, &frame, &REQUEST_FRAME);
     let mut short = [0; 20];
-    assert_eq!(rt; kf_encode_ui(82, &REQUEST_BYTES, &mut short), KF_NO_ROOM);
+    count_is(
+        &rt,
+        kf_encode_ui(82, &REQUEST_BYTES, &mut short),
+        KF_NO_ROOM,
+    );
     let mut scratch = [0; 19];
     let mut same = [0; 27];
+    let written = kf_write_frame(82, &REQUEST, b"abc", &mut scratch, &mut same);
+    count_is(&rt, written, 27);
+    bytes_are(&rt, &same, &REQUEST_FRAME);
+}
+
+// How much of a piece was taken, and what ended.
+fn takes(rt: &impl Abort, pushed: KfPushed, wanted: (usize, u8)) {
+    assert_eq!(rt; (pushed.taken, pushed.kind), wanted);
+}
+
+// What ended, the address and the control byte.
+fn frame_is(rt: &impl Abort, pushed: KfPushed, wanted: (u8, u32, u8)) {
+    assert_eq!(rt; (pushed.kind, pushed.address, pushed.control), wanted);
+}
+
+// Where the payload begins, its length, and whether it lies in the piece.
+fn payload_is(rt: &impl Abort, pushed: KfPushed, wanted: (usize, usize, bool)) {
     assert_eq!(rt;
-        kf_write_frame(82, &REQUEST, b"abc", &mut scratch, &mut same),
-        27
+        (pushed.payload_at, pushed.payload_len, pushed.in_piece),
+        wanted
     );
-    assert_eq!(rt; same, REQUEST_FRAME);
 }
 
 #[test]
@@ -78,12 +119,9 @@ fn a_frame_is_found_in_two_pieces(rt: HostRuntime) {
     let mut buffer = [0; 64];
     kf_decoder_start(&mut decoder);
     let begun = kf_decoder_push(&mut decoder, &mut buffer, &REQUEST_FRAME[..4]);
-    assert_eq!(rt; (begun.taken, begun.kind), (4, 0));
+    takes(&rt, begun, (4, 0));
     let ended = kf_decoder_push(&mut decoder, &mut buffer, &REQUEST_FRAME[4..]);
-    assert_eq!(rt; (ended.kind, ended.address, ended.control), (1, 82, 3));
-    assert_eq!(rt;
-        (ended.payload_at, ended.payload_len, ended.in_piece),
-        (2, 19, false)
-    );
-    assert_eq!(rt; &buffer[2..21], &REQUEST_BYTES[..]);
+    frame_is(&rt, ended, (1, 82, 3));
+    payload_is(&rt, ended, (2, 19, false));
+    bytes_are(&rt, &buffer[2..21], &REQUEST_BYTES);
 }

@@ -43,7 +43,7 @@ event_step b Completion evs later = one_step b call_ends evs later
 event_step b (Ended status) evs later = one_step b call_ends evs later
 event_step b (Tick now) evs later = one_step b (time_comes now) evs later
 
-said_over : (evs : List Event) → SaysAll evs
+pub said_over : (evs : List Event) → SaysAll evs
 said_over [] b = refl
 said_over (ev ∷ evs) b =
     ap (λ a. a.items ++ said (next (transfer_memo b) ev) evs) (sym (answer-memo_of (Transfer b) ev))

@@ -1,5 +1,9 @@
 -- What a call of Write does with the store over all events that it takes.
-use Rattle.std.specs.Prelude.{◌≡◌, ℕ, List, [], ◌∷◌, ◌++◌, Result, Ok, Err, codes}
+use Rattle.std.specs.Prelude.{◌≡◌, ℕ, false, List, [], ◌∷◌, ◌++◌, Result, Ok, Err, codes}
+use Rattle.std.specs.List.{AllByRecursion}
+use Rattle.rpc_ids.specs.declared.method.MethodRef.{MethodRef}
+use Rattle.rpc_handlers.specs.declared.answer.Out.{Out}
+use Rattle.rpc_handlers.specs.declared.answer.Out.TheVariants.{Say}
 use Rattle.rpc_handlers.specs.declared.event.Event.{Event}
 use Rattle.rpc_handlers.specs.declared.event.Event.TheVariants.{Message, Completion, Ended, Tick}
 use Rattle.link_io.specs.declared.Shelf.{Shelf}
@@ -10,7 +14,7 @@ use Rattle.transfer_resume.specs.Book.{Outgoing, new_book, spelled_all}
 use Rattle.transfer_resume.specs.Uploads.{Comes, chunk_comes, time_comes, call_ends, came, deeds_of, outs_over, IsUpload}
 use Rattle.demo_services.specs.DemoRule.{first}
 use Rattle.demo_services.specs.Laws.{said}
-use Rattle.demo_services.specs.Methods.{transfer_method}
+use Rattle.demo_services.specs.Methods.{is_transfer, transfer_method}
 use Rattle.demo_services.specs.Transfer.{demo_seed}
 
 -- what comes to the sessions of a call with an event
@@ -42,3 +46,13 @@ pub record WritesWell (shelf : Shelf) (window chunk : ℕ) (events : List Event)
 -- over any events
 abbrev pub UploadsJoin : Type 0
 UploadsJoin = (shelf : Shelf) (window chunk : ℕ) (events : List Event) (session : ℕ) → WritesWell shelf window chunk events session
+
+-- a message, and no store action
+abbrev pub IsMessage : Out → Type 0
+IsMessage out = (payload : List ℕ) × (out ≡ Say payload)
+
+-- over any events a call of a method other than Write has no store action
+abbrev pub OthersStoreNothing : Type 0
+OthersStoreNothing =
+    (shelf : Shelf) (window chunk : ℕ) (m : MethodRef) (events : List Event)
+    → is_transfer (codes "Write") m ≡ false → AllByRecursion IsMessage (said (first (demo_seed shelf window chunk) m) events)

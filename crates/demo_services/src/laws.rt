@@ -2,7 +2,7 @@
 ghost use Rattle.demo_services.specs.Laws.{StatesReadBack, KeepsLimits, CountsFromOne, SumsAllBytes, SaysBack};
 ghost use Rattle.demo_services.specs.LogLaws.{TellsTexts};
 ghost use Rattle.demo_services.specs.Serves.{ServesSessions};
-ghost use Rattle.demo_services.specs.Uploads.{UploadsJoin};
+ghost use Rattle.demo_services.specs.Uploads.{OthersStoreNothing, UploadsJoin};
 
 /// A call's state tells the whole call.
 pub fn states_read_back()
@@ -38,6 +38,11 @@ pub fn text_tells_messages()
 /// since joins, from the offset of that beginning, of the data chunks in the messages.
 pub fn uploads_join()
     ensures { UploadsJoin }
+{}
+
+/// Over any events a call of a method other than Write has no store action: all that it says are messages.
+pub fn others_store_nothing()
+    ensures { OthersStoreNothing }
 {}
 
 /// A message that says a word in a session is answered with what that session says, and moves the call by it alone.

@@ -27,6 +27,3 @@ pub use maker::DemoMaker;
 pub use registry::demo_registry;
 pub use sum::Sum;
 pub use transfer::Transfer;
-
-#[cfg(test)]
-mod tests;

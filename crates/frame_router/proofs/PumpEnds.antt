@@ -8,7 +8,6 @@ use Rattle.frame_router.specs.declared.port.Port.{Port}
 use Rattle.frame_router.specs.declared.pumping.Stopped.{Stopped}
 use Rattle.frame_router.specs.declared.pumping.Stopped.TheVariants.{Sink, Memory}
 use Rattle.frame_router.specs.declared.routes.Route.{Route}
-use Rattle.frame_router.specs.Fates.{passed}
 use Rattle.frame_router.specs.Pumped.{Pumps, PumpsBy, wire_of}
 use Rattle.frame_router.specs.Pumping.{HasTaken, IsPumped, PumpsOn, StopsIn}
 use Rattle.frame_router.specs.Routed.{LaneView}
@@ -36,7 +35,7 @@ ends_by routes from lane first now last bytes w is keeps (inr failed) =
       part = [];
       unwritten = [];
       begins = sym (append-nil (bytes ++ []) ∙ append-nil bytes);
-      one = omega (arith, ap (λ s. length (passed routes from s)) (append-nil bytes));
+      stops = inl (refl, refl);
       wrote = subst (Appends first last) (sym none) (Appends-kept first now last (wire_of routes from bytes) is.wrote keeps);
       within = ap (wire_of routes from) (append-nil bytes) ∙ sym (append-nil (wire_of routes from bytes ++ []) ∙ none);
       counts = is.routed.tally;

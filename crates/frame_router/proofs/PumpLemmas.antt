@@ -1,5 +1,5 @@
 -- A pump over one segment.
-use Rattle.std.proofs.Common.{◌≡◌, ℕ, ◌+◌, ◌-◌, ◌≤◌, true, List, [], ◌∷◌, ◌++◌, length, map, take, drop, nat_lt, Option, Some, None, IsNone, refl, sym, ◌∙◌, ap, subst, arith, append-nil, append_assoc, length-append, take-append-drop}
+use Rattle.std.proofs.Common.{◌≡◌, ℕ, ◌+◌, ◌-◌, ◌≤◌, Bool, true, false, cond, List, [], ◌∷◌, ◌++◌, length, map, take, drop, nat_lt, Option, Some, None, IsNone, inr, refl, sym, ◌∙◌, ap, subst, arith, append-nil, append_assoc, take-append-drop}
 use Rattle.std.specs.Io.KnownBytes.{Appends}
 use Rattle.std.specs.List.{filter, flat_map}
 use Rattle.std.specs.Option.{option_to_list}
@@ -7,16 +7,17 @@ use Rattle.std.proofs.KnownBytes.{Appends-nil, Appends-trans}
 use Rattle.std.proofs.lemmas.Grind.{flat_map-append}
 use Rattle.std.proofs.Math.Seq.{take-add}
 use Rattle.std.proofs.lemmas.List.{append_cancel_left, map-append, take_rest, take_all}
-use Rattle.hdlc_frame.specs.Found.{FrameParts}
+use Rattle.hdlc_frame.specs.Found.{FrameParts, Found, found, frames_in}
+use Rattle.hdlc_frame.specs.Found.Found.{frame, fault}
 use Rattle.link_io.specs.Device.{AppendsSome}
 use Rattle.frame_router.specs.declared.port.Port.{Port}
 use Rattle.frame_router.specs.declared.routes.Route.{Route}
 use Rattle.frame_router.specs.declared.tally.Tally.{Tally}
-use Rattle.frame_router.specs.Fates.{frame_bytes, passed}
+use Rattle.frame_router.specs.Fates.{frame_bytes, passed, passes}
 use Rattle.frame_router.specs.Pumped.{PumpsPart, all_kept, wire_of}
 use Rattle.frame_router.specs.Pumping.{IsPumped, PumpState, PumpsOn, StopsIn}
-use Rattle.frame_router.specs.Routed.{HasRouted, LaneView, RoutesMore, arriving}
-use Rattle.frame_router.proofs.Segments.{gives_front, passed_none}
+use Rattle.frame_router.specs.Routed.{BringsFrame, HasRouted, LaneView, RoutesMore, arriving}
+use Rattle.frame_router.proofs.Segments.{gives_front, passed_more, passed_none}
 
 all_arrived : (fs : List FrameParts) → map (λ a. a.arrived) (all_kept fs) ≡ fs
 all_arrived [] = refl
@@ -84,9 +85,9 @@ wire_grows routes from mid rest more stream bytes front brings fronts few =
 pub pumped_on :
     (routes : List Route) (from : Port) (old mid new : LaneView) (bytes : List ℕ) (front : Option (List ℕ)) (was is : Option (List ℕ)) →
     RoutesMore routes from old mid bytes → mid.waiting ≡ option_to_list front ++ new.waiting → new ≡ record mid { waiting = new.waiting } →
-    (IsNone front → mid.waiting ≡ []) → Appends was is (bytes_in front) →
+    (IsNone front → mid.waiting ≡ []) → mid.failed ≡ false → Appends was is (bytes_in front) →
     PumpsOn routes from (record { lane = old; written = was }) (record { lane = new; written = is }) bytes
-pumped_on routes from old mid new bytes front was is rm split rest none wrote first stream pumped =
+pumped_on routes from old mid new bytes front was is rm split rest none well wrote first stream pumped =
     let brings = brought routes from old mid bytes stream first was rm pumped in
     let all = fronts front mid.waiting new.waiting rm.more split brings.waits none rm.one in
     let given : map frame_bytes (passed routes from stream) ++ option_to_list front ≡ map frame_bytes (passed routes from (stream ++ bytes)) =
@@ -96,29 +97,65 @@ pumped_on routes from old mid new bytes front was is rm split rest none wrote fi
           subst (HasRouted routes from new (stream ++ bytes) (all_kept (passed routes from (stream ++ bytes)))) given
           (gives_front routes from mid new front split (ap (λ l. l.reading) rest) (ap (λ l. l.tally) rest) (stream ++ bytes) (all_kept (passed routes from (stream ++ bytes))) (map frame_bytes (passed routes from stream)) brings.routed);
       none_waits = all.none_left;
+      well = ap (λ l. l.failed) rest ∙ well;
       wrote =
           subst (Appends first is) (sym (wire_grows routes from mid new.waiting rm.more stream bytes front brings all rm.one))
           (Appends-trans first was is (wire_of routes from stream) (bytes_in front) pumped.wrote wrote);
     }
 
+-- a stream with one more frame that passes
+frame_more :
+    (routes : List Route) (from : Port) (old new : List ℕ) (f : FrameParts) → found 8192 new ≡ found 8192 old ++ frame f ∷ [] → passes routes from f ≡ true →
+    wire_of routes from new ≡ wire_of routes from old ++ frame_bytes f
+frame_more routes from old new f more passing =
+    ap (flat_map frame_bytes) (passed_more routes from old new (frame f) more ∙ ap (λ b. passed routes from old ++ cond b (f ∷ []) []) passing) ∙
+    flat_map-append frame_bytes (passed routes from old) (f ∷ []) ∙ ap (λ xs. wire_of routes from old ++ xs) (append-nil (frame_bytes f))
+
 -- there was no memory for a frame
 pub stops_before :
     (routes : List Route) (from : Port) (old : LaneView) (was : Option (List ℕ)) (piece : List ℕ) (tally : Tally) → tally ≡ old.tally →
-    StopsIn routes from (record { lane = old; written = was }) was piece tally
-stops_before routes from old was piece tally same first stream pumped =
+    (old.failed ≡ false → BringsFrame routes from old piece) → StopsIn routes from (record { lane = old; written = was }) was piece tally
+stops_before routes from old was piece tally same brings first stream pumped =
     let none = append-nil (wire_of routes from stream) in
+    let frame_is = brings pumped.well in
+    let finds : found 8192 (stream ++ frame_is.next) ≡ found 8192 stream ++ frame frame_is.carried ∷ [] =
+    subst (λ limit. found limit (stream ++ frame_is.next) ≡ found limit stream ++ frame frame_is.carried ∷ []) pumped.routed.limit (frame_is.finds stream pumped.routed.read) in
     record {
       front = stream;
-      next = [];
-      behind = piece;
+      next = frame_is.next;
+      behind = frame_is.behind;
       part = [];
-      unwritten = [];
-      begins = ap (λ xs. xs ++ piece) (sym (append-nil stream));
-      one = omega (arith, ap (λ s. length (passed routes from s)) (append-nil stream));
+      unwritten = frame_bytes frame_is.carried;
+      begins = ap (λ xs. stream ++ xs) frame_is.parts ∙ sym (append_assoc stream frame_is.next frame_is.behind);
+      stops = inr (frame_is.carried, frame_is.passing, finds);
       wrote = subst (Appends first was) (sym none) pumped.wrote;
-      within = ap (wire_of routes from) (append-nil stream) ∙ sym (append-nil (wire_of routes from stream ++ []) ∙ none);
+      within =
+          frame_more routes from stream (stream ++ frame_is.next) frame_is.carried finds frame_is.passing ∙
+          ap (λ xs. xs ++ frame_bytes frame_is.carried) (sym none);
       counts = same ∙ pumped.routed.tally;
     }
+
+-- a segment from which something passes is a frame that does
+record IsPassing (routes : List Route) (from : Port) (ended : List Found) : Type 0 where
+  carried : FrameParts
+  passing : passes routes from carried ≡ true
+  alone : ended ≡ frame carried ∷ []
+
+chosen : (p : FrameParts → Bool) (g f : FrameParts) (b : Bool) → p g ≡ b → cond b (g ∷ []) [] ≡ f ∷ [] → p g ≡ true
+chosen p g f true is some = is
+chosen p g f false is some = absurd (cc)
+
+is_passing_segment : (routes : List Route) (from : Port) (ended : List Found) (f : FrameParts) → length ended ≤ 1 → f ∷ [] ≡ filter (passes routes from) (flat_map frames_in ended) → IsPassing routes from ended
+is_passing_segment routes from [] f few some = absurd (cc)
+is_passing_segment routes from (fault bad ∷ []) f few some = absurd (cc)
+is_passing_segment routes from (frame g ∷ []) f few some = record { carried = g; passing = chosen (passes routes from) g f (passes routes from g) refl (sym some); alone = refl }
+is_passing_segment routes from (one ∷ two ∷ more) f few some = absurd (omega arith)
+
+some_front : (routes : List Route) (from : Port) (front : Option (List ℕ)) (bytes : List ℕ) (ended : List Found) (more : List FrameParts) → front ≡ Some bytes → option_to_list front ≡ map frame_bytes more → length ended ≤ 1 → more ≡ filter (passes routes from) (flat_map frames_in ended) → IsPassing routes from ended
+some_front routes from front bytes ended [] is given few passing = absurd (cc)
+some_front routes from front bytes ended (f ∷ []) is given few passing = is_passing_segment routes from ended f few passing
+some_front routes from None bytes ended (f ∷ g ∷ more) is given few passing = absurd (cc)
+some_front routes from (Some one) bytes ended (f ∷ g ∷ more) is given few passing = absurd (cc)
 
 -- a frame was written in part
 pub stops_within :
@@ -134,6 +171,8 @@ stops_within routes from old mid new piece taken bytes front was is tally some r
     let written = wire_of routes from stream in
     let part = take wrote.0 bytes in
     let rest = drop wrote.0 bytes in
+    let segment = some_front routes from front bytes rm.ended rm.more some all.given rm.few rm.passing in
+    let finds = rm.finds stream (all_kept (passed routes from stream)) (map frame_bytes (passed routes from stream)) pumped.routed in
     record {
       front = stream;
       next = take taken piece;
@@ -141,7 +180,7 @@ stops_within routes from old mid new piece taken bytes front was is tally some r
       part = part;
       unwritten = rest;
       begins = sym whole;
-      one = omega (arith, ap length brings.grown, length-append (passed routes from stream) rm.more, rm.one);
+      stops = inr (segment.carried, segment.passing, finds ∙ ap (λ xs. found 8192 stream ++ xs) segment.alone);
       wrote = Appends-trans first was is written part pumped.wrote wrote.2;
       within = grows ∙ ap (λ xs. written ++ xs) (sym (take-append-drop wrote.0 bytes)) ∙ sym (append_assoc written part rest);
       counts = same ∙ pumped.routed.tally;
@@ -176,9 +215,10 @@ stops_later routes from a b written piece done tally p stops first stream is =
     ap (λ xs. stream ++ xs) (ap (λ r. take done piece ++ r) (slice_is piece done) ∙ take-append-drop done piece) in
     subst (λ s. PumpsPart routes from s first written tally) whole (stops first (stream ++ take done piece) (p first stream is))
 
-pub none_pumped : (routes : List Route) (from : Port) (lane : LaneView) (was : Option (List ℕ)) → HasRouted routes from lane [] [] [] → IsPumped routes from lane was was []
-none_pumped routes from lane was has = record {
+pub none_pumped : (routes : List Route) (from : Port) (lane : LaneView) (was : Option (List ℕ)) → lane.failed ≡ false → HasRouted routes from lane [] [] [] → IsPumped routes from lane was was []
+none_pumped routes from lane was well has = record {
   routed = subst (λ fs. HasRouted routes from lane [] (all_kept fs) (map frame_bytes fs)) (sym (passed_none routes from)) has;
   none_waits = has.kept;
+  well = well;
   wrote = subst (Appends was was) (sym (ap (flat_map frame_bytes) (passed_none routes from))) (Appends-nil was);
 }

@@ -1,5 +1,5 @@
 -- What a direction does with bytes in which a segment ends, or none.
-use Rattle.std.proofs.Common.{◌≡◌, ℕ, ◌≤◌, Bool, true, false, cond, List, [], ◌∷◌, ◌++◌, length, map, nat_lt, Option, refl, sym, ◌∙◌, ap, subst, arith, append-nil, append_assoc}
+use Rattle.std.proofs.Common.{◌≡◌, ℕ, ◌≤◌, Bool, true, false, cond, List, [], ◌∷◌, ◌++◌, length, map, take, drop, nat_lt, Option, refl, sym, ◌∙◌, ap, subst, arith, append-nil, append_assoc, take-append-drop}
 use Rattle.std.specs.List.{filter, flat_map}
 use Rattle.std.specs.Option.{option_to_list}
 use Rattle.std.proofs.lemmas.Grind.{flat_map-append}
@@ -17,7 +17,7 @@ use Rattle.frame_router.specs.declared.port.Port.{Port}
 use Rattle.frame_router.specs.declared.routes.Route.{Route}
 use Rattle.frame_router.specs.Counting.{admitted, with_fate}
 use Rattle.frame_router.specs.Fates.{fate_of, frame_bytes, is_passing, passed, passes}
-use Rattle.frame_router.specs.Routed.{Arrival, HasRouted, LaneView, RoutesMore, arriving, tally_of}
+use Rattle.frame_router.specs.Routed.{Arrival, BringsFrame, HasRouted, LaneView, RoutesMore, arriving, tally_of}
 use Rattle.frame_router.proofs.Counts.{tally_fault, tally_frame, tally_none, tally_same}
 
 -- the decoder goes on, and this is found with the last of the bytes
@@ -29,7 +29,7 @@ finds_within :
     Finds old bytes more → HasRouted routes from old stream arrivals given → found 8192 (stream ++ bytes) ≡ found 8192 stream ++ more
 finds_within routes from old bytes stream arrivals given more finds has = subst (λ limit. found limit (stream ++ bytes) ≡ found limit stream ++ more) has.limit (finds stream has.read)
 
-passed_more : (routes : List Route) (from : Port) (old new : List ℕ) (one : Found) → found 8192 new ≡ found 8192 old ++ one ∷ [] → passed routes from new ≡ passed routes from old ++ filter (passes routes from) (frames_in one)
+pub passed_more : (routes : List Route) (from : Port) (old new : List ℕ) (one : Found) → found 8192 new ≡ found 8192 old ++ one ∷ [] → passed routes from new ≡ passed routes from old ++ filter (passes routes from) (frames_in one)
 unfolding passed
 passed_more routes from old new one more =
     ap (filter (passes routes from))
@@ -76,6 +76,10 @@ routes_frame :
     new.waiting ≡ old.waiting ++ admitted (fate_of routes from (frame f)) (frame f) (nat_lt (length old.waiting) 256) →
     new.tally ≡ with_fate old.tally (fate_of routes from (frame f)) (nat_lt (length old.waiting) 256) → RoutesMore routes from old new bytes
 routes_frame routes from old new bytes f taken finds waiting tally = record {
+  ended = frame f ∷ [];
+  few = omega arith;
+  finds = λ stream arrivals given has. finds_within routes from old bytes stream arrivals given (frame f ∷ []) finds has;
+  passing = refl;
   more = filter (passes routes from) (f ∷ []);
   one = at_most_one (passes routes from f) f;
   stands = λ stream arrivals given has.
@@ -109,6 +113,10 @@ routes_fault :
     HasTaken old.reading bytes new.reading → Finds old bytes (fault bad ∷ []) → new.waiting ≡ old.waiting ++ [] → new.tally ≡ with_fate old.tally is.Bad room →
     RoutesMore routes from old new bytes
 routes_fault routes from old new bytes bad room taken finds waiting tally = record {
+  ended = fault bad ∷ [];
+  few = omega arith;
+  finds = λ stream arrivals given has. finds_within routes from old bytes stream arrivals given (fault bad ∷ []) finds has;
+  passing = refl;
   more = [];
   one = omega arith;
   stands = λ stream arrivals given has.
@@ -136,6 +144,10 @@ pub routes_nothing :
     (routes : List Route) (from : Port) (old new : LaneView) (bytes : List ℕ) → HasTaken old.reading bytes new.reading → Finds old bytes [] →
     new.waiting ≡ old.waiting → new.tally ≡ old.tally → RoutesMore routes from old new bytes
 routes_nothing routes from old new bytes taken finds waiting tally = record {
+  ended = [];
+  few = omega arith;
+  finds = λ stream arrivals given has. finds_within routes from old bytes stream arrivals given [] finds has;
+  passing = refl;
   more = [];
   one = omega arith;
   stands = λ stream arrivals given has.
@@ -147,6 +159,19 @@ routes_nothing routes from old new bytes taken finds waiting tally = record {
         kept = ap (λ w. given ++ w) waiting ∙ has.kept ∙ ap kept_bytes (sym (append-nil arrivals));
         tally = tally ∙ has.tally ∙ sym (tally_same routes from stream (stream ++ bytes) arrivals same) ∙ ap (tally_of routes from (stream ++ bytes)) (sym (append-nil arrivals));
       };
+}
+
+-- there was no memory for the frame with which the bytes taken of a piece end
+pub brings_frame :
+    (routes : List Route) (from : Port) (old : LaneView) (piece : List ℕ) (taken : ℕ) (one : Found) (f : FrameParts) (fate : Fate) →
+    Finds old (take taken piece) (one ∷ []) → one ≡ frame f → fate ≡ fate_of routes from one → fate ≡ is.Passes → BringsFrame routes from old piece
+brings_frame routes from old piece taken one f fate finds is_frame is_fate is_passes = record {
+  next = take taken piece;
+  behind = drop taken piece;
+  parts = sym (take-append-drop taken piece);
+  carried = f;
+  passing = ap is_passing (ap (fate_of routes from) (sym is_frame) ∙ sym is_fate ∙ is_passes);
+  finds = λ stream read. finds stream read ∙ ap (λ x. found old.reading.limit stream ++ x ∷ []) is_frame;
 }
 
 pub nothing_routed :

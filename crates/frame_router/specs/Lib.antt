@@ -5,3 +5,5 @@ pub mod Pumping
 pub mod Routed
 pub mod Routes
 pub mod Stops
+pub mod text
+pub mod bridge

@@ -1,15 +1,16 @@
 -- What a pump took from its source, and what it wrote.
-use Rattle.std.specs.Prelude.{◌≡◌, ℕ, ◌+◌, ◌<◌, ◌≤◌, true, List, ◌++◌, length, map, Option}
+use Rattle.std.specs.Prelude.{◌≡◌, ◌⊎◌, ℕ, ◌<◌, ◌≤◌, true, List, [], ◌∷◌, ◌++◌, length, map, Option}
 use Rattle.std.specs.Io.KnownBytes.{Appends, Consumes, IsAtEnd}
 use Rattle.std.specs.List.{flat_map}
-use Rattle.hdlc_frame.specs.Found.{FrameParts}
+use Rattle.hdlc_frame.specs.Found.{FrameParts, found}
+use Rattle.hdlc_frame.specs.Found.Found.{frame}
 use Rattle.link_io.specs.declared.why.Why.{Why}
 use Rattle.link_io.specs.declared.why.Why.TheVariants.{Settled, Source, InputLimit}
 use Rattle.frame_router.specs.declared.port.Port.{Port}
 use Rattle.frame_router.specs.declared.pumping.Pumped.{Pumped}
 use Rattle.frame_router.specs.declared.routes.Route.{Route}
 use Rattle.frame_router.specs.declared.tally.Tally.{Tally}
-use Rattle.frame_router.specs.Fates.{frame_bytes, passed}
+use Rattle.frame_router.specs.Fates.{frame_bytes, passed, passes}
 use Rattle.frame_router.specs.Routed.{Arrival, tally_of}
 
 -- the frames of a stream that pass, as they go on, one behind the other
@@ -28,8 +29,13 @@ pub record PumpsAll (routes : List Route) (from : Port) (bytes : List ℕ) (old 
   pub wrote : Appends old new (wire_of routes from bytes)
   pub counts : tally ≡ full_tally routes from bytes
 
+-- It stopped at the one segment that ends with `next`, a frame that passes and couldn't go on; or behind all bytes.
+abbrev pub StopsAt : List Route → Port → List ℕ → List ℕ → List ℕ → Type 0
+StopsAt routes from front next behind =
+    ((next ≡ []) × (behind ≡ [])) ⊎ ((f : FrameParts) × (passes routes from f ≡ true) × (found 8192 (front ++ next) ≡ found 8192 front ++ frame f ∷ []))
+
 -- It stopped at a frame of these bytes, or behind all of them: of the bytes before it all frames that pass were written and all
--- segments were counted, and at most this one frame passes up to its end, of which a part was written.
+-- segments were counted, and of this frame a part was written.
 pub record PumpsPart (routes : List Route) (from : Port) (bytes : List ℕ) (old new : Option (List ℕ)) (tally : Tally) : Type 0 where
   pub front : List ℕ
   pub next : List ℕ
@@ -37,7 +43,7 @@ pub record PumpsPart (routes : List Route) (from : Port) (bytes : List ℕ) (old
   pub part : List ℕ
   pub unwritten : List ℕ
   pub begins : bytes ≡ (front ++ next) ++ behind
-  pub one : length (passed routes from (front ++ next)) ≤ length (passed routes from front) + 1
+  pub stops : StopsAt routes from front next behind
   pub wrote : Appends old new (wire_of routes from front ++ part)
   pub within : wire_of routes from (front ++ next) ≡ (wire_of routes from front ++ part) ++ unwritten
   pub counts : tally ≡ full_tally routes from front

@@ -1,5 +1,5 @@
 -- How a pump stands while it runs.
-use Rattle.std.specs.Prelude.{◌≡◌, ℕ, List, [], ◌++◌, length, map, Option}
+use Rattle.std.specs.Prelude.{◌≡◌, ℕ, false, List, [], ◌++◌, length, map, Option}
 use Rattle.std.specs.Io.KnownBytes.{Appends, Consumes}
 use Rattle.frame_router.specs.declared.port.Port.{Port}
 use Rattle.frame_router.specs.declared.routes.Route.{Route}
@@ -8,10 +8,11 @@ use Rattle.frame_router.specs.Fates.{frame_bytes, passed}
 use Rattle.frame_router.specs.Pumped.{PumpsPart, all_kept, wire_of}
 use Rattle.frame_router.specs.Routed.{HasRouted, LaneView}
 
--- the stream came, each frame of it that passes was given and written, and none waits
+-- the stream came, each frame of it that passes was given and written, none waits, and memory was never wanting
 pub record IsPumped (routes : List Route) (from : Port) (lane : LaneView) (first now : Option (List ℕ)) (stream : List ℕ) : Type 0 where
   pub routed : HasRouted routes from lane stream (all_kept (passed routes from stream)) (map frame_bytes (passed routes from stream))
   pub none_waits : lane.waiting ≡ []
+  pub well : lane.failed ≡ false
   pub wrote : Appends first now (wire_of routes from stream)
 
 -- a direction, and what its sink holds

@@ -1,7 +1,9 @@
 -- What one direction of a router has done with the stream that came.
 use Rattle.std.specs.Prelude.{◌≡◌, ℕ, ◌≤◌, ◌<◌, nat_lt, Bool, true, false, not, List, [], ◌∷◌, ◌++◌, length, map, take, filter, count_by}
 use Rattle.std.specs.Io.Iter.{u64_saturate}
-use Rattle.hdlc_frame.specs.Found.{FrameParts, Found, found}
+use Rattle.std.specs.List.{flat_map}
+use Rattle.hdlc_frame.specs.Found.{FrameParts, Found, found, frames_in}
+use Rattle.hdlc_frame.specs.Found.Found.{frame}
 use Rattle.hdlc_frame.specs.Machine.{HasRead, Reading}
 use Rattle.frame_router.specs.declared.fate.Fate.{Fate}
 use Rattle.frame_router.specs.declared.fate.Fate.TheVariants.{Home, Lost, Other, Bad}
@@ -9,7 +11,7 @@ use Rattle.frame_router.specs.declared.port.Port.{Port}
 use Rattle.frame_router.specs.declared.port.Port.TheVariants.{Left, Right}
 use Rattle.frame_router.specs.declared.routes.Route.{Route}
 use Rattle.frame_router.specs.declared.tally.Tally.{Tally}
-use Rattle.frame_router.specs.Fates.{fate_of, frame_bytes, passed}
+use Rattle.frame_router.specs.Fates.{fate_of, frame_bytes, passed, passes}
 
 -- one direction: its decoder, the frames that wait for the other side, how its segments were counted, and whether memory
 -- was wanting for a frame
@@ -63,13 +65,31 @@ pub record HasRouted (routes : List Route) (from : Port) (lane : LaneView) (stre
 abbrev pub arriving : LaneView → FrameParts → Arrival
 arriving lane f = record { arrived = f; is_kept = nat_lt (length lane.waiting) 256 }
 
--- What some bytes do: the direction has then routed them too. At most one frame passed among them.
+-- What some bytes do: the direction has then routed them too. At most one segment ended in them, and so at most one frame
+-- passed.
 pub record RoutesMore (routes : List Route) (from : Port) (old new : LaneView) (bytes : List ℕ) : Type 0 where
+  pub ended : List Found
+  pub few : length ended ≤ 1
+  pub finds :
+      (stream : List ℕ) (arrivals : List Arrival) (given : List (List ℕ)) → HasRouted routes from old stream arrivals given →
+      found 8192 (stream ++ bytes) ≡ found 8192 stream ++ ended
   pub more : List FrameParts
   pub one : length more ≤ 1
+  pub passing : more ≡ filter (passes routes from) (flat_map frames_in ended)
   pub stands :
       (stream : List ℕ) (arrivals : List Arrival) (given : List (List ℕ)) → HasRouted routes from old stream arrivals given →
       HasRouted routes from new (stream ++ bytes) (arrivals ++ map (arriving old) more) given
+
+-- The first segment that ends in a piece is a frame that passes.
+pub record BringsFrame (routes : List Route) (from : Port) (old : LaneView) (piece : List ℕ) : Type 0 where
+  pub next : List ℕ
+  pub behind : List ℕ
+  pub parts : piece ≡ next ++ behind
+  pub carried : FrameParts
+  pub passing : passes routes from carried ≡ true
+  pub finds :
+      (stream : List ℕ) → HasRead old.reading stream →
+      found old.reading.limit (stream ++ next) ≡ found old.reading.limit stream ++ frame carried ∷ []
 
 -- The bytes taken of a piece end with the flag that ends the first segment in it, or are the whole piece.
 pub record StopsAtSegment (old : LaneView) (piece : List ℕ) (taken : ℕ) : Type 0 where

@@ -2,12 +2,14 @@
 
 ghost use Rattle.std.specs.Prelude.{◌≡◌, ◌<◌, ◌≤◌, [], ◌++◌, true, false, length, take, nat_lt, is_err, List, IfOk, OnErr, OnOk, IsErr, IsNone};
 ghost use Rattle.std.specs.Option.{option_to_list};
+ghost use Rattle.hdlc_frame.specs.Found.{FrameParts};
+ghost use Rattle.hdlc_frame.specs.Found.Found.{frame};
 ghost use Rattle.hdlc_frame.specs.Lent.{found_of, parts_of};
 ghost use Rattle.frame_router.specs.declared.port.Port.{Port};
 ghost use Rattle.frame_router.specs.declared.routes.Route.{Route};
 ghost use Rattle.frame_router.specs.Counting.{admitted};
 ghost use Rattle.frame_router.specs.Fates.{frame_bytes};
-ghost use Rattle.frame_router.specs.Routed.{HasRouted, RoutesMore, StopsAtSegment};
+ghost use Rattle.frame_router.specs.Routed.{BringsFrame, HasRouted, RoutesMore, StopsAtSegment};
 
 use crate::fate::Fate;
 use crate::{Port, Routes, Tally};
@@ -61,6 +63,7 @@ fn admit(
     ensures room { IfOk result (λ room. room ≡ nat_lt (length waiting.old.items) 256) }
     ensures ok { OnOk result (waiting.new.items ≡ waiting.old.items ++ admitted fate (found_of got.now) (nat_lt (length waiting.old.items) 256)) }
     ensures err { OnErr result (waiting.new.items ≡ waiting.old.items) }
+    ensures passing { OnErr result ((fate ≡ Fate.Passes) × (f : FrameParts) × (found_of got.now ≡ frame f)) }
 {
     let has_room = waiting.len() < MAX_WAITING;
     if !has_room {
@@ -105,6 +108,7 @@ impl Lane {
         ensures progress { IfOk result (λ taken. 0 < length piece.now → 0 < taken) }
         ensures routes { IfOk result (λ taken. RoutesMore routes.now from self.old self.new (take taken piece.now)) }
         ensures stops { IfOk result (λ taken. StopsAtSegment self.old piece.now taken) }
+        ensures passing { OnErr result (self.old.failed ≡ false → BringsFrame routes.now from self.old piece.now) }
         ensures waiting { OnErr result (self.new.waiting ≡ self.old.waiting) }
         ensures tally { OnErr result (self.new.tally ≡ self.old.tally) }
     {

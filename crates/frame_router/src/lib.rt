@@ -1,7 +1,9 @@
 //! A router of frames between two links: which frame goes on to the other side, by its address.
-//! It reads no payload. Enter at [`Routes::add`] and [`Router::feed`], or at [`pump`] with a source and a sink.
+//! It reads no payload. Enter at [`Routes::add`] and [`Router::feed`], or at [`pump`] with a source and a sink; [`text`] runs a
+//! router over lines of text, and [`bridge`] is both directions at once.
 #![tactic(auto)]
 
+pub mod bridge;
 mod fate;
 mod lane;
 mod port;
@@ -9,8 +11,7 @@ mod pumping;
 mod router;
 mod routes;
 mod tally;
-#[cfg(test)]
-mod tests;
+pub mod text;
 
 pub use port::Port;
 pub use pumping::{INPUT_LIMIT, Pumped, pump};

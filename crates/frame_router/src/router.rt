@@ -4,7 +4,7 @@ ghost use Rattle.std.specs.Prelude.{◌≡◌, ◌<◌, ◌≤◌, [], ◌++◌,
 ghost use Rattle.std.specs.Option.{option_to_list};
 ghost use Rattle.frame_router.specs.declared.port.Port.{Port};
 ghost use Rattle.frame_router.specs.Fates.{other_side};
-ghost use Rattle.frame_router.specs.Routed.{Arrival, HasRouted, RoutesMore, StopsAtSegment, lane_from};
+ghost use Rattle.frame_router.specs.Routed.{Arrival, BringsFrame, HasRouted, RoutesMore, StopsAtSegment, lane_from};
 
 use crate::lane::Lane;
 use crate::{Port, Routes, Tally};
@@ -58,6 +58,7 @@ impl Router {
         ensures progress { IfOk result (λ taken. 0 < length piece.now → 0 < taken) }
         ensures routes { IfOk result (λ taken. RoutesMore self.old.routes from (lane_from self.old from) (lane_from self.new from) (take taken piece.now)) }
         ensures stops { IfOk result (λ taken. StopsAtSegment (lane_from self.old from) piece.now taken) }
+        ensures passing { OnErr result ((lane_from self.old from).failed ≡ false → BringsFrame self.old.routes from (lane_from self.old from) piece.now) }
         ensures waiting { OnErr result ((lane_from self.new from).waiting ≡ (lane_from self.old from).waiting) }
         ensures tally { OnErr result ((lane_from self.new from).tally ≡ (lane_from self.old from).tally) }
         ensures across { lane_from self.new (other_side from) ≡ lane_from self.old (other_side from) }

@@ -17,8 +17,6 @@ mod machine;
 mod octets;
 mod phase;
 mod pieces;
-#[cfg(test)]
-mod tests;
 mod text;
 mod told;
 

@@ -19,7 +19,8 @@ use crate::told::{Place, Segment, Told};
 /// A decoder that has no buffer of its own. What it keeps of the open segment lies in its caller's buffer, whose length
 /// is the limit of a content: hand in the same buffer at each call, and leave it as it is in between.
 ///
-/// Any values of the fields are those of some decoder: a `len` past the buffer counts as the buffer's length.
+/// Any values of the fields are safe: a `len` past the buffer counts as the buffer's length. Where no stream leads to them,
+/// what is told is a frame or a fault of no stream.
 #[derive(Clone, Copy, Debug, PartialEq, Eq)]
 pub struct Machine {
     pub phase: Phase,

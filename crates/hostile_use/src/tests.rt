@@ -2,6 +2,7 @@
 ghost use Rattle.std.specs.Prelude.{◌≡◌, false};
 
 mod calm_loads;
+mod checks;
 mod damage;
 mod link_faults;
 mod single_faults;

@@ -22,6 +22,3 @@ pub use judge::judge_text;
 pub use print_journal::print;
 pub use read_journal::read;
 pub use verdict::Verdict;
-
-#[cfg(test)]
-mod tests;

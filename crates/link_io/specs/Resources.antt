@@ -1,7 +1,8 @@
 -- Resources by their ids.
 use Rattle.std.specs.Prelude.{◌≡◌, ℕ, ◌==◌, List, [], ◌∷◌, map, length, Option, None}
 use Rattle.std.specs.Ordering.{nat_cmp}
-use Rattle.std.specs.Map.{lookup, remove_entry}
+use Rattle.std.specs.List.Sorted.{IsStrictlyIncreasing}
+use Rattle.std.specs.Map.{keys_of, lookup, remove_entry}
 use Rattle.std.specs.BTreeMap.{insert_entry, is_at}
 
 -- resources with their bytes, by rising id
@@ -34,3 +35,7 @@ IsOnce (e ∷ es) = (found e.0 es ≡ None) × IsOnce es
 
 abbrev pub lengths_of : Resources → List (ℕ × ℕ)
 lengths_of rows = map (λ e. (e.0, length e.1)) rows
+
+-- each id is below the next
+abbrev pub RiseById : {X : Type 0} → List (ℕ × X) → Type 0
+RiseById rows = IsStrictlyIncreasing (keys_of rows)

@@ -6,7 +6,7 @@ use Rattle.std.specs.Map.{lookup, remove_entry, set_value}
 use Rattle.std.specs.BTreeMap.{insert_entry, is_at}
 use Rattle.link_io.specs.declared.store.StoreKey.{StoreKey}
 use Rattle.link_io.specs.declared.shelf.Shelf.{Shelf}
-use Rattle.link_io.specs.Resources.{Resources, found, with_resource, without_resource, lengths_of}
+use Rattle.link_io.specs.Resources.{Resources, found, with_resource, without_resource, lengths_of, RiseById}
 
 -- what is being written: for which resource, from which offset on, all its bytes, and how many of them were appended
 pub record Work : Type 0 where
@@ -106,3 +106,8 @@ pub record Makes {T E : Type 0} (change : Stored → Stored) (before after : Opt
 -- what is told of is listed
 abbrev pub Lists : {E : Type 0} → Option Stored → Result Shelf E → Type 0
 Lists holds result = IfOk result (λ shelf. IfSome holds (λ s. shelf ≡ shelf_of s))
+
+-- both lists have rising ids
+pub record Rises (shelf : Shelf) : Type 0 where
+  pub full : RiseById shelf.full
+  pub left : RiseById shelf.left

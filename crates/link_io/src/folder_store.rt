@@ -2,33 +2,40 @@ ghost use Rattle.std.specs.Prelude.{◌≡◌, ℕ, None};
 ghost use Rattle.link_io.specs.Causes.{HasStoreCause, CountsFailure};
 
 mod folder;
+mod found;
 mod names;
+mod place;
 
 use crate::{Shelf, Store, StoreKey, StoreRefused};
 use bytes::Bytes;
 use folder::Folder;
 use std::alloc::{AllocError, Global};
-use std::fs::Files;
+use std::fs::{File, Files};
 use std::marker::Model;
 
-/// A store over a folder of files: `full-R` is the whole resource R, `left-R` what is left of it, and `work-C-S` the
-/// upload under way of session S of call C. Other files there are left alone.
+/// A store over a folder of files: `full-R` is the whole resource R, `left-R` what is left of it, and `work-C-S-R` the
+/// upload of it under way in session S of call C. Only plain files count, and other files there are left alone.
 ///
-/// Which uploads are under way is known to this value alone: a new one begins with none. A call that fails may leave
-/// part of what it did in the folder. Nothing is promised of what the files hold.
+/// From its first upload on the store holds the folder until it is let go; where another holds it, in this process or
+/// in another one, `begin` fails and changes nothing. A store that is let go leaves what is under way. What a process
+/// that was killed had under way is taken up, by the first upload of another store or when it lists, where it is longer
+/// than what is left of its resource.
+///
+/// What was committed or left stands on the device, under its name, when the call returns. A call that fails may leave
+/// part of what it did in the folder. Nothing of what the files hold is promised by a contract.
 #[derive(Drop)]
-pub struct FolderStore<'a, F: Files> {
+pub struct FolderStore<'a, F: Files<File = File>> {
     folder: Folder<'a, F>,
     faults: u64,
 }
 
-impl<'a, F: Files> Model for FolderStore<'a, F> {
+impl<'a, F: Files<File = File>> Model for FolderStore<'a, F> {
     ghost Value = { ℕ };
 
     ghost view = { λ s. s.faults };
 }
 
-impl<'a, F: Files> FolderStore<'a, F> {
+impl<'a, F: Files<File = File>> FolderStore<'a, F> {
     /// A store over the folder at `path`, with no fault counted.
     pub fn new(alloc: Global, files: &'a F, path: &str) -> Result<FolderStore<'a, F>, AllocError> {
         Ok(FolderStore {
@@ -50,7 +57,7 @@ impl<'a, F: Files> FolderStore<'a, F> {
     }
 }
 
-impl<'a, F: Files> Store for FolderStore<'a, F> {
+impl<'a, F: Files<File = File>> Store for FolderStore<'a, F> {
     ghost holds = { λ _. None };
 
     ghost faults = { λ s. s };

@@ -19,8 +19,6 @@ mod sink;
 mod source;
 mod standard;
 mod store;
-#[cfg(test)]
-mod tests;
 mod unix_linker;
 mod wall_clock;
 mod why;

@@ -3,7 +3,7 @@ ghost use Rattle.std.specs.Option.{option_copied};
 ghost use Rattle.link_io.specs.declared.store.StoreRefused.TheVariants.{Failed};
 ghost use Rattle.link_io.specs.Causes.{HasStoreCause, CountsFailure, counted};
 ghost use Rattle.link_io.specs.Resources.{IsOnce, found};
-ghost use Rattle.link_io.specs.Stored.{Makes, Lists, begun, appended, committed, abandoned, all_abandoned};
+ghost use Rattle.link_io.specs.Stored.{Makes, Lists, Rises, begun, appended, committed, abandoned, all_abandoned};
 ghost use Rattle.link_io.specs.StoreDevice.{StoreDevice, FailsBy, fresh_store};
 
 mod content;
@@ -163,6 +163,7 @@ impl Store for MemStore {
 
     fn list(&mut self) -> Result<Shelf, StoreRefused>
         ensures lists { Lists (Some self.old.stored) result }
+        ensures rises { IfOk result Rises }
         ensures kept { Some self.new.stored ≡ Some self.old.stored }
         ensures cause { HasStoreCause self.old.faults self.new.faults result }
         ensures counts { CountsFailure self.old.faults self.new.faults result }

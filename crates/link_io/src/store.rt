@@ -1,7 +1,7 @@
 //! Where uploads end.
-ghost use Rattle.std.specs.Prelude.{◌≡◌, ℕ, Option};
+ghost use Rattle.std.specs.Prelude.{◌≡◌, ℕ, Option, IfOk};
 ghost use Rattle.link_io.specs.Causes.{HasStoreCause};
-ghost use Rattle.link_io.specs.Stored.{Stored, Makes, Lists, begun, appended, committed, abandoned, all_abandoned};
+ghost use Rattle.link_io.specs.Stored.{Stored, Makes, Lists, Rises, begun, appended, committed, abandoned, all_abandoned};
 
 use crate::Shelf;
 use bytes::Bytes;
@@ -93,6 +93,7 @@ pub trait Store {
     /// The whole resources, and how long what is left of others is, both by rising id.
     fn list(&mut self) -> Result<Shelf, StoreRefused>
         ensures lists { Lists (holds self.old) result }
+        ensures rises { IfOk result Rises }
         ensures kept { holds self.new ≡ holds self.old }
         ensures cause { HasStoreCause (faults self.old) (faults self.new) result };
 }

@@ -3,6 +3,7 @@ ghost use Rattle.link_io.specs.Causes.{HasCause, Rose};
 ghost use Rattle.link_io.specs.LinkDevice.{no_sockets, untold_links, fresh_end};
 
 mod bound;
+mod probe;
 mod unix_out;
 
 use crate::{Failed, Linker, StdIn};
@@ -17,8 +18,8 @@ pub use unix_out::UnixOut;
 
 /// A linker over Unix stream sockets. It counts the calls that fail, and tells nothing of the bytes.
 ///
-/// To listen makes a file at the path, which is removed when the linker is let go. Where a file is there already the
-/// call fails.
+/// To listen makes a file at the path, which is removed when the linker is let go. A socket there that nobody listens at
+/// makes way for it. Where somebody listens, or another file stands there, the call fails and leaves it alone.
 #[derive(Drop)]
 pub struct UnixLinker<'a, R: Net + Files> {
     alloc: Global,

@@ -1,1 +1,4 @@
+pub mod Generator
 pub mod Script
+pub mod lossy
+pub mod text

@@ -10,14 +10,14 @@ use Rattle.link_script.specs.declared.script.Script.{Script}
 use Rattle.link_script.specs.declared.stock.Stock.{Stock}
 use Rattle.link_script.specs.Script.{IsCommand, new_script}
 use Rattle.rpc_ids.specs.declared.method.Role.TheVariants.{Server, Client}
-use Rattle.script_text.specs.declared.line.Line.{Line}
-use Rattle.script_text.specs.declared.line.Line.TheVariants as line
-use Rattle.script_text.specs.declared.line.Setting.TheVariants.{Chunk, Window, Full, Left}
-use Rattle.script_text.specs.Reading.{GoesOn, IsNext, IsScriptText}
-use Rattle.script_text.specs.Standing.{has_stock, with_line}
+use Rattle.link_script.specs.declared.text.line.Line.{Line}
+use Rattle.link_script.specs.declared.text.line.Line.TheVariants as line
+use Rattle.link_script.specs.declared.text.line.Setting.TheVariants.{Chunk, Window, Full, Left}
+use Rattle.link_script.specs.text.Reading.{GoesOn, IsNext, IsScriptText}
+use Rattle.link_script.specs.text.Standing.{has_stock, with_line}
 use Rattle.text_fields.specs.Lines.{lines_of}
 use Rattle.transfer_base.specs.declared.limits.TheConstants.{MAX_CHUNK, MAX_WINDOW}
-use Rattle.world_turns.specs.Setup.{made_resources, script_chunk, script_window}
+use Rattle.link_laws.specs.world.Setup.{made_resources, script_chunk, script_window}
 use Rattle.link_world.specs.Starting.{IsWithinBounds}
 
 not_at : (a b : ℕ) → (b == a) ≡ false → is_at (nat_cmp a) b ≡ false

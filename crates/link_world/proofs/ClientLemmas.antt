@@ -12,18 +12,18 @@ use Rattle.rpc_schedule.specs.Kept.{kept}
 use Rattle.rpc_schedule.specs.Schedule.{run_seat}
 use Rattle.rpc_schedule.specs.Serving.{deeds}
 use Rattle.rpc_schedule.specs.ends.EndState.{WasFed}
-use Rattle.world_turns.specs.declared.limits.TheConstants.{TURN_OF_TIME}
-use Rattle.world_turns.specs.Client.{ClientSettles, ClientTakes}
-use Rattle.world_turns.specs.Lines.{finished}
-use Rattle.world_turns.specs.Setup.{client_setting}
-use Rattle.world_turns.specs.Starts.{starts}
-use Rattle.world_turns.specs.Turns.{Asks, Starts, cancelling, starting, task_of, task_under, to_client, under_with, with_command, with_frame_at_client, with_task}
-use Rattle.world_turns.specs.World.{Setup, Tasked, World, moment, with_client}
-use Rattle.world_client.specs.declared.under.Under.{Under}
-use Rattle.world_client.specs.Asking.{ClientAsks, IsAsked, IsClientOf}
-use Rattle.world_client.specs.ClientSide.{ClientHears, ClientMoves, ClientRests, ClientState}
-use Rattle.world_client.specs.Underway.{task_seen, under_seen}
-use Rattle.world_ends.specs.Wiring.{Wiring}
+use Rattle.link_laws.specs.declared.world.limits.TheConstants.{TURN_OF_TIME}
+use Rattle.link_laws.specs.world.Client.{ClientSettles, ClientTakes}
+use Rattle.link_laws.specs.world.Lines.{finished}
+use Rattle.link_laws.specs.world.Setup.{client_setting}
+use Rattle.link_laws.specs.world.Starts.{starts}
+use Rattle.link_laws.specs.world.Turns.{Asks, Starts, cancelling, starting, task_of, task_under, to_client, under_with, with_command, with_frame_at_client, with_task}
+use Rattle.link_laws.specs.world.World.{Setup, Tasked, World, moment, with_client}
+use Rattle.link_world.specs.declared.client.under.Under.{Under}
+use Rattle.link_world.specs.client.Asking.{ClientAsks, IsAsked, IsClientOf}
+use Rattle.link_world.specs.client.ClientSide.{ClientHears, ClientMoves, ClientRests, ClientState}
+use Rattle.link_world.specs.client.Underway.{task_seen, under_seen}
+use Rattle.link_world.specs.server.Wiring.{Wiring}
 use Rattle.transfer_base.specs.declared.tuning.Tuning.{Tuning}
 use Rattle.link_world.specs.declared.course.Course.{Course}
 use Rattle.link_world.specs.Making.{ClientTurns, with_coming, with_rest_down}

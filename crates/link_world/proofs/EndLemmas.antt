@@ -3,13 +3,13 @@ use Rattle.std.proofs.Common.{◌≡◌, Bool, true, false, List, [], ◌∷◌,
 use Rattle.std.specs.Prelude.{◌↔◌}
 use Rattle.link_script.specs.declared.command.Command.{Command}
 use Rattle.link_script.specs.declared.report.ReportLine.{ReportLine}
-use Rattle.lossy_link.specs.Link.{released}
+use Rattle.link_script.specs.lossy.Link.{released}
 use Rattle.rpc_journal.specs.Kinds.{is_empty}
-use Rattle.world_turns.specs.Lines.{command_ended, finished, is_still, line_of, with_line, with_released}
-use Rattle.world_turns.specs.World.{Setup, Under as UnderWay, World}
-use Rattle.world_client.specs.ClientSide.{ClientState}
-use Rattle.world_ends.specs.ServerSide.{ServerState}
-use Rattle.world_ends.specs.Wiring.{Wiring}
+use Rattle.link_laws.specs.world.Lines.{command_ended, finished, is_still, line_of, with_line, with_released}
+use Rattle.link_laws.specs.world.World.{Setup, Under as UnderWay, World}
+use Rattle.link_world.specs.client.ClientSide.{ClientState}
+use Rattle.link_world.specs.server.ServerSide.{ServerState}
+use Rattle.link_world.specs.server.Wiring.{Wiring}
 use Rattle.link_world.specs.declared.course.Course.{Course}
 use Rattle.link_world.specs.Showing.{Shows, wiring_of}
 

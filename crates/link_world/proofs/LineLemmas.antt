@@ -3,10 +3,10 @@ use Rattle.std.proofs.Common.{◌≡◌, refl, ap, sym, ◌∙◌}
 use Rattle.rpc_ids.specs.declared.status.Status.{Status}
 use Rattle.rpc_journal.specs.History.{history}
 use Rattle.rpc_schedule.specs.Serving.{deeds}
-use Rattle.world_turns.specs.Lines.{transfer_line}
-use Rattle.world_turns.specs.World.{Setup, Tasked, Transfer, World, client_deeds, reads, writes}
-use Rattle.world_client.specs.ClientSide.{ClientState}
-use Rattle.world_client.specs.Speaking.{line_with}
+use Rattle.link_laws.specs.world.Lines.{transfer_line}
+use Rattle.link_laws.specs.world.World.{Setup, Tasked, Transfer, World, client_deeds, reads, writes}
+use Rattle.link_world.specs.client.ClientSide.{ClientState}
+use Rattle.link_world.specs.client.Speaking.{line_with}
 use Rattle.link_world.specs.Ending.{length_in}
 use Rattle.link_world.specs.Showing.{ClientShows}
 

@@ -7,15 +7,15 @@ use Rattle.rpc_journal.specs.Calls.{call_count}
 use Rattle.rpc_journal.specs.Refusals.{is_full}
 use Rattle.rpc_schedule.specs.Serving.{deeds}
 use Rattle.rpc_schedule.proofs.ServingLemmas.{below_full}
-use Rattle.world_turns.specs.declared.limits.TheConstants.{TURN_OF_TIME}
-use Rattle.world_turns.specs.Lines.{finished}
-use Rattle.world_turns.specs.Turns.{Kind, next_kind, starting, timing}
-use Rattle.world_turns.specs.World.{Setup, World}
-use Rattle.world_client.specs.declared.under.Under.{Under}
-use Rattle.world_client.specs.ClientSide.{Attends, ClientRests, ClientState}
-use Rattle.world_client.specs.Underway.{call_seen}
-use Rattle.world_ends.specs.ServerSide.{ServerRests, ServerState}
-use Rattle.world_ends.specs.Wiring.{Wiring}
+use Rattle.link_laws.specs.declared.world.limits.TheConstants.{TURN_OF_TIME}
+use Rattle.link_laws.specs.world.Lines.{finished}
+use Rattle.link_laws.specs.world.Turns.{Kind, next_kind, starting, timing}
+use Rattle.link_laws.specs.world.World.{Setup, World}
+use Rattle.link_world.specs.declared.client.under.Under.{Under}
+use Rattle.link_world.specs.client.ClientSide.{Attends, ClientRests, ClientState}
+use Rattle.link_world.specs.client.Underway.{call_seen}
+use Rattle.link_world.specs.server.ServerSide.{ServerRests, ServerState}
+use Rattle.link_world.specs.server.Wiring.{Wiring}
 use Rattle.link_world.specs.declared.course.Course.{Course}
 use Rattle.link_world.specs.declared.turn.Turn.{Turn as NextTurn}
 use Rattle.link_world.specs.declared.turn.Turn.TheVariants.{ToServer, ToClient, Start, Cancel, Time}

@@ -8,13 +8,13 @@ use Rattle.demo_services.specs.DemoRule.{demo_rule}
 use Rattle.rpc_journal.specs.declared.setting.Setting.{Setting}
 use Rattle.rpc_schedule.specs.Kept.{kept}
 use Rattle.transfer_base.specs.declared.tuning.Tuning.{Tuning}
-use Rattle.world_turns.specs.Limits.{EndStops, IsPastJournal}
-use Rattle.world_turns.specs.Setup.{client_setting, setup_of}
-use Rattle.world_turns.specs.Turns.{ending}
-use Rattle.world_turns.specs.World.{Setup, first_world}
-use Rattle.world_client.specs.ClientSide.{ClientState}
-use Rattle.world_ends.specs.ServerSide.{ServerState}
-use Rattle.world_ends.specs.Wiring.{Wiring}
+use Rattle.link_laws.specs.world.Limits.{EndStops, IsPastJournal}
+use Rattle.link_laws.specs.world.Setup.{client_setting, setup_of}
+use Rattle.link_laws.specs.world.Turns.{ending}
+use Rattle.link_laws.specs.world.World.{Setup, first_world}
+use Rattle.link_world.specs.client.ClientSide.{ClientState}
+use Rattle.link_world.specs.server.ServerSide.{ServerState}
+use Rattle.link_world.specs.server.Wiring.{Wiring}
 use Rattle.link_world.specs.declared.course.Course.{Course}
 use Rattle.link_world.specs.declared.outcome.Outcome.{Outcome}
 use Rattle.link_world.specs.Outcomes.{IsRunBy, IsRunOf}
@@ -100,4 +100,4 @@ module _ (script : Script) (tuning : Tuning) (s : ServerState) (c : ClientState)
   end_stopped server client y d ends stops =
       let k : Setup = setup_by s c x tuning in
       subst (λ k. IsPastJournal k script.commands) setup_is
-      (past_journal k script.commands server client y d ends.comes (next_stops k ends.comes.now ending ends.last stops))
+      (past_journal k script.commands server client y d ends.comes (next_stops k ends.comes.now ending ends.last stops) (λ other. absurd (other ends.last)))

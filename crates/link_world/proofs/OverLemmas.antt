@@ -14,14 +14,14 @@ use Rattle.rpc_journal.specs.Items.{items_flushed}
 use Rattle.rpc_schedule.specs.Kept.{kept}
 use Rattle.rpc_schedule.specs.Schedule.{Settles, input_seat}
 use Rattle.rpc_schedule.specs.Serving.{deeds}
-use Rattle.world_turns.specs.declared.limits.TheConstants.{TURN_OF_TIME}
-use Rattle.world_turns.specs.Client.{ClientSettles}
-use Rattle.world_turns.specs.Reports.{carries_chunk}
-use Rattle.world_turns.specs.Setup.{client_setting}
-use Rattle.world_turns.specs.World.{Setup, World, client_store, server_store, with_client, with_server}
-use Rattle.world_client.specs.ClientSide.{ClientMoves, ClientState}
-use Rattle.world_ends.specs.ServerSide.{ServerMoves, ServerState}
-use Rattle.world_ends.specs.Wiring.{Wiring}
+use Rattle.link_laws.specs.declared.world.limits.TheConstants.{TURN_OF_TIME}
+use Rattle.link_laws.specs.world.Client.{ClientSettles}
+use Rattle.link_laws.specs.world.Reports.{carries_chunk}
+use Rattle.link_laws.specs.world.Setup.{client_setting}
+use Rattle.link_laws.specs.world.World.{Setup, World, client_store, server_store, with_client, with_server}
+use Rattle.link_world.specs.client.ClientSide.{ClientMoves, ClientState}
+use Rattle.link_world.specs.server.ServerSide.{ServerMoves, ServerState}
+use Rattle.link_world.specs.server.Wiring.{Wiring}
 use Rattle.link_world.specs.declared.course.Course.{Course}
 use Rattle.link_world.specs.declared.outcome.Outcome.{Outcome}
 use Rattle.link_world.specs.Over.{EndsAs, Tells}

@@ -1,20 +1,22 @@
 -- What the run of a script promises of its outcome.
-use Rattle.std.proofs.Common.{subst}
+use Rattle.std.proofs.Common.{refl, subst}
 use Rattle.std.specs.Prelude.{IfOk, Result, Ok, Err}
 use Rattle.demo_services.specs.DemoRule.{demo_rule}
 use Rattle.link_script.specs.declared.script.Script.{Script}
 use Rattle.rpc_journal.specs.Lawful.{IsLegal}
-use Rattle.world_turns.specs.Setup.{client_setting, quiet_rule, setup_of}
-use Rattle.world_turns.specs.Sound.{NoFlips}
-use Rattle.world_fits.specs.Scripts.{IsScript}
-use Rattle.world_fits.proofs.OfScripts.{scripts_mean_the_bytes}
-use Rattle.world_lossless.specs.Lossless.{IsLosslessScript}
-use Rattle.world_lossless.specs.Scripts.{IsOpenScript}
-use Rattle.world_lossless.proofs.Arriving.{lossless_runs_arrive}
-use Rattle.world_lossless.proofs.Walking.{lossless_runs_end_well}
-use Rattle.world_losses.proofs.Walking.{lossy_runs_end_well}
+use Rattle.link_laws.specs.world.Setup.{client_setting, quiet_rule, setup_of}
+use Rattle.link_laws.specs.world.Sound.{NoFlips}
+use Rattle.link_laws.specs.transfers_fit.Scripts.{IsScript}
+use Rattle.link_laws.proofs.one_run.Ways.{sound_without_flips}
+use Rattle.link_laws.proofs.transfers_fit.OfScripts.{scripts_mean_the_bytes, sound_scripts_mean_the_bytes}
+use Rattle.link_laws.proofs.transfers_fit.Sent.{runs_are_heard}
+use Rattle.link_laws.specs.lossless_scripts.Lossless.{IsLosslessScript}
+use Rattle.link_laws.specs.lossless_scripts.Scripts.{IsOpenScript}
+use Rattle.link_laws.proofs.lossless_scripts.Arriving.{lossless_runs_arrive}
+use Rattle.link_laws.proofs.lossless_scripts.Walking.{lossless_runs_end_well}
+use Rattle.link_laws.proofs.dropped_scripts.Walking.{lossy_runs_end_well}
 use Rattle.link_world.specs.declared.outcome.Outcome.{Outcome}
-use Rattle.link_world.specs.Outcomes.{AllArrive, AllEndWell, IsRunOf, IsRunWith, LinesHold, LossesEndWell}
+use Rattle.link_world.specs.Outcomes.{AllArrive, AllEndWell, IsRunOf, IsRunWith, LinesHold, LossesEndWell, RunIsSound, SoundLinesHold}
 
 -- the outcome is that of a run of the script, and both its journals are legal
 pub record Runs (script : Script) (outcome : Outcome) : Type 0 where
@@ -40,6 +42,21 @@ pub all_mean : {E : Type 0} (script : Script) (result : Result Outcome E) → Is
     → IfOk result (IsRunWith LinesHold script)
 all_mean script (Ok outcome) is calm r = record { run = r.run; holds = scripts_mean_the_bytes script r.run.now is calm r.run.run r.server r.client }
 all_mean script (Err e) is calm r = tt
+
+pub all_sound : {E : Type 0} (script : Script) (result : Result Outcome E) → IsScript script → NoFlips script.losses → IfOk result (Runs script)
+    → IfOk result (IsRunWith RunIsSound script)
+all_sound script (Ok outcome) is calm r = record {
+  run = r.run;
+  holds =
+      sound_without_flips (setup_of script) script.commands r.run.now calm r.run.run
+      (runs_are_heard (setup_of script) script.commands r.run.now refl refl calm is.few r.run.run r.server r.client);
+}
+all_sound script (Err e) is calm r = tt
+
+pub all_mean_soundly : {E : Type 0} (script : Script) (result : Result Outcome E) → IsScript script → IfOk result (Runs script)
+    → IfOk result (IsRunWith SoundLinesHold script)
+all_mean_soundly script (Ok outcome) is r = record { run = r.run; holds = λ run sound. sound_scripts_mean_the_bytes script r.run.now is run r.server sound }
+all_mean_soundly script (Err e) is r = tt
 
 pub all_end_well : {E : Type 0} (script : Script) (result : Result Outcome E) → IsLosslessScript script → IfOk result (Runs script)
     → IfOk result (IsRunWith AllEndWell script)

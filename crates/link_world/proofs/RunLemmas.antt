@@ -9,17 +9,17 @@ use Rattle.rpc_journal.specs.History.{history}
 use Rattle.rpc_journal.proofs.PlaceLemmas.{some_same}
 use Rattle.rpc_schedule.specs.Serving.{deeds}
 use Rattle.rpc_schedule.proofs.ServingLemmas.{below_full}
-use Rattle.world_turns.specs.declared.limits.TheConstants.{MAX_DELIVERIES}
-use Rattle.world_turns.specs.Limits.{IsPastFrames}
-use Rattle.world_turns.specs.Turns.{Kind, Turns, ending, next_kind, timing}
-use Rattle.world_turns.specs.Turns as world
-use Rattle.world_turns.specs.World.{Plain, Setup, World, calling, first_world}
-use Rattle.world_client.specs.declared.under.Under.{Under}
-use Rattle.world_client.specs.declared.under.Under.TheVariants.{Calling, Closing, Lacking, Transferring}
-use Rattle.world_client.specs.ClientSide.{Attends, ClientState}
-use Rattle.world_client.specs.Underway.{call_under, under_seen}
-use Rattle.world_ends.specs.ServerSide.{ServerState}
-use Rattle.world_ends.specs.Wiring.{Wiring}
+use Rattle.link_laws.specs.declared.world.limits.TheConstants.{MAX_DELIVERIES}
+use Rattle.link_laws.specs.world.Limits.{IsPastFrames}
+use Rattle.link_laws.specs.world.Turns.{Kind, Turns, ending, next_kind, timing}
+use Rattle.link_laws.specs.world.Turns as world
+use Rattle.link_laws.specs.world.World.{Plain, Setup, World, calling, first_world}
+use Rattle.link_world.specs.declared.client.under.Under.{Under}
+use Rattle.link_world.specs.declared.client.under.Under.TheVariants.{Calling, Closing, Lacking, Transferring}
+use Rattle.link_world.specs.client.ClientSide.{Attends, ClientState}
+use Rattle.link_world.specs.client.Underway.{call_under, under_seen}
+use Rattle.link_world.specs.server.ServerSide.{ServerState}
+use Rattle.link_world.specs.server.Wiring.{Wiring}
 use Rattle.link_world.specs.declared.course.Course.{Course}
 use Rattle.link_world.specs.declared.turn.Turn.{Turn}
 use Rattle.link_world.specs.declared.turn.Turn.TheVariants.{ToServer, ToClient, Start, Cancel, Time}

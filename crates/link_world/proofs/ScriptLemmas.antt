@@ -6,14 +6,14 @@ use Rattle.std.proofs.lemmas.List.Sums.{count_by-le-length}
 use Rattle.link_script.specs.declared.script.Script.{Script}
 use Rattle.link_script.specs.Script.{IsStock, new_script}
 use Rattle.rpc_ids.specs.declared.method.Role.TheVariants.{Server, Client}
-use Rattle.script_text.specs.declared.line.Line.{Line}
-use Rattle.script_text.specs.declared.line.Line.TheVariants as line
-use Rattle.script_text.specs.declared.line.Setting.TheVariants.{Chunk, Window, Full, Left}
-use Rattle.script_text.specs.Reading.{GoesOn, IsNext, IsScriptText}
-use Rattle.script_text.specs.Standing.{with_line}
+use Rattle.link_script.specs.declared.text.line.Line.{Line}
+use Rattle.link_script.specs.declared.text.line.Line.TheVariants as line
+use Rattle.link_script.specs.declared.text.line.Setting.TheVariants.{Chunk, Window, Full, Left}
+use Rattle.link_script.specs.text.Reading.{GoesOn, IsNext, IsScriptText}
+use Rattle.link_script.specs.text.Standing.{with_line}
 use Rattle.text_fields.specs.declared.lines.TheConstants.{NEWLINE}
 use Rattle.text_fields.specs.Lines.{lines_of, without_empty_last}
-use Rattle.world_fits.specs.Scripts.{IsScript}
+use Rattle.link_laws.specs.transfers_fit.Scripts.{IsScript}
 use Rattle.link_world.proofs.BoundsLemmas.{all_push, bounded}
 
 -- the resources of the client fit

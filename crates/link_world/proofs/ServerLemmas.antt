@@ -11,17 +11,17 @@ use Rattle.rpc_journal.specs.Items.{items_flushed}
 use Rattle.rpc_handlers.specs.HandlerRule.{HandlerRule}
 use Rattle.rpc_schedule.specs.Serving.{deeds}
 use Rattle.rpc_schedule.specs.ends.EndState.{WasFed}
-use Rattle.world_turns.specs.Lines.{finished}
-use Rattle.world_turns.specs.Starts.{ended_by_close, starts}
-use Rattle.world_turns.specs.Turns.{ServerTakes, closed_by, starting, to_server, with_command, with_frame_at_server}
-use Rattle.world_turns.specs.World.{Setup, World, closing, server_deeds, with_server}
-use Rattle.world_client.specs.declared.under.Under.TheVariants.{Closing}
+use Rattle.link_laws.specs.world.Lines.{finished}
+use Rattle.link_laws.specs.world.Starts.{ended_by_close, starts}
+use Rattle.link_laws.specs.world.Turns.{ServerTakes, closed_by, starting, to_server, with_command, with_frame_at_server}
+use Rattle.link_laws.specs.world.World.{Setup, World, closing, server_deeds, with_server}
+use Rattle.link_world.specs.declared.client.under.Under.TheVariants.{Closing}
 use Rattle.rpc_channel.specs.Rising.{has_id}
 use Rattle.rpc_journal.specs.Entries.{close_effect}
 use Rattle.rpc_journal.specs.Rows.{channels_in}
-use Rattle.world_ends.specs.ServerSide.{ServerHears, ServerMoves, ServerRests, ServerState, ended_at_close}
+use Rattle.link_world.specs.server.ServerSide.{ServerHears, ServerMoves, ServerRests, ServerState, ended_at_close}
 use Rattle.rpc_schedule.specs.Schedule.{Settles}
-use Rattle.world_ends.specs.Wiring.{Wiring}
+use Rattle.link_world.specs.server.Wiring.{Wiring}
 use Rattle.rpc_journal.specs.Items.{packets_of}
 use Rattle.link_world.specs.declared.course.Course.{Course}
 use Rattle.link_world.specs.Making.{ServerTurns, with_coming, with_rest_up}

@@ -8,7 +8,7 @@ use mathlib.Core.List.{IsPrefix}
 use Rattle.link_script.specs.declared.command.Command.{Command}
 use Rattle.link_script.specs.declared.command.Command.TheVariants.{Read, Write, Echo, Count, Sum, Chat, Close}
 use Rattle.link_script.specs.declared.report.ReportLine.{ReportLine}
-use Rattle.lossy_link.specs.Link.{Link, released}
+use Rattle.link_script.specs.lossy.Link.{Link, released}
 use Rattle.rpc_ids.specs.declared.status.Status.{Status}
 use Rattle.rpc_ids.specs.declared.status.Status.TheVariants.{Cancelled}
 use Rattle.rpc_journal.specs.declared.entry.Entry.{Entry}
@@ -26,15 +26,15 @@ use Rattle.rpc_journal.proofs.PacketLemmas.{has_end-more, has_end-older}
 use Rattle.rpc_journal.proofs.PlaceLemmas.{get_some}
 use Rattle.rpc_journal.proofs.Push.{history-push}
 use Rattle.rpc_schedule.specs.Schedule.{flush_seat, run_seat}
-use Rattle.world_turns.specs.declared.limits.TheConstants.{MAX_DELIVERIES}
-use Rattle.world_turns.specs.Client.{ClientSettles}
-use Rattle.world_turns.specs.Lines.{command_ended, finished, is_still, line_of, plain_line, with_line, with_released}
-use Rattle.world_turns.specs.Turns.{Asks, Cancels, ClientHears, Closes, Kind, ServerHears, Starts, TimePasses, Turn, TurnOf, cancelling, closed_by, ended_under, ending, kind_by, later, next_kind, starting, timing, to_client, to_server, under_with, with_command, with_frame_at_client, with_frame_at_server, with_task}
-use Rattle.world_turns.specs.Starts.{starts}
-use Rattle.world_turns.specs.World.{Plain, Setup, Tasked, Under, World, calling, client_deeds, closing, lacking, moment, transferring, with_client, with_server}
-use Rattle.world_laws.proofs.Growing.{begins, client_settles_goes, server_takes_goes, settles_goes}
-use Rattle.world_laws.proofs.Keeping.{finish_keeps}
-use Rattle.world_laws.proofs.Parts.{client_keeps, finished_server, server_keeps}
+use Rattle.link_laws.specs.declared.world.limits.TheConstants.{MAX_DELIVERIES}
+use Rattle.link_laws.specs.world.Client.{ClientSettles}
+use Rattle.link_laws.specs.world.Lines.{command_ended, finished, is_still, line_of, plain_line, with_line, with_released}
+use Rattle.link_laws.specs.world.Turns.{Asks, Cancels, ClientHears, Closes, Kind, ServerHears, Starts, TimePasses, Turn, TurnOf, cancelling, closed_by, ended_under, ending, kind_by, later, next_kind, starting, timing, to_client, to_server, under_with, with_command, with_frame_at_client, with_frame_at_server, with_task}
+use Rattle.link_laws.specs.world.Starts.{starts}
+use Rattle.link_laws.specs.world.World.{Plain, Setup, Tasked, Under, World, calling, client_deeds, closing, lacking, moment, transferring, with_client, with_server}
+use Rattle.link_laws.proofs.one_run.Growing.{begins, client_settles_goes, server_takes_goes, settles_goes}
+use Rattle.link_laws.proofs.one_run.Keeping.{finish_keeps}
+use Rattle.link_laws.proofs.one_run.Parts.{client_keeps, finished_server, server_keeps}
 
 abbrev pub under_size : Option Under → ℕ
 under_size None = 0

@@ -1,5 +1,6 @@
 -- An end stops in a turn of the world.
-use Rattle.std.proofs.Common.{◌≡◌, ◌⊎◌, ℕ, ◌+◌, ◌*◌, List, Option, None, Result, Ok, Err, IsErr, IsErrAnd, true, sym, subst, inl, inr}
+use Rattle.std.proofs.Common.{◌≡◌, ◌⊎◌, ℕ, ◌+◌, ◌*◌, ◌<◌, List, Option, None, Result, Ok, Err, IsErr, IsErrAnd, true, sym, subst, inl, inr}
+use Rattle.std.specs.Prelude.{◌≢◌}
 use Rattle.demo_services.specs.DemoRule.{demo_rule}
 use Rattle.link_script.specs.declared.command.Command.{Command}
 use Rattle.link_script.specs.declared.command.Command.TheVariants.{Read, Write, Echo, Count, Sum, Chat, Close}
@@ -8,22 +9,22 @@ use Rattle.rpc_journal.specs.History.{adding}
 use Rattle.rpc_journal.specs.Refusals.{is_full}
 use Rattle.rpc_schedule.specs.Schedule.{flush_seat, input_seat, run_seat}
 use Rattle.rpc_schedule.specs.Serving.{deeds}
-use Rattle.world_turns.specs.declared.limits.TheConstants.{TURN_OF_TIME}
-use Rattle.world_turns.specs.Client.{ClientSettles}
-use Rattle.world_turns.specs.Limits.{AskingStops, ClientHearingStops, ClientStops, ClientTakingStops, ClosingStops, EndStops, IsPastJournal, ServerHearingStops, ServerStops, ServerStopsWith, ServerTakingStops, StartStops, StopsIn, TimeStops}
-use Rattle.world_turns.specs.Setup.{client_setting}
-use Rattle.world_turns.specs.Turns.{Kind, cancelling, closed_by, later, next_kind}
-use Rattle.world_turns.specs.World.{Setup, World}
-use Rattle.world_client.specs.declared.under.Under.{Under}
-use Rattle.world_client.specs.Asking.{IsAsked}
-use Rattle.world_client.specs.ClientSide as client
-use Rattle.world_client.specs.ClientSide.{ClientState, ClientWorks}
-use Rattle.world_client.specs.Underway.{task_seen}
-use Rattle.world_ends.specs.declared.stopped.Stopped.{Stopped}
-use Rattle.world_ends.specs.declared.stopped.Stopped.TheVariants as stopped
-use Rattle.world_ends.specs.ServerSide as server
-use Rattle.world_ends.specs.ServerSide.{ServerState, ended_at_close}
-use Rattle.world_ends.specs.Wiring.{Wiring}
+use Rattle.link_laws.specs.declared.world.limits.TheConstants.{MAX_DELIVERIES, TURN_OF_TIME}
+use Rattle.link_laws.specs.world.Client.{ClientSettles}
+use Rattle.link_laws.specs.world.Limits.{AskingStops, ClientHearingStops, ClientStops, ClientTakingStops, ClosingStops, EndStops, IsPastJournal, ServerHearingStops, ServerStops, ServerStopsWith, ServerTakingStops, StartStops, StopsIn, TimeStops}
+use Rattle.link_laws.specs.world.Setup.{client_setting}
+use Rattle.link_laws.specs.world.Turns.{Kind, cancelling, closed_by, ending, later, next_kind}
+use Rattle.link_laws.specs.world.World.{Setup, World}
+use Rattle.link_world.specs.declared.client.under.Under.{Under}
+use Rattle.link_world.specs.client.Asking.{IsAsked}
+use Rattle.link_world.specs.client.ClientSide as client
+use Rattle.link_world.specs.client.ClientSide.{ClientState, ClientWorks}
+use Rattle.link_world.specs.client.Underway.{task_seen}
+use Rattle.link_world.specs.declared.server.stopped.Stopped.{Stopped}
+use Rattle.link_world.specs.declared.server.stopped.Stopped.TheVariants as stopped
+use Rattle.link_world.specs.server.ServerSide as server
+use Rattle.link_world.specs.server.ServerSide.{ServerState, ended_at_close}
+use Rattle.link_world.specs.server.Wiring.{Wiring}
 use Rattle.link_world.specs.declared.course.Course.{Course}
 use Rattle.link_world.specs.declared.outcome.WorldRefused.{WorldRefused}
 use Rattle.link_world.specs.declared.outcome.WorldRefused.TheVariants.{Journal}
@@ -43,8 +44,13 @@ stopped_so (Err e) old stopped.Memory was is same = let other = is.1 in absurd c
 
 -- so many turns of these commands, and a turn that stops
 pub past_journal : (k : Setup) (commands : List Command) (s : ServerState) (c : ClientState) (x : Wiring) (d : Course) (comes : ComesTo k commands s c x d)
-    → StopsIn k comes.now (next_kind comes.now) → IsPastJournal k commands
-past_journal k commands s c x d comes stops = record { count = comes.count; now = comes.now; turns = comes.turns; stops = stops }
+    → StopsIn k comes.now (next_kind comes.now) → (next_kind comes.now ≢ ending → comes.now.delivered < MAX_DELIVERIES) → IsPastJournal k commands
+past_journal k commands s c x d comes stops first = record { count = comes.count; now = comes.now; turns = comes.turns; stops = stops; first = first }
+
+-- fewer deliveries were counted
+pub fewer_told : (k : Setup) (commands : List Command) (s : ServerState) (c : ClientState) (x : Wiring) (d : Course) (comes : ComesTo k commands s c x d)
+    → d.delivered < MAX_DELIVERIES → next_kind comes.now ≢ ending → comes.now.delivered < MAX_DELIVERIES
+fewer_told k commands s c x d comes fewer other = subst (λ n. n < MAX_DELIVERIES) comes.shows.course.delivered fewer
 
 module _ (k : Setup) where
   pub next_stops : (w : World) (kind : Kind) → next_kind w ≡ kind → StopsIn k w kind → StopsIn k w (next_kind w)

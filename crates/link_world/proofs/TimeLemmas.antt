@@ -8,15 +8,15 @@ use Rattle.rpc_journal.specs.declared.entry.EntryKind.TheVariants.{Tick}
 use Rattle.rpc_journal.specs.History.{adding}
 use Rattle.rpc_schedule.specs.Schedule.{Settles, flush_seat}
 use Rattle.rpc_schedule.specs.ends.EndState.{WasFed}
-use Rattle.world_turns.specs.declared.limits.TheConstants.{TURN_OF_TIME}
-use Rattle.world_turns.specs.Client.{ClientSettles}
-use Rattle.world_turns.specs.Lines.{finished}
-use Rattle.world_turns.specs.Turns.{later, timing, with_task}
-use Rattle.world_turns.specs.World.{Setup, World, moment, with_server}
-use Rattle.world_client.specs.declared.under.Under.{Under}
-use Rattle.world_client.specs.ClientSide.{ClientMoves, ClientRests, ClientState, ClientWorks}
-use Rattle.world_ends.specs.ServerSide.{ServerMoves, ServerRests, ServerState}
-use Rattle.world_ends.specs.Wiring.{Wiring}
+use Rattle.link_laws.specs.declared.world.limits.TheConstants.{TURN_OF_TIME}
+use Rattle.link_laws.specs.world.Client.{ClientSettles}
+use Rattle.link_laws.specs.world.Lines.{finished}
+use Rattle.link_laws.specs.world.Turns.{later, timing, with_task}
+use Rattle.link_laws.specs.world.World.{Setup, World, moment, with_server}
+use Rattle.link_world.specs.declared.client.under.Under.{Under}
+use Rattle.link_world.specs.client.ClientSide.{ClientMoves, ClientRests, ClientState, ClientWorks}
+use Rattle.link_world.specs.server.ServerSide.{ServerMoves, ServerRests, ServerState}
+use Rattle.link_world.specs.server.Wiring.{Wiring}
 use Rattle.link_world.specs.declared.course.Course.{Course}
 use Rattle.link_world.specs.Making.{WorldTurns}
 use Rattle.link_world.specs.Showing.{ClientShows, CourseShows, ServerShows, wiring_of}

@@ -3,10 +3,10 @@ use Rattle.std.proofs.Common.{◌≡◌, ℕ, zero, suc, ◌+◌, List, [], ◌�
 use Rattle.std.specs.Prelude.{IfNone}
 use Rattle.link_script.specs.declared.command.Command.{Command}
 use Rattle.rpc_journal.proofs.PlaceLemmas.{some_same}
-use Rattle.world_turns.specs.Turns.{ending, kind_at_rest, kind_by, kind_under, next_kind, starting, to_client, to_server}
-use Rattle.world_turns.specs.World.{Setup, Under as UnderWay, World}
-use Rattle.world_client.specs.Underway.{under_seen}
-use Rattle.world_ends.specs.Wiring.{Wiring}
+use Rattle.link_laws.specs.world.Turns.{ending, kind_at_rest, kind_by, kind_under, next_kind, starting, to_client, to_server}
+use Rattle.link_laws.specs.world.World.{Setup, Under as UnderWay, World}
+use Rattle.link_world.specs.client.Underway.{under_seen}
+use Rattle.link_world.specs.server.Wiring.{Wiring}
 use Rattle.link_world.specs.declared.course.Course.{Course}
 use Rattle.link_world.specs.Making.{with_rest_down, with_rest_up}
 use Rattle.link_world.specs.Showing.{CourseShows, wiring_of}

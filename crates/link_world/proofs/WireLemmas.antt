@@ -8,8 +8,8 @@ use Rattle.rpc_journal.specs.declared.item.Item.{Item}
 use Rattle.rpc_journal.specs.declared.setting.Setting.{Setting}
 use Rattle.rpc_journal.specs.History.{history}
 use Rattle.rpc_journal.specs.Items.{items_flushed, packets_of}
-use Rattle.world_turns.specs.World.{Setup, World, all_sent_by, flushed_since, sent_by, with_client, with_server}
-use Rattle.world_ends.specs.Wiring.{GoesOut, Wiring, with_all_sent, with_sent}
+use Rattle.link_laws.specs.world.World.{Setup, World, all_sent_by, flushed_since, sent_by, with_client, with_server}
+use Rattle.link_world.specs.server.Wiring.{GoesOut, Wiring, with_all_sent, with_sent}
 use Rattle.link_world.specs.Showing.{wiring_of}
 
 -- with this link

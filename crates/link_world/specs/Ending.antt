@@ -1,7 +1,7 @@
 -- How a turn ends.
 use Rattle.std.specs.Prelude.{ℕ}
-use Rattle.world_turns.specs.Lines.{length_read, length_written}
-use Rattle.world_turns.specs.World.{Setup, Tasked, Transfer, World, reads, writes}
+use Rattle.link_laws.specs.world.Lines.{length_read, length_written}
+use Rattle.link_laws.specs.world.World.{Setup, Tasked, Transfer, World, reads, writes}
 
 abbrev pub length_by : ℕ → ℕ → Transfer → ℕ
 length_by read written (reads d) = read

@@ -6,3 +6,5 @@ pub mod Running
 pub mod Over
 pub mod Starting
 pub mod Outcomes
+pub mod server
+pub mod client

@@ -1,12 +1,12 @@
 -- What the functions of a turn do to what the parts show.
 use Rattle.std.specs.Prelude.{◌≡◌, ℕ, List}
 use Rattle.link_script.specs.declared.command.Command.{Command}
-use Rattle.world_turns.specs.Lines.{finished}
-use Rattle.world_turns.specs.Turns.{Kind, TurnOf, cancelling, next_kind, starting, timing, to_client, to_server}
-use Rattle.world_turns.specs.World.{Setup, World}
-use Rattle.world_client.specs.ClientSide.{ClientState}
-use Rattle.world_ends.specs.ServerSide.{ServerState}
-use Rattle.world_ends.specs.Wiring.{Wiring}
+use Rattle.link_laws.specs.world.Lines.{finished}
+use Rattle.link_laws.specs.world.Turns.{Kind, TurnOf, cancelling, next_kind, starting, timing, to_client, to_server}
+use Rattle.link_laws.specs.world.World.{Setup, World}
+use Rattle.link_world.specs.client.ClientSide.{ClientState}
+use Rattle.link_world.specs.server.ServerSide.{ServerState}
+use Rattle.link_world.specs.server.Wiring.{Wiring}
 use Rattle.link_world.specs.declared.course.Course.{Course}
 use Rattle.link_world.specs.declared.turn.Turn.{Turn}
 use Rattle.link_world.specs.declared.turn.Turn.TheVariants.{ToServer, ToClient, Start, Cancel, Time}

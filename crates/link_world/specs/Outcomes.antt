@@ -1,17 +1,17 @@
 -- What is told of the run of a script.
 use Rattle.std.specs.Prelude.{◌≡◌, ℕ, ◌+◌, List, slice_get, Some}
-use Rattle.std.specs.List.{AllByRecursion}
 use Rattle.link_script.specs.declared.command.Command.{Command}
 use Rattle.link_script.specs.declared.script.Script.{Script}
-use Rattle.world_turns.specs.Reports.{report_of}
-use Rattle.world_turns.specs.Setup.{setup_of}
-use Rattle.world_turns.specs.Turns.{Turned}
-use Rattle.world_turns.specs.World.{Setup, World, client_store, server_store}
-use Rattle.world_calls.specs.Ended.{EndsOkay, HasEnded}
-use Rattle.world_drops.specs.Dropped.{DropsFew}
-use Rattle.world_laws.specs.InOrder.{HasAllArrived}
-use Rattle.world_lossless.specs.Lossless.{EndsAs, chunks_of}
-use Rattle.world_ok.specs.Okay.{LineHolds}
+use Rattle.link_laws.specs.world.Reports.{report_of}
+use Rattle.link_laws.specs.world.Setup.{setup_of}
+use Rattle.link_laws.specs.world.Sound.{IsSound}
+use Rattle.link_laws.specs.world.Turns.{Turned}
+use Rattle.link_laws.specs.world.World.{Setup, World, client_store, server_store}
+use Rattle.link_laws.specs.plain_calls.Ended.{EndsOkay, HasEnded}
+use Rattle.link_laws.specs.dropped_transfer.Dropped.{DropsFew}
+use Rattle.link_laws.specs.one_run.InOrder.{HasAllArrived}
+use Rattle.link_laws.specs.lossless_scripts.Lossless.{EndsAs, chunks_of}
+use Rattle.link_laws.specs.okay_means_bytes.Okay.{LinesHoldFrom, Throughout}
 use Rattle.link_world.specs.declared.outcome.Outcome.{Outcome}
 
 -- the outcome is that of a run of these commands: both journals are its histories, the report is what is told of it, and the
@@ -34,10 +34,18 @@ pub record IsRunWith (Holds : Setup → List Command → World → Type 0) (scri
   pub run : IsRunOf script outcome
   pub holds : Holds (setup_of script) script.commands run.now
 
--- OK MEANS THE BYTES: each line with OK tells of a Commit with the resource's bytes from the line's offset on, and of the resource's
--- length
+-- OK MEANS THE BYTES: each line with OK tells of a Commit of the session that its own command began, with the resource's bytes from
+-- the line's offset on, and of the resource's length
 abbrev pub LinesHold : Setup → List Command → World → Type 0
-LinesHold k commands now = AllByRecursion (LineHolds k commands now) now.lines
+LinesHold k commands now = LinesHoldFrom k commands now 0 now.lines
+
+-- so it is in each run in which, at each moment, what had arrived was sent by the other end, whatever the link does
+abbrev pub SoundLinesHold : Setup → List Command → World → Type 0
+SoundLinesHold k commands now = (run : Turned k commands now) → Throughout k commands now (IsSound k) run → LinesHold k commands now
+
+-- WHAT ARRIVED WAS SENT by the other end
+abbrev pub RunIsSound : Setup → List Command → World → Type 0
+RunIsSound k commands now = IsSound k now
 
 -- WHERE NOTHING IS LOST ALL ENDS WELL: each command has come to its line, and each transfer whose resource is there to a line with
 -- OK, with no more chunks than its bound

@@ -1,12 +1,12 @@
 -- The end of a run, and what is told of it.
 use Rattle.std.specs.Prelude.{◌≡◌, length, count_by}
 use Rattle.link_io.specs.Resources.{lengths_of}
-use Rattle.world_turns.specs.Reports.{carries_chunk, report_of}
-use Rattle.world_turns.specs.Turns.{Ends, ending, next_kind}
-use Rattle.world_turns.specs.World.{Setup, World, client_store, server_store}
-use Rattle.world_client.specs.ClientSide.{ClientState}
-use Rattle.world_ends.specs.ServerSide.{ServerState}
-use Rattle.world_ends.specs.Wiring.{Wiring}
+use Rattle.link_laws.specs.world.Reports.{carries_chunk, report_of}
+use Rattle.link_laws.specs.world.Turns.{Ends, ending, next_kind}
+use Rattle.link_laws.specs.world.World.{Setup, World, client_store, server_store}
+use Rattle.link_world.specs.client.ClientSide.{ClientState}
+use Rattle.link_world.specs.server.ServerSide.{ServerState}
+use Rattle.link_world.specs.server.Wiring.{Wiring}
 use Rattle.link_world.specs.declared.course.Course.{Course}
 use Rattle.link_world.specs.declared.outcome.Outcome.{Outcome}
 

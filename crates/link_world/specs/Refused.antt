@@ -1,6 +1,6 @@
 -- Why a world has no outcome, by why an end stops.
-use Rattle.world_ends.specs.declared.stopped.Stopped.{Stopped}
-use Rattle.world_ends.specs.declared.stopped.Stopped.TheVariants as stopped
+use Rattle.link_world.specs.declared.server.stopped.Stopped.{Stopped}
+use Rattle.link_world.specs.declared.server.stopped.Stopped.TheVariants as stopped
 use Rattle.link_world.specs.declared.outcome.WorldRefused.{WorldRefused}
 use Rattle.link_world.specs.declared.outcome.WorldRefused.TheVariants.{Journal, Memory}
 

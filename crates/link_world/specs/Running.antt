@@ -4,13 +4,13 @@ use Rattle.demo_services.specs.DemoRule.{demo_rule}
 use Rattle.link_script.specs.declared.command.Command.{Command}
 use Rattle.rpc_journal.specs.Refusals.{is_full}
 use Rattle.transfer_base.specs.declared.tuning.Tuning.{Tuning}
-use Rattle.world_turns.specs.declared.limits.TheConstants.{MAX_DELIVERIES}
-use Rattle.world_turns.specs.Setup.{client_setting}
-use Rattle.world_turns.specs.Turns.{Turn as Follows, Turns, ending, next_kind, timing}
-use Rattle.world_turns.specs.World.{Setup, World, first_world}
-use Rattle.world_client.specs.ClientSide.{ClientState}
-use Rattle.world_ends.specs.ServerSide.{ServerState}
-use Rattle.world_ends.specs.Wiring.{Wiring}
+use Rattle.link_laws.specs.declared.world.limits.TheConstants.{MAX_DELIVERIES}
+use Rattle.link_laws.specs.world.Setup.{client_setting}
+use Rattle.link_laws.specs.world.Turns.{Turn as Follows, Turns, ending, next_kind, timing}
+use Rattle.link_laws.specs.world.World.{Setup, World, first_world}
+use Rattle.link_world.specs.client.ClientSide.{ClientState}
+use Rattle.link_world.specs.server.ServerSide.{ServerState}
+use Rattle.link_world.specs.server.Wiring.{Wiring}
 use Rattle.link_world.specs.declared.course.Course.{Course}
 use Rattle.link_world.specs.declared.turn.Turn.{Turn}
 use Rattle.link_world.specs.declared.turn.Turn.TheVariants.{Time}

@@ -12,15 +12,15 @@ use Rattle.rpc_schedule.specs.Kept.{kept}
 use Rattle.rpc_schedule.specs.Serving.{deeds}
 use Rattle.rpc_schedule.specs.ends.EndState.{WasFed}
 use Rattle.transfer_base.specs.declared.tuning.Tuning.{Tuning}
-use Rattle.world_turns.specs.declared.limits.TheConstants.{TURN_OF_TIME}
-use Rattle.world_turns.specs.Setup.{client_setting}
-use Rattle.world_turns.specs.World.{Setup, World}
-use Rattle.world_client.specs.declared.under.Under.{Under}
-use Rattle.world_client.specs.declared.under.Under.TheVariants.{Calling}
-use Rattle.world_client.specs.ClientSide.{Attends, ClientRests, ClientState}
-use Rattle.world_client.specs.Underway.{under_seen}
-use Rattle.world_ends.specs.ServerSide.{ServerRests, ServerState}
-use Rattle.world_ends.specs.Wiring.{Wiring}
+use Rattle.link_laws.specs.declared.world.limits.TheConstants.{TURN_OF_TIME}
+use Rattle.link_laws.specs.world.Setup.{client_setting}
+use Rattle.link_laws.specs.world.World.{Setup, World}
+use Rattle.link_world.specs.declared.client.under.Under.{Under}
+use Rattle.link_world.specs.declared.client.under.Under.TheVariants.{Calling}
+use Rattle.link_world.specs.client.ClientSide.{Attends, ClientRests, ClientState}
+use Rattle.link_world.specs.client.Underway.{under_seen}
+use Rattle.link_world.specs.server.ServerSide.{ServerRests, ServerState}
+use Rattle.link_world.specs.server.Wiring.{Wiring}
 use Rattle.link_world.specs.declared.course.Course.{Course}
 use Rattle.link_world.specs.declared.turn.Turn.{Turn}
 use Rattle.link_world.specs.declared.turn.Turn.TheVariants.{Start, Cancel}

@@ -4,15 +4,15 @@ use Rattle.std.specs.List.{AllByRecursion}
 use Rattle.link_io.specs.Resources.{IsOnce}
 use Rattle.link_script.specs.declared.script.Script.{Script}
 use Rattle.link_script.specs.Script.{IsCommand}
-use Rattle.lossy_link.specs.Link.{new_link}
+use Rattle.link_script.specs.lossy.Link.{new_link}
 use Rattle.rpc_ids.specs.declared.method.Role.TheVariants.{Server, Client}
 use Rattle.rpc_schedule.specs.ends.EndState.{WasFed}
 use Rattle.transfer_base.specs.declared.limits.TheConstants.{MAX_CHUNK, MAX_WINDOW}
 use Rattle.transfer_base.specs.declared.tuning.Tuning.{Tuning}
-use Rattle.world_turns.specs.Setup.{made_resources, script_chunk, script_window, server_setting, stocked}
-use Rattle.world_client.specs.ClientSide.{ClientRests, ClientState}
-use Rattle.world_ends.specs.ServerSide.{ServerRests, ServerState}
-use Rattle.world_ends.specs.Wiring.{Wiring}
+use Rattle.link_laws.specs.world.Setup.{made_resources, script_chunk, script_window, server_setting, stocked}
+use Rattle.link_world.specs.client.ClientSide.{ClientRests, ClientState}
+use Rattle.link_world.specs.server.ServerSide.{ServerRests, ServerState}
+use Rattle.link_world.specs.server.Wiring.{Wiring}
 
 -- no resource stands twice under the same words, and the numbers of windows, chunks and commands fit
 pub record IsWithinBounds (script : Script) : Type 0 where

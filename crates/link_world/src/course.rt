@@ -2,9 +2,9 @@
 
 ghost use Rattle.std.specs.Prelude.{◌≡◌, [], None};
 
+use crate::client::Under;
 use link_script::ReportLines;
 use std::alloc::Global;
-use world_client::Under;
 
 /// What a run has begun and counted.
 #[derive(Drop)]

@@ -1,16 +1,16 @@
 //! How a turn ends.
 ghost use Rattle.std.specs.Prelude.{◌≡◌, ℕ, List, OnOk};
 ghost use Rattle.link_script.specs.declared.command.Command.{Command};
-ghost use Rattle.world_client.specs.ClientSide.{Attends, ClientRests};
-ghost use Rattle.world_turns.specs.Lines.{command_ended, finished, is_still, with_released};
-ghost use Rattle.world_turns.specs.World.{Setup, World};
+ghost use Rattle.link_world.specs.client.ClientSide.{Attends, ClientRests};
+ghost use Rattle.link_laws.specs.world.Lines.{command_ended, finished, is_still, with_released};
+ghost use Rattle.link_laws.specs.world.World.{Setup, World};
 ghost use Rattle.link_world.specs.Showing.{IsOpen, Shows, wiring_of};
 
+use crate::client::ClientEnd;
 use crate::course::Course;
 use crate::line::line_of;
+use crate::server::{ServerEnd, Wires};
 use std::alloc::AllocError;
-use world_client::ClientEnd;
-use world_ends::{ServerEnd, Wires};
 
 /// A turn ends: what is kept back goes on the link where that is empty, and the command under way ends where it has come to
 /// its end.

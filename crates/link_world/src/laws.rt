@@ -1,8 +1,8 @@
 //! What follows from the definitions. Each function does nothing: what counts is its contract.
 ghost use Rattle.std.specs.Prelude.{ℕ, ◌+◌, ◌^◌, ◌<◌, List, length};
 ghost use Rattle.link_script.specs.declared.script.Script.{Script};
-ghost use Rattle.script_text.specs.Reading.{IsScriptText};
-ghost use Rattle.world_fits.specs.Scripts.{IsScript};
+ghost use Rattle.link_script.specs.text.Reading.{IsScriptText};
+ghost use Rattle.link_laws.specs.transfers_fit.Scripts.{IsScript};
 ghost use Rattle.link_world.specs.Starting.{IsWithinBounds};
 
 /// The script that a text says may be run.

@@ -2,18 +2,18 @@
 ghost use Rattle.std.specs.Prelude.{◌≡◌, if◌then◌else◌, IfOk, None, Some};
 ghost use Rattle.rpc_journal.specs.Calls.{end_of};
 ghost use Rattle.rpc_schedule.specs.Serving.{deeds};
-ghost use Rattle.world_client.specs.ClientSide.{ClientRests};
-ghost use Rattle.world_client.specs.Underway.{plain_of, under_of};
-ghost use Rattle.world_turns.specs.Lines.{is_still, length_written, line_of, plain_line};
-ghost use Rattle.world_turns.specs.World.{Setup, World, calling, transferring};
+ghost use Rattle.link_world.specs.client.ClientSide.{ClientRests};
+ghost use Rattle.link_world.specs.client.Underway.{plain_of, under_of};
+ghost use Rattle.link_laws.specs.world.Lines.{is_still, length_written, line_of, plain_line};
+ghost use Rattle.link_laws.specs.world.World.{Setup, World, calling, transferring};
 ghost use Rattle.link_world.specs.Ending.{length_in};
 ghost use Rattle.link_world.specs.Showing.{ClientShows, IsOpen, ServerShows};
 
+use crate::client::{ClientEnd, Plain, Speaker, Under};
+use crate::server::ServerEnd;
 use link_script::ReportLine;
 use rpc_ids::Status;
 use std::alloc::AllocError;
-use world_client::{ClientEnd, Plain, Speaker, Under};
-use world_ends::ServerEnd;
 
 /// The line of the command under way, where it has ended: a transfer ends with its task, a plain call with its end in the
 /// client's journal, a write of what the client hasn't at once, and the closing of a channel where nothing is on the link.

@@ -1,22 +1,22 @@
 //! A whole turn.
 ghost use Rattle.std.specs.Prelude.{◌≡◌, ◌<◌, ◌≤◌, List, Err, OnOk, length};
 ghost use Rattle.link_script.specs.declared.command.Command.{Command};
-ghost use Rattle.world_turns.specs.declared.limits.TheConstants.{MAX_DELIVERIES};
-ghost use Rattle.world_turns.specs.Limits.{StopsIn};
-ghost use Rattle.world_turns.specs.Turns.{next_kind};
-ghost use Rattle.world_turns.specs.World.{Setup, World};
+ghost use Rattle.link_laws.specs.declared.world.limits.TheConstants.{MAX_DELIVERIES};
+ghost use Rattle.link_laws.specs.world.Limits.{StopsIn};
+ghost use Rattle.link_laws.specs.world.Turns.{next_kind};
+ghost use Rattle.link_laws.specs.world.World.{Setup, World};
 ghost use Rattle.link_world.specs.Making.{TakesTurn, WorldTurns};
 ghost use Rattle.link_world.specs.Running.{IsTimed, MakesTurn};
 ghost use Rattle.link_world.specs.Showing.{CanTurn, ClientShows, CourseShows, IsOpen, IsTuned, ServerShows, Stands};
 
+use crate::client::ClientEnd;
 use crate::course::Course;
 use crate::ending::finish;
+use crate::server::{ServerEnd, Stopped, Wires};
 use crate::starting::start;
 use crate::turn::Turn;
 use crate::turns::{cancel, deliver_to_client, deliver_to_server, pass_time};
 use transfer_base::Tuning;
-use world_client::ClientEnd;
-use world_ends::{ServerEnd, Stopped, Wires};
 
 /// Makes a turn, with its end.
 pub(crate) fn make_turn(

@@ -1,11 +1,11 @@
 //! What a run gives.
 ghost use Rattle.std.specs.Prelude.{◌≡◌};
 
+use crate::server::Stopped;
 use link_io::MemStore;
 use link_script::Report;
 use rpc_journal::Journal;
 use std::alloc::AllocError;
-use world_ends::Stopped;
 
 /// The run of a script: what is told of it, the journals of both ends, and what their stores hold then.
 #[derive(Drop)]

@@ -3,19 +3,19 @@ ghost use Rattle.std.specs.Prelude.{◌≡◌, List, Err, IfOk};
 ghost use Rattle.demo_services.specs.DemoRule.{demo_rule};
 ghost use Rattle.link_script.specs.declared.command.Command.{Command};
 ghost use Rattle.rpc_journal.specs.Lawful.{IsLegal};
-ghost use Rattle.world_turns.specs.Limits.{EndStops};
-ghost use Rattle.world_turns.specs.Setup.{quiet_rule};
-ghost use Rattle.world_turns.specs.World.{Setup, World};
+ghost use Rattle.link_laws.specs.world.Limits.{EndStops};
+ghost use Rattle.link_laws.specs.world.Setup.{quiet_rule};
+ghost use Rattle.link_laws.specs.world.World.{Setup, World};
 ghost use Rattle.link_world.specs.Over.{EndsAs, Tells};
 ghost use Rattle.link_world.specs.Showing.{Shows, Stands};
 
+use crate::client::ClientEnd;
 use crate::course::Course;
 use crate::outcome::{Outcome, WorldRefused};
+use crate::server::{ServerEnd, Wires, lengths};
 use crate::turns::moment;
 use link_script::Report;
 use std::alloc::{AllocError, Global};
-use world_client::ClientEnd;
-use world_ends::{ServerEnd, Wires, lengths};
 
 /// Nothing is left to do: both ends are told that the link is given up, and all is told of the run.
 pub(crate) fn end(

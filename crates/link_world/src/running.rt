@@ -2,20 +2,20 @@
 ghost use Rattle.std.specs.Prelude.{◌≡◌, Err, OnOk};
 ghost use Rattle.std.specs.List.{AllByRecursion};
 ghost use Rattle.link_script.specs.Script.{IsCommand};
-ghost use Rattle.world_turns.specs.Limits.{IsPastFrames, IsPastJournal};
-ghost use Rattle.world_turns.specs.World.{first_world};
+ghost use Rattle.link_laws.specs.world.Limits.{IsPastFrames, IsPastJournal};
+ghost use Rattle.link_laws.specs.world.World.{first_world};
 ghost use Rattle.link_world.specs.Running.{EndsWith, setup_by};
 ghost use Rattle.link_world.specs.Showing.{IsOpen, Shows, Stands};
 
+use crate::client::ClientEnd;
 use crate::course::Course;
 use crate::making::make_turn;
 use crate::outcome::WorldRefused;
+use crate::server::{ServerEnd, Wires};
 use crate::turn::next_turn;
+use link_laws::world::MAX_DELIVERIES;
 use link_script::Command;
 use transfer_base::Tuning;
-use world_client::ClientEnd;
-use world_ends::{ServerEnd, Wires};
-use world_turns::MAX_DELIVERIES;
 
 /// Makes all turns but the end.
 pub(crate) fn run_turns(

@@ -4,22 +4,22 @@ ghost use Rattle.link_script.specs.declared.command.Command.{Command};
 ghost use Rattle.link_script.specs.declared.command.Command.TheVariants.{Close};
 ghost use Rattle.link_script.specs.Script.{IsCommand};
 ghost use Rattle.rpc_journal.specs.declared.entry.TheConstants.{MAX_ENTRIES};
-ghost use Rattle.world_client.specs.Asking.{IsAsked};
-ghost use Rattle.world_client.specs.ClientSide.{Attends, ClientRests, ClientState};
-ghost use Rattle.world_ends.specs.ServerSide.{ServerRests};
-ghost use Rattle.world_turns.specs.declared.limits.TheConstants.{TURN_OF_TIME};
-ghost use Rattle.world_turns.specs.Limits.{StopsIn};
-ghost use Rattle.world_turns.specs.Turns.{next_kind, starting};
-ghost use Rattle.world_turns.specs.World.{Setup, World};
+ghost use Rattle.link_world.specs.client.Asking.{IsAsked};
+ghost use Rattle.link_world.specs.client.ClientSide.{Attends, ClientRests, ClientState};
+ghost use Rattle.link_world.specs.server.ServerSide.{ServerRests};
+ghost use Rattle.link_laws.specs.declared.world.limits.TheConstants.{TURN_OF_TIME};
+ghost use Rattle.link_laws.specs.world.Limits.{StopsIn};
+ghost use Rattle.link_laws.specs.world.Turns.{next_kind, starting};
+ghost use Rattle.link_laws.specs.world.World.{Setup, World};
 ghost use Rattle.link_world.specs.Making.{ClientTurns, ServerTurns, WorldTurns, with_coming};
 ghost use Rattle.link_world.specs.Showing.{ClientShows, CourseShows, IsTuned, ServerShows, Stands, wiring_of};
 
+use crate::client::{ClientEnd, Under};
 use crate::course::Course;
+use crate::server::{ServerEnd, Stopped, Wires};
 use crate::turns::moment;
 use link_script::Command;
 use transfer_base::Tuning;
-use world_client::{ClientEnd, Under};
-use world_ends::{ServerEnd, Stopped, Wires};
 
 /// The client is asked a command. So many of them that their sessions have no number would not fit into memory.
 pub(crate) fn ask(

@@ -1,16 +1,16 @@
 //! Which turn comes next.
 ghost use Rattle.std.specs.Prelude.{◌≡◌, ◌+◌, ◌<◌, ◌^◌, IfNone, IfSome, slice_get};
 ghost use Rattle.std.specs.Option.{option_copied};
-ghost use Rattle.world_turns.specs.Turns.{ending, next_kind};
-ghost use Rattle.world_turns.specs.World.{Setup, World};
+ghost use Rattle.link_laws.specs.world.Turns.{ending, next_kind};
+ghost use Rattle.link_laws.specs.world.World.{Setup, World};
 ghost use Rattle.link_world.specs.Making.{TakesTurn};
 ghost use Rattle.link_world.specs.Showing.{CourseShows, IsNext, wiring_of};
 
+use crate::client::Under;
 use crate::course::Course;
+use crate::server::Wires;
 use bytes::Bytes;
 use link_script::Command;
-use world_client::Under;
-use world_ends::Wires;
 
 /// A turn that isn't the end.
 #[derive(Drop)]

@@ -5,19 +5,19 @@ ghost use Rattle.rpc_journal.specs.declared.entry.TheConstants.{MAX_ENTRIES};
 ghost use Rattle.rpc_journal.specs.Calls.{call_count, end_of};
 ghost use Rattle.rpc_journal.specs.Refusals.{is_full};
 ghost use Rattle.rpc_schedule.specs.Serving.{deeds};
-ghost use Rattle.world_client.specs.ClientSide.{Attends, ClientRests};
-ghost use Rattle.world_ends.specs.ServerSide.{ServerRests};
-ghost use Rattle.world_turns.specs.declared.limits.TheConstants.{MAX_DELIVERIES, TURN_OF_TIME};
-ghost use Rattle.world_turns.specs.Turns.{cancelling, timing, to_client, to_server};
-ghost use Rattle.world_turns.specs.Limits.{StopsIn};
-ghost use Rattle.world_turns.specs.World.{Setup, World};
+ghost use Rattle.link_world.specs.client.ClientSide.{Attends, ClientRests};
+ghost use Rattle.link_world.specs.server.ServerSide.{ServerRests};
+ghost use Rattle.link_laws.specs.declared.world.limits.TheConstants.{MAX_DELIVERIES, TURN_OF_TIME};
+ghost use Rattle.link_laws.specs.world.Turns.{cancelling, timing, to_client, to_server};
+ghost use Rattle.link_laws.specs.world.Limits.{StopsIn};
+ghost use Rattle.link_laws.specs.world.World.{Setup, World};
 ghost use Rattle.link_world.specs.Making.{ClientTurns, ServerTurns, WorldTurns, with_rest_down, with_rest_up};
 ghost use Rattle.link_world.specs.Showing.{ClientShows, CourseShows, ServerShows, wiring_of};
 
+use crate::client::ClientEnd;
 use crate::course::Course;
-use world_client::ClientEnd;
-use world_ends::{ServerEnd, Stopped, Wires};
-use world_turns::TURN_OF_TIME;
+use crate::server::{ServerEnd, Stopped, Wires};
+use link_laws::world::TURN_OF_TIME;
 
 /// The moment behind so many turns of time, in milliseconds.
 pub(crate) fn moment(times: u64) -> u64

@@ -2,25 +2,25 @@
 ghost use Rattle.std.specs.Prelude.{◌≡◌, Err, IfOk};
 ghost use Rattle.demo_services.specs.DemoRule.{demo_rule};
 ghost use Rattle.rpc_journal.specs.Lawful.{IsLegal};
-ghost use Rattle.world_turns.specs.Limits.{IsPastFrames, IsPastJournal};
-ghost use Rattle.world_turns.specs.Setup.{client_setting, quiet_rule, script_chunk, script_window, setup_of};
-ghost use Rattle.world_turns.specs.Sound.{NoFlips};
-ghost use Rattle.world_fits.specs.Scripts.{IsScript};
-ghost use Rattle.world_lossless.specs.Lossless.{IsLosslessScript};
-ghost use Rattle.world_lossless.specs.Scripts.{IsOpenScript};
-ghost use Rattle.link_world.specs.Outcomes.{AllArrive, AllEndWell, IsRunOf, IsRunWith, LinesHold, LossesEndWell};
+ghost use Rattle.link_laws.specs.world.Limits.{IsPastFrames, IsPastJournal};
+ghost use Rattle.link_laws.specs.world.Setup.{client_setting, quiet_rule, script_chunk, script_window, setup_of};
+ghost use Rattle.link_laws.specs.world.Sound.{NoFlips};
+ghost use Rattle.link_laws.specs.transfers_fit.Scripts.{IsScript};
+ghost use Rattle.link_laws.specs.lossless_scripts.Lossless.{IsLosslessScript};
+ghost use Rattle.link_laws.specs.lossless_scripts.Scripts.{IsOpenScript};
+ghost use Rattle.link_world.specs.Outcomes.{AllArrive, AllEndWell, IsRunOf, IsRunWith, LinesHold, LossesEndWell, RunIsSound, SoundLinesHold};
 ghost use Rattle.link_world.specs.Starting.{IsWithinBounds};
 
+use crate::client::ClientEnd;
 use crate::course::Course;
 use crate::outcome::{Outcome, WorldRefused};
 use crate::over::end;
 use crate::running::run_turns;
+use crate::server::{ServerEnd, Wires, store_of};
 use link_script::{DEFAULT_CHUNK, DEFAULT_WINDOW, Script};
 use std::alloc::{AllocError, Global};
 use std::marker::Model;
 use transfer_base::Tuning;
-use world_client::ClientEnd;
-use world_ends::{ServerEnd, Wires, store_of};
 
 /// Both ends, the link between them and the commands of a script, before anything happens. Contracts see the script.
 #[derive(Drop)]
@@ -87,7 +87,9 @@ impl World {
         ensures journal { result ≡ Err WorldRefused.Journal → IsPastJournal (setup_of self) self.commands }
         ensures server { IfOk result (λ outcome. IsLegal demo_rule (setup_of self).server outcome.server.entries) }
         ensures client { IfOk result (λ outcome. IsLegal quiet_rule client_setting outcome.client.entries) }
+        ensures sound { IsScript self → NoFlips self.losses → IfOk result (IsRunWith RunIsSound self) }
         ensures bytes { IsScript self → NoFlips self.losses → IfOk result (IsRunWith LinesHold self) }
+        ensures sound_bytes { IsScript self → IfOk result (IsRunWith SoundLinesHold self) }
         ensures lossless { IsLosslessScript self → IfOk result (IsRunWith AllEndWell self) }
         ensures arrives { IsLosslessScript self → IfOk result (IsRunWith AllArrive self) }
         ensures losses { IsOpenScript self → IfOk result (IsRunWith LossesEndWell self) }

@@ -6,37 +6,45 @@ use Rattle.rpc_handlers.specs.declared.answer.Out.{Out}
 use Rattle.rpc_journal.specs.declared.entry.Entry.{Entry}
 use Rattle.rpc_journal.specs.Calls.{end_of}
 use Rattle.rpc_journal.specs.History.{history}
-use Rattle.rpc_crew.specs.Sessions.{is_halted}
-use Rattle.wake_bells.specs.Bells.{Heard}
+use Rattle.rpc_shared.specs.session.Sessions.{is_halted}
+use Rattle.task_core.specs.bells.Bells.{Heard}
 use Rattle.task_core.specs.Log.{Step, task_of}
 use Rattle.task_core.specs.Tasks.{StandsFor, Tasks}
 use Rattle.task_core.specs.Visit.{Visit}
-use Rattle.live_errand.specs.Events.{first_end, messages_in}
-use Rattle.live_errand.specs.Tasks.{TaskRan}
-use Rattle.live_errand.specs.Telling.{IsAll, Tells, waiting}
-use Rattle.live_errand.specs.Watching.{EndsBy, Watched, has_enough}
-use Rattle.live_errand.specs.declared.watch.WatchErrand.{WatchErrand}
+use Rattle.live_client.specs.asks.Events.{first_end, messages_in}
+use Rattle.live_client.specs.asks.Tasks.{TaskRan, WantedIf}
+use Rattle.live_client.specs.asks.Telling.{IsAll, Tells, waiting}
+use Rattle.live_client.specs.asks.Watching.{EndsBy, Watched, has_enough}
+use Rattle.live_client.specs.declared.asks.watch.WatchErrand.{WatchErrand}
 use Rattle.transfer_client.specs.Read.{Download}
 use Rattle.transfer_client.specs.Tasks.{Reads, Writes}
 use Rattle.transfer_client.specs.Write.{Upload}
-use Rattle.live_client.specs.Asks.{live_setting}
+use Rattle.live_client.specs.Ask.{live_setting}
 use Rattle.live_client.specs.Histories.{cancels, events_run}
 use Rattle.live_client.specs.Live.{TransferRan}
 use Rattle.live_client.specs.Told.{HasTold, IsCutSo}
+use Rattle.live_client.proofs.asks.TellLemmas.{whole_before}
 
 -- ---- a transfer
 
-module _ {T : Type 0} (polls : T → Visit → T → Type 0) (task : T) (tasks : Tasks T) (ear : Heard) (start end : ℕ) (h : List Entry) (told : HasTold (λ all. Tells polls task tasks ear all start end) h) where
-  task_ran : (now : T) → ((log : List (Step T)) → StandsFor tasks log → task_of log 0 ≡ Some now) → (ended : Option Status) → ended ≡ told.ended
-      → TaskRan polls task start end (events_run live_setting h 0) (told.outs ++ (told.lost ++ waiting tasks)) now ended
-  task_ran now is_now ended same =
+-- a task that fell short of memory did so where the table was halted
+wanted_so : {T : Type 0} (short halted : Bool) (log : List (Step T)) → (halted ≡ false → short ≡ false) → WantedIf short log → WantedIf halted log
+wanted_so false false log calm so = so
+wanted_so false true log calm so = whole_before log so
+wanted_so true false log calm so = absurd (true≢false (calm refl))
+wanted_so true true log calm so = so
+
+module _ {T : Type 0} (polls : T → Visit → T → Type 0) (task : T) (tasks : Tasks T) (ear : Heard) (short : Bool) (start end : ℕ) (h : List Entry) (told : HasTold (λ all. Tells polls task tasks ear short all start end) h) where
+  task_ran : (is_halted live_setting h ≡ false → short ≡ false) → (now : T) → ((log : List (Step T)) → StandsFor tasks log → task_of log 0 ≡ Some now) → (ended : Option Status) → ended ≡ told.ended
+      → TaskRan polls task start end (is_halted live_setting h) (events_run live_setting h 0) (told.outs ++ (told.lost ++ waiting tasks)) now ended
+  task_ran calm now is_now ended same =
       let so = told.heard.told in
       record {
         log = so.log;
-        rest = so.rest;
-        begins = so.begins;
+        alone = so.alone;
         turns = so.turns;
         between = so.between;
+        whole = wanted_so short (is_halted live_setting h) so.log calm so.whole;
         mail = so.mail;
         said = so.said ∙ append_assoc told.outs told.lost (waiting tasks);
         last = is_now so.log so.stands;
@@ -47,16 +55,16 @@ module _ {T : Type 0} (polls : T → Visit → T → Type 0) (task : T) (tasks :
   none_waits true is none = ap (map (λ (said : ℕ × Out). said.1)) none
   none_waits false is none = absurd (false≢true is)
 
-  pub transfer_ran : (now : T) → ((log : List (Step T)) → StandsFor tasks log → task_of log 0 ≡ Some now) → (ended : Option Status) → ended ≡ told.ended → (Ran : List Out → T → Type 0)
-      → ((outs : List Out) → TaskRan polls task start end (events_run live_setting h 0) outs now ended → Ran outs now) → TransferRan Ran h
-  transfer_ran now is_now ended same Ran so = record {
+  pub transfer_ran : (is_halted live_setting h ≡ false → short ≡ false) → (now : T) → ((log : List (Step T)) → StandsFor tasks log → task_of log 0 ≡ Some now) → (ended : Option Status) → ended ≡ told.ended → (Ran : List Out → T → Type 0)
+      → ((outs : List Out) → TaskRan polls task start end (is_halted live_setting h) (events_run live_setting h 0) outs now ended → Ran outs now) → TransferRan Ran h
+  transfer_ran whole now is_now ended same Ran so = record {
     outs = told.outs;
     unsaid = told.lost ++ waiting tasks;
     said = told.said;
     all_said = λ calm.
         ap (λ lost. lost ++ waiting tasks) (told.none_lost calm) ∙ none_waits told.all (told.all_said calm) told.heard.all_said;
     now = now;
-    ran = so (told.outs ++ (told.lost ++ waiting tasks)) (task_ran now is_now ended same);
+    ran = so (told.outs ++ (told.lost ++ waiting tasks)) (task_ran whole now is_now ended same);
   }
 
   pub transfer_over : (ended : Option Status) → ended ≡ told.ended → is_halted live_setting h ≡ false → is_some ended ≡ true

@@ -32,7 +32,7 @@ use Rattle.rpc_journal.specs.History.{deeds_of}
 use Rattle.rpc_journal.specs.Items.{is_done, items_sent}
 use Rattle.rpc_journal.specs.Kinds.{is_empty, is_okay, streams_down}
 use Rattle.rpc_journal.specs.Rows.{Row, channels_in, method_named, no_effect, both_effects}
-use Rattle.live_client.specs.Asks.{live_methods, live_setting}
+use Rattle.live_client.specs.Ask.{live_methods, live_setting}
 use Rattle.live_client.specs.Histories.{is_cancel, is_entry_of}
 use Rattle.live_client.specs.Live.{AreReplies}
 use Rattle.live_client.specs.Silent.{is_silent}
@@ -184,7 +184,7 @@ uncancelled (e ∷ es) c uncut = at e.kind uncut.0 (uncancelled es c uncut.1)
     at (Cancel x) off rest = absurd (true≢false off)
     at _ off rest = rest
 
-late_quiet : (ds : List Deed) (kind : EntryKind) → is_late kind ≡ true → (is_finish kind ≡ false) ⊎ ((c : ℕ) → is_cancelled ds c ≡ false) → AreReplies (effect_of live_setting ds kind).says
+pub late_quiet : (ds : List Deed) (kind : EntryKind) → is_late kind ≡ true → (is_finish kind ≡ false) ⊎ ((c : ℕ) → is_cancelled ds c ≡ false) → AreReplies (effect_of live_setting ds kind).says
 late_quiet ds (Arrive p) late cause = (arrive_quiet ds p).1
 late_quiet ds EndIn late cause = tt
 late_quiet ds Flush late cause = tt

@@ -1,5 +1,5 @@
 -- How the driver's knowledge goes on, from step to step.
-use Rattle.std.proofs.Common.{◌≡◌, ◌≢◌, ◌==◌, ◌&&◌, if◌then◌else◌, ℕ, ◌+◌, ◌≤◌, Bool, true, false, List, [], ◌∷◌, ◌++◌, length, refl, ap, sym, ◌∙◌, subst, inl, inr, arith, append_assoc, eq-eqb, reverse}
+use Rattle.std.proofs.Common.{◌≡◌, ◌≢◌, ◌==◌, ◌&&◌, if◌then◌else◌, ℕ, ◌+◌, ◌≤◌, Bool, true, false, List, [], ◌∷◌, ◌++◌, length, refl, ap, sym, ◌∙◌, subst, arith, append_assoc, eq-eqb, reverse}
 use Rattle.std.proofs.lemmas.Bool.{true≢false}
 use Rattle.std.proofs.lemmas.List.{append-nil, reverse-append}
 use Rattle.std.specs.List.{AllByRecursion}
@@ -28,11 +28,12 @@ use Rattle.rpc_journal.proofs.Push.{all-reverse, history-push}
 use Rattle.rpc_shared.specs.Steps.{IsOwn, Step, Steps}
 use Rattle.turn_cell.specs.Passes.{IsSame}
 use Rattle.rpc_journal.specs.Lawful.{IsLegal}
-use Rattle.rpc_crew.specs.Crew.{IsLate, Lock, Seat}
-use Rattle.rpc_crew.proofs.PassLemmas.{adds_none, adds_one, late_still, stands_after}
+use Rattle.rpc_shared.specs.session.Crew.{IsLate, Lock, Seat}
+use Rattle.rpc_shared.proofs.session.PassLemmas.{adds_none, adds_one, late_still, stands_after}
 use Rattle.live_client.specs.Driving.{Drives, runs_by, is_drivers}
-use Rattle.live_client.specs.Histories.{AreSaid, IsRefused, cancels, is_cancel, said_by, says_of}
+use Rattle.live_client.specs.Histories.{AreSaid, cancels, is_cancel, said_by, says_of}
 use Rattle.live_client.specs.Silent.{silent_rule}
+use Rattle.live_client.proofs.SaidLemmas.{said_later}
 
 -- ---- what others add is none of this seat's runs
 
@@ -66,25 +67,6 @@ says-append (e ∷ xs) ys = ap (λ outs. said_by e.kind ++ outs) (says-append xs
 
 pub says-push : (xs : List Entry) (e : Entry) → says_of (xs ++ e ∷ []) ≡ says_of xs ++ said_by e.kind
 says-push xs e = says-append xs (e ∷ []) ∙ ap (λ outs. says_of xs ++ outs) (append-nil (said_by e.kind))
-
-refused_later : (set : Setting) (c : ℕ) (h later : List Entry) (out : Out) → IsPrefix h later → IsRefused set c h out → IsRefused set c later out
-refused_later set c h later out begins (inl r) = inl (r.0, prefix_trans r.0 h later r.1 begins, r.2, r.3)
-refused_later set c h later out begins (inr long) = inr long
-
-pub said_later : (set : Setting) (c : ℕ) (h later : List Entry) (outs says : List Out) → IsPrefix h later → AreSaid set c h outs says → AreSaid set c later outs says
-said_later set c h later [] says begins said = said
-said_later set c h later (out ∷ outs) says begins (inl s) = inl (s.0, s.1, said_later set c h later outs s.0 begins s.2)
-said_later set c h later (out ∷ outs) says begins (inr s) = inr (refused_later set c h later out begins s.0, said_later set c h later outs says begins s.1)
-
-pub said_more : (set : Setting) (c : ℕ) (h : List Entry) (outs says : List Out) (out : Out) → AreSaid set c h outs says → AreSaid set c h (outs ++ out ∷ []) (says ++ out ∷ [])
-said_more set c h [] says out said = inl ([], ap (λ s. s ++ out ∷ []) said, refl)
-said_more set c h (x ∷ outs) says out (inl s) = inl (s.0 ++ out ∷ [], ap (λ t. t ++ out ∷ []) s.1, said_more set c h outs s.0 out s.2)
-said_more set c h (x ∷ outs) says out (inr s) = inr (s.0, said_more set c h outs says out s.1)
-
-pub said_refused : (set : Setting) (c : ℕ) (h : List Entry) (outs says : List Out) (out : Out) → IsRefused set c h out → AreSaid set c h outs says → AreSaid set c h (outs ++ out ∷ []) says
-said_refused set c h [] says out refused said = inr (refused, said)
-said_refused set c h (x ∷ outs) says out refused (inl s) = inl (s.0, s.1, said_refused set c h outs s.0 out refused s.2)
-said_refused set c h (x ∷ outs) says out refused (inr s) = inr (s.0, said_refused set c h outs says out refused s.1)
 
 -- ---- counts
 
@@ -148,7 +130,7 @@ drives_sees watches opening r c events outs items p q d same own legal begins mi
       runs = runs_beyond r.base c p.view.known.seen q.view.known.seen begins others ∙ d.runs;
       said =
           subst (AreSaid r.base c q.view.known.seen outs) (ap says_of (sym mine))
-          (said_later r.base c p.view.known.seen q.view.known.seen outs (says_of p.view.known.mine) begins d.said);
+          (said_later r.base c p.view.known.seen q.view.known.seen begins outs (says_of p.view.known.mine) d.said);
       front = front_beyond r.base c items p.view.known.seen q.view.known.seen begins d.front;
       count = d.count ∙ ap flushes (sym mine);
     }
@@ -207,7 +189,7 @@ module _ (watches : Bool) (opening : EntryKind) (r : Lock) (c : ℕ) (events : L
         drives_added events outs items
         (rw (unfinished) runs_before)
         (subst (AreSaid r.base c q.view.known.seen outs) (sym (ap (λ more. says_of p.view.known.mine ++ more) unsaid ∙ append-nil (says_of p.view.known.mine)))
-        (said_later r.base c p.view.known.seen q.view.known.seen outs (says_of p.view.known.mine) begins_more d.said))
+        (said_later r.base c p.view.known.seen q.view.known.seen begins_more outs (says_of p.view.known.mine) d.said))
         (front_beyond r.base c items p.view.known.seen q.view.known.seen begins_more d.front)
         (d.count ∙ rw unflushed (omega arith))
 

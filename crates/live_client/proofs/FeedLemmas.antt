@@ -29,16 +29,16 @@ use Rattle.rpc_journal.proofs.StayLemmas.{end_in_of_seat, halt_stays}
 use Rattle.rpc_schedule.specs.declared.stream.TheConstants.{INPUT_LIMIT}
 use Rattle.rpc_schedule.proofs.EntryLemmas.{arrivals-push}
 use Rattle.rpc_schedule.proofs.StreamLemmas.{piece_parts}
-use Rattle.rpc_crew.specs.Crew.{Adds, AreOf, Lock, Seat, Stands}
+use Rattle.rpc_shared.specs.session.Crew.{Adds, AreOf, Lock, Seat, Stands}
 use Rattle.live_client.specs.Feeding.{Cut, Fed, HasRead, IsBehind, Reader, is_feeding, is_readers}
 use Rattle.live_client.specs.Silent.{silent_rule}
-use Rattle.rpc_crew.specs.Sessions.{is_halted}
+use Rattle.rpc_shared.specs.session.Sessions.{is_halted}
 use Rattle.rpc_journal.specs.declared.answers.Arrived.{Arrived}
 use Rattle.rpc_journal.specs.declared.answers.ArriveRefused as arrive
 use Rattle.rpc_journal.specs.Changes.{ArriveDid, EndInDid}
-use Rattle.rpc_crew.proofs.PassLemmas.{adds_none, adds_one, kinds_after, of_weaker, stands_after}
-use Rattle.rpc_crew.proofs.SessionLemmas.{new_stands}
-use Rattle.rpc_crew.proofs.StepLemmas.{look_adds, look_mine}
+use Rattle.rpc_shared.proofs.session.PassLemmas.{adds_none, adds_one, kinds_after, of_weaker, stands_after}
+use Rattle.rpc_shared.proofs.session.SessionLemmas.{new_stands}
+use Rattle.rpc_shared.proofs.session.StepLemmas.{look_adds, look_mine}
 use Rattle.rpc_shared.specs.declared.look.Look.{Look}
 use Rattle.rpc_shared.specs.Looks.{LookDid}
 use Rattle.rpc_shared.specs.Steps.{Steps}

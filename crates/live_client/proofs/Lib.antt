@@ -2,10 +2,13 @@ pub mod AskLemmas
 pub mod ClientEntries
 pub mod DriveLemmas
 pub mod FeedLemmas
+pub mod FetchedLemmas
 pub mod LengthLemmas
 pub mod OpenLemmas
 pub mod RunLemmas
+pub mod SaidLemmas
 pub mod StepsOf
+pub mod StoredLemmas
 pub mod TableLemmas
 pub mod TalkLemmas
 pub mod WakeLemmas

@@ -26,9 +26,9 @@ use Rattle.rpc_journal.specs.Refusals.{invoke_refusal, is_full, refused_where}
 use Rattle.rpc_journal.specs.Rows.{channels_in, method_named}
 use Rattle.rpc_journal.proofs.Push.{history-push}
 use Rattle.rpc_shared.specs.Steps.{Steps}
-use Rattle.rpc_crew.specs.Crew.{Adds, Lock, Seat, Stands}
-use Rattle.rpc_crew.proofs.PassLemmas.{adds_one, stands_after}
-use Rattle.rpc_crew.proofs.SessionLemmas.{new_stands}
+use Rattle.rpc_shared.specs.session.Crew.{Adds, Lock, Seat, Stands}
+use Rattle.rpc_shared.proofs.session.PassLemmas.{adds_one, stands_after}
+use Rattle.rpc_shared.proofs.session.SessionLemmas.{new_stands}
 use Rattle.live_client.specs.Driving.{Drives, runs_by}
 use Rattle.live_client.specs.Histories.{says_of}
 use Rattle.live_client.specs.Opening.{Opens}

@@ -1,6 +1,6 @@
 -- The driver from the opening of the call to its end.
-use Rattle.std.proofs.Common.{◌≡◌, ℕ, zero, suc, Bool, true, false, List, [], ◌∷◌, Option, Some, None, is_ok, Result, Ok, Err, OnOk, OnErr, refl, ap, ◌∙◌, subst, inl, inr, le_refl}
-use Rattle.std.proofs.lemmas.Bool.{false≢true}
+use Rattle.std.proofs.Common.{◌≡◌, ℕ, zero, suc, Bool, true, false, List, [], ◌∷◌, Option, Some, None, is_ok, Result, Ok, Err, OnOk, OnErr, refl, ap, sym, ◌∙◌, subst, inl, inr, le_refl}
+use Rattle.std.proofs.lemmas.Bool.{false≢true, true≢false}
 use Rattle.std.proofs.KnownBytes.{Appends-nil}
 use mathlib.Core.Option.{some, some-injective}
 use lib.ListN.{get_elem?}
@@ -25,13 +25,13 @@ use Rattle.rpc_journal.specs.Laws.{seat_of}
 use Rattle.rpc_journal.specs.Quiet.{is_settled}
 use Rattle.rpc_frames.specs.Listening.{Listening}
 use Rattle.rpc_shared.specs.Steps.{base_of, log_of}
-use Rattle.rpc_crew.specs.Reasons.{reason_of}
-use Rattle.rpc_crew.specs.Crew.{Lock, Seat}
-use Rattle.rpc_crew.specs.Ring.{HaltsFor}
-use Rattle.rpc_crew.specs.Sessions.{is_halted}
-use Rattle.rpc_crew.proofs.WriterLemmas.{holds_none}
+use Rattle.rpc_shared.specs.session.Reasons.{reason_of}
+use Rattle.rpc_shared.specs.session.Crew.{Lock, Seat}
+use Rattle.rpc_shared.specs.session.Ring.{HaltsFor}
+use Rattle.rpc_shared.specs.session.Sessions.{is_halted}
+use Rattle.rpc_shared.proofs.session.WriterLemmas.{holds_none}
 use Rattle.link_io.specs.declared.why.Why.{Why}
-use Rattle.live_client.specs.Asks.{live_name, live_setting, opens}
+use Rattle.live_client.specs.Ask.{live_name, live_setting, opens}
 use Rattle.live_client.specs.Driving.{DriverEnded, Drove, Works}
 use Rattle.live_client.specs.Histories.{cancels}
 use Rattle.live_client.specs.Feeding.{HasRead, Reader, is_readers}
@@ -39,7 +39,7 @@ use Rattle.live_client.specs.Opening.{Opens}
 use Rattle.live_client.specs.Ran.{HasRun}
 use Rattle.live_client.specs.Silent.{silent_rule}
 use Rattle.live_client.proofs.TalkLemmas.{Did}
-use Rattle.live_client.proofs.WholeLive.{Ends, ends_of}
+use Rattle.live_client.proofs.WholeLive.{Ends, ends_of, stops_of}
 use Rattle.live_client.proofs.WorkLemmas.{works_ended}
 
 module _ (watches : Bool) (r : Lock) (name : CallName) (payload : List ℕ) (c : ℕ) (p : Seat) (opened : Opens r name payload c p) where
@@ -118,6 +118,25 @@ run_ends r base watches service method payload c p q0 q1 opened did now cuts sta
       fits = fits;
       legal = subst (λ set. IsLegal silent_rule set t.entries) setting legal;
     })
+
+-- what holds of a driver that ended well holds of a run that no halt ended
+pub run_well : (r : Lock) → r.base ≡ live_setting → (watches : Bool) (service method : ℕ) (payload : List ℕ) (c : ℕ) (p q0 q1 : Seat) → Opens r (live_name service method) payload c p
+    → (did now : Bool → ℕ → ℕ → Did) (cuts : Bool) (start upto : ℕ) (left left' w w' : Option (List ℕ)) (d d' : Option Stored) (f f' g g' : ℕ) (ending : Option Ending) (read : ℕ) (listener : Listening) → did true start start None [] [] None
+    → Reader is_readers r q0 → HasRead r.base left left' ending read listener q0 → {A E X : Type 0} (result : Result A E) → Drove watches did now cuts r c (is_ok result) start upto w w' d d' f f' g g' p q1
+    → OnOk result X → OnOk result (is_settled (history r.base q1.view.known.seen) ≡ true) → OnErr result (is_halted r.base q1.view.known.seen ≡ true)
+    → (t : Table) → AllFit log_of seat_of base_of (q0 ∷ q1 ∷ []) t → t.setting ≡ r.base → IsLegal silent_rule t.setting t.entries
+    → is_halted live_setting t.entries ≡ false → X
+run_well r base watches service method payload c p q0 q1 opened did now cuts start upto left left' w w' d d' f f' g g' ending read listener fresh reader has_read {A} {E} {X} (Ok a) drove well settled halted t fits setting legal calm = well
+run_well r base watches service method payload c p q0 q1 opened did now cuts start upto left left' w w' d d' f f' g g' ending read listener fresh reader has_read {A} {E} {X} (Err e) drove well settled halted t fits setting legal calm =
+    absurd (true≢false (sym
+    (stops_of r base watches (request (live_name service method) payload) empty_memo (λ all. now all start upto) c left left' w w' d d' f f' g g' ending read listener q0 q1 t
+    (record {
+      reader = reader;
+      has_read = has_read;
+      ended = driver_ended watches r (live_name service method) payload c p opened did now cuts start upto w w' d d' f f' g g' q1 fresh {A = A} {E = E} (Err e) drove settled halted;
+      fits = fits;
+      legal = subst (λ set. IsLegal silent_rule set t.entries) setting legal;
+    }) halted) ∙ calm))
 
 -- with why it ended
 pub has_run : (watches : Bool) (first : EntryKind) (did : Bool → Did) (left left' w w' : Option (List ℕ)) (d d' : Option Stored) (i i' f f' g g' : ℕ) (ending : Option Ending) (read : ℕ) (h : List Entry) (why : Why)

@@ -1,11 +1,11 @@
 -- What each call of the table is to the driver.
-use Rattle.std.proofs.Common.{◌≡◌, ◌≢◌, ◌⊎◌, ◌&&◌, if◌then◌else◌, ℕ, ◌≤◌, Bool, true, false, not, List, [], ◌∷◌, ◌++◌, length, slice_get, Option, Some, None, is_some, option_map, IfSome, IfNone, Result, Ok, Err, refl, ap, sym, ◌∙◌, subst, inl, inr, arith, length-append, append_assoc, eq-eqb, reverse}
+use Rattle.std.proofs.Common.{◌≡◌, ◌≢◌, ◌⊎◌, ◌&&◌, if◌then◌else◌, ℕ, ◌≤◌, Bool, true, false, not, List, [], ◌∷◌, ◌++◌, length, slice_get, Option, Some, None, is_some, option_map, IfSome, IfNone, Result, Ok, Err, refl, ap, sym, ◌∙◌, subst, inl, inr, arith, length-append, eq-eqb, reverse}
 use Rattle.std.proofs.lemmas.List.{append-nil, reverse-append}
 use Rattle.std.specs.Option.{option_to_list}
 use mathlib.Core.List.{IsPrefix}
 use Rattle.entry_lists.specs.Entries.{made_by}
 use Rattle.entry_lists.proofs.Makers.{none_behind}
-use Rattle.entry_lists.proofs.Prefixes.{prefix_append, prefix_self, prefix_trans}
+use Rattle.entry_lists.proofs.Prefixes.{prefix_append, prefix_trans}
 use Rattle.link_io.specs.declared.why.Why.{Why}
 use Rattle.link_io.specs.declared.why.Why.TheVariants.{JournalLimit, Memory as Shortage}
 use Rattle.rpc_ids.specs.declared.status.Status.{Status}
@@ -24,7 +24,7 @@ use Rattle.rpc_journal.specs.declared.entry.TheConstants.{MAX_ENTRIES}
 use Rattle.rpc_journal.specs.declared.item.Item.{Item}
 use Rattle.rpc_journal.specs.declared.setting.Setting.{Setting}
 use Rattle.rpc_handlers.specs.declared.answer.Out.TheVariants.{Say as Message, Begin, Append, Commit, Leave}
-use Rattle.rpc_journal.specs.Calls.{call_at, end_of, ends_of, is_cancelled, of_call}
+use Rattle.rpc_journal.specs.Calls.{call_at, end_of, ends_of, is_cancelled}
 use Rattle.rpc_journal.specs.Changes.{CancelDid, FinishDid, FlushDid, NothingToFlush, HaltDid, SayDid, StartOfDid}
 use Rattle.rpc_journal.specs.Effect.{Deed}
 use Rattle.rpc_journal.specs.History.{adding, deeds_of, deeds_with, entry_by, history}
@@ -41,17 +41,17 @@ use Rattle.rpc_shared.specs.declared.look.Look.{Look}
 use Rattle.rpc_shared.specs.Looks.{LookDid}
 use Rattle.rpc_shared.specs.Waits.{CancelsAndWaits, IsQuietWith}
 use Rattle.rpc_journal.specs.Quiet.{is_quiet}
-use Rattle.rpc_journal.specs.Entries.{effect_of}
 use Rattle.turn_cell.proofs.Calls.{same_trans}
-use Rattle.rpc_crew.specs.Crew.{Adds, AreOf, Lock, Seat, is_want}
-use Rattle.rpc_crew.specs.Ring.{HaltsFor}
-use Rattle.rpc_crew.specs.Sessions.{is_halted, is_halting}
-use Rattle.rpc_crew.proofs.PassLemmas.{adds_none, adds_one, adds_trans, late_still, stands_after}
-use Rattle.rpc_crew.proofs.StepLemmas.{full_length, look_adds}
+use Rattle.rpc_shared.specs.session.Crew.{Adds, AreOf, Lock, Seat, is_want}
+use Rattle.rpc_shared.specs.session.Ring.{HaltsFor}
+use Rattle.rpc_shared.specs.session.Sessions.{is_halted, is_halting}
+use Rattle.rpc_shared.proofs.session.PassLemmas.{adds_none, adds_one, adds_trans, late_still, stands_after}
+use Rattle.rpc_shared.proofs.session.StepLemmas.{full_length, look_adds}
 use Rattle.live_client.specs.Driving.{Calm, CanDrive, Cuts, Drives, EndsRun, HasCut, Speaks, TakesItem, TakesNone, is_cutting, is_flushing, is_running, is_saying, runs_by, want_by}
 use Rattle.live_client.specs.Histories.{AreSaid, cancels, is_cancel, says_of}
 use Rattle.live_client.specs.Silent.{is_silent, silent_rule}
-use Rattle.live_client.proofs.DriveLemmas.{cancels-append, drives_added, drives_calm, drives_kept, drives_sees, front_beyond, others_seat, runs_before, said_later, said_more, said_refused, there_beyond}
+use Rattle.live_client.proofs.DriveLemmas.{cancels-append, drives_added, drives_calm, drives_kept, drives_sees, front_beyond, others_seat, runs_before, there_beyond}
+use Rattle.live_client.proofs.SaidLemmas.{IsLeft, ends_begin, refused_left, said_later, said_left, said_more, taken_open}
 
 -- an out more is said or refused
 with_said : (watches : Bool) (opening : EntryKind) (r : Lock) (c : ℕ) (events : List Event) (outs outs' : List Out) (items : List Item) (q : Seat)
@@ -155,7 +155,7 @@ module _ (r : Lock) (c : ℕ) (p q : Seat) (can : CanDrive r c p) where
       drives = λ watches opening events outs items d.
           drives_added watches opening r c events outs items p q (λ set _. FinishDid set x.run x.gives did.0 result) d fs (Finish x.run.call x.gives) finished silent (λ is. absurd (cc is))
           (events ++ x.run.event ∷ []) outs items (ran watches opening events outs items d)
-          (subst (AreSaid r.base c q.view.known.seen outs) (sym (append-nil (says_of p.view.known.mine))) (said_later r.base c p.view.known.seen q.view.known.seen outs (says_of p.view.known.mine) later d.said))
+          (subst (AreSaid r.base c q.view.known.seen outs) (sym (append-nil (says_of p.view.known.mine))) (said_later r.base c p.view.known.seen q.view.known.seen later outs (says_of p.view.known.mine) d.said))
           (front_beyond r.base c items p.view.known.seen q.view.known.seen later d.front)
           (d.count ∙ omega arith);
     }
@@ -172,6 +172,10 @@ module _ (r : Lock) (c : ℕ) (p q : Seat) (can : CanDrive r c p) where
 
   -- a Say
   module _ (out : Out) where
+    unrefused : (b : Bool) (o : Option say.SayRefused) → or_else (refused_where b say.TheVariants.JournalFull) o ≡ None → o ≡ None
+    unrefused true o is = absurd (cc is)
+    unrefused false o is = is
+
     pub say_speaks : (result : Result (Unit {0}) say.SayRefused) → Steps silent_rule r p q (λ set seat. SayDid set seat c out result) → result ≡ Ok tt → Speaks r c out p q
     say_speaks (Err e) s is = absurd (cc is)
     say_speaks (Ok a) s is = record {
@@ -179,13 +183,21 @@ module _ (r : Lock) (c : ℕ) (p q : Seat) (can : CanDrive r c p) where
       drives = λ opening events outs items d.
           drives_added false opening r c events outs items p q (λ set seat. SayDid set seat c out (Ok a)) d s (Say c out) s.did.adds refl (λ is. absurd (cc is))
           events (outs ++ out ∷ []) items (runs_before false opening r c events outs items p q (λ set seat. SayDid set seat c out (Ok a)) d s)
-          (said_more r.base c q.view.known.seen outs (says_of p.view.known.mine) out (said_later r.base c p.view.known.seen q.view.known.seen outs (says_of p.view.known.mine) later d.said))
+          (said_later r.base c s.before q.view.known.seen added (outs ++ out ∷ []) (says_of p.view.known.mine ++ out ∷ [])
+          (said_more r.base c s.before out outs (says_of p.view.known.mine) (taken_open r.base s.before c out taken)
+          (said_later r.base c p.view.known.seen s.before s.begins outs (says_of p.view.known.mine) d.said)))
           (front_beyond r.base c items p.view.known.seen q.view.known.seen later d.front)
           (d.count ∙ omega arith);
     }
       where
+        added : IsPrefix s.before q.view.known.seen
+        added = subst (IsPrefix s.before) (sym s.did.adds) (prefix_append s.before _)
+
         later : IsPrefix p.view.known.seen q.view.known.seen
-        later = prefix_trans p.view.known.seen s.before q.view.known.seen s.begins (subst (IsPrefix s.before) (sym s.did.adds) (prefix_append s.before _))
+        later = prefix_trans p.view.known.seen s.before q.view.known.seen s.begins added
+
+        taken : out_refusal r.base (history r.base s.before) c out ≡ None
+        taken = unrefused (is_full s.before) (out_refusal r.base (history r.base s.before) c out) s.did.unrefused
 
     pub say_kept : (test : EntryKind → Bool) (result : Result (Unit {0}) say.SayRefused) (e : say.SayRefused) → Steps silent_rule r p q (λ set seat. SayDid set seat c out result) → result ≡ Err e → Calm r c test p q
     say_kept test (Ok a) e s is = absurd (cc is)
@@ -220,8 +232,9 @@ module _ (r : Lock) (c : ℕ) (p q : Seat) (can : CanDrive r c p) where
           drives = λ opening events outs items d.
               let later = calm.drives false opening events outs items d in
               with_said false opening r c events outs (outs ++ out ∷ []) items q
-              (said_refused r.base c q.view.known.seen outs (says_of q.view.known.mine) out
-              (inl (s.before, subst (IsPrefix s.before) (sym s.did.kept) (prefix_self s.before), x, told refused)) later.said) later;
+              (said_left r.base c q.view.known.seen out outs (says_of q.view.known.mine)
+              (subst (λ h. IsLeft r.base c h out) (sym s.did.kept)
+              (refused_left r.base s.before c out x (there_beyond r.base c p.view.known.seen s.before s.begins can.there) (told refused))) later.said) later;
         }
 
     pub say_full : (result : Result (Unit {0}) say.SayRefused) → Steps silent_rule r p q (λ set seat. SayDid set seat c out result)
@@ -243,7 +256,7 @@ module _ (r : Lock) (c : ℕ) (p q : Seat) (can : CanDrive r c p) where
 pub long_speaks : (r : Lock) (c : ℕ) (p : Seat) (out : Out) → is_long_out out ≡ true → Adds silent_rule r is_saying p p → Speaks r c out p p
 long_speaks r c p out long adds = record {
   adds = adds;
-  drives = λ opening events outs items d. with_said false opening r c events outs (outs ++ out ∷ []) items p (said_refused r.base c p.view.known.seen outs (says_of p.view.known.mine) out (inr long) d.said) d;
+  drives = λ opening events outs items d. with_said false opening r c events outs (outs ++ out ∷ []) items p (said_left r.base c p.view.known.seen out outs (says_of p.view.known.mine) (inl long) d.said) d;
 }
 
 -- two calm steps
@@ -262,13 +275,6 @@ can_on r c test p q can adds = record {
 }
 
 -- ---- a quiet call stays quiet
-
-ends_begin : (set : Setting) (c : ℕ) (new old : List Entry) → (more : List Status) × (ends_of (deeds_of set (new ++ old)) c ≡ ends_of (deeds_of set old) c ++ more)
-ends_begin set c [] old = ([], sym (append-nil (ends_of (deeds_of set old) c)))
-ends_begin set c (e ∷ new) old =
-    let rest = ends_begin set c new old in
-    let own : List Status = of_call c (effect_of set (deeds_of set (new ++ old)) e.kind).ends in
-    (rest.0 ++ own, ap (λ s. s ++ own) rest.1 ∙ append_assoc (ends_of (deeds_of set old) c) rest.0 own)
 
 first_stays : {A : Type 0} (xs more : List A) (x : A) → slice_get xs 0 ≡ Some x → slice_get (xs ++ more) 0 ≡ Some x
 first_stays [] more x is = absurd (cc is)
@@ -413,7 +419,7 @@ module _ (r : Lock) (c : ℕ) (p q : Seat) (can : CanDrive r c p) where
       more = λ watches opening events outs items d.
           drives_added watches opening r c events outs items p q (λ set seat. FlushDid set seat (Some item)) d s Flush s.did.adds refl (λ is. absurd (cc is))
           events outs (items ++ item ∷ []) (runs_before watches opening r c events outs items p q (λ set seat. FlushDid set seat (Some item)) d s)
-          (subst (AreSaid r.base c q.view.known.seen outs) (sym (append-nil (says_of p.view.known.mine))) (said_later r.base c p.view.known.seen q.view.known.seen outs (says_of p.view.known.mine) later d.said))
+          (subst (AreSaid r.base c q.view.known.seen outs) (sym (append-nil (says_of p.view.known.mine))) (said_later r.base c p.view.known.seen q.view.known.seen later outs (says_of p.view.known.mine) d.said))
           (prefix_trans (items ++ item ∷ []) (items_sent (history r.base s.before)) (items_sent (history r.base q.view.known.seen))
           (next_of_front items (items_sent (history r.base s.before)) item (front_beyond r.base c items p.view.known.seen s.before s.begins d.front)
           (subst (λ n. slice_get (items_sent (history r.base s.before)) n ≡ Some item) (many ∙ sym d.count) s.did.front)) later_items)

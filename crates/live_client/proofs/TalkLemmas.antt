@@ -8,7 +8,7 @@ use Rattle.rpc_handlers.specs.declared.event.Event.{Event}
 use Rattle.rpc_journal.specs.declared.entry.EntryKind.{EntryKind}
 use Rattle.rpc_journal.specs.declared.entry.EntryKind.TheVariants.{Cancel}
 use Rattle.rpc_journal.specs.declared.item.Item.{Item}
-use Rattle.rpc_crew.specs.Crew.{Lock, Seat}
+use Rattle.rpc_shared.specs.session.Crew.{Lock, Seat}
 use Rattle.live_client.specs.Driving.{Calm, Cuts, Drives, EndsRun, Speaks, Talks, is_flushing, is_running, is_saying}
 use Rattle.live_client.specs.Histories.{is_cancel}
 use Rattle.live_client.proofs.StepsOf.{cut_on}

@@ -1,10 +1,10 @@
 -- How often the reader's bell rang.
 use Rattle.std.proofs.Common.{◌≡◌, ℕ, ◌+◌, [], ◌∷◌, ◌++◌, length, ap, arith, length-append}
 use Rattle.rpc_packet.specs.declared.owned.Packet.{Packet}
-use Rattle.rpc_crew.specs.Crew.{Seat}
+use Rattle.rpc_shared.specs.session.Crew.{Seat}
 use Rattle.rpc_journal.specs.Items.{arrivals}
-use Rattle.wake_bells.specs.Bells.{Rung}
-use Rattle.wake_bells.specs.Rings.{times}
+use Rattle.task_core.specs.bells.Bells.{Rung}
+use Rattle.task_core.specs.bells.Rings.{times}
 use Rattle.live_client.specs.Waking.{RangForEach}
 
 pub rang_none : (bell : Rung) (p q : Seat) → arrivals q.view.known.mine ≡ arrivals p.view.known.mine → RangForEach 0 bell bell p q

@@ -36,18 +36,19 @@ use Rattle.rpc_journal.proofs.ItemLemmas.{arrivals_of_seat, flushes_count, flush
 use Rattle.rpc_journal.proofs.Push.{all-reverse}
 use Rattle.rpc_journal.proofs.StayLemmas.{settled_ends}
 use Rattle.rpc_shared.specs.Steps.{base_of, log_of}
-use Rattle.rpc_crew.specs.Crew.{AreOf, IsLate, Lock, Seat, is_want}
-use Rattle.rpc_crew.specs.Ring.{HaltsFor}
-use Rattle.rpc_crew.specs.Sessions.{AreLate, is_halted, is_halting}
-use Rattle.rpc_crew.proofs.PassLemmas.{late_still, own_there}
-use Rattle.live_client.specs.Asks.{live_setting}
+use Rattle.rpc_shared.specs.session.Crew.{AreOf, IsLate, Lock, Seat, is_want}
+use Rattle.rpc_shared.specs.session.Ring.{HaltsFor}
+use Rattle.rpc_shared.specs.session.Sessions.{AreLate, is_halted, is_halting}
+use Rattle.rpc_shared.proofs.session.PassLemmas.{late_still, own_there}
+use Rattle.live_client.specs.Ask.{live_setting}
 use Rattle.live_client.specs.Driving.{Drives, HasCut, is_drivers, runs_by}
 use Rattle.live_client.specs.Feeding.{Reader, is_readers}
 use Rattle.live_client.specs.Histories.{AreOfLive, AreSaid, cancels, events_in, events_run, is_cancel, is_entry_of, said_by, says_of}
 use Rattle.live_client.specs.Silent.{is_silent, silent_rule}
 use Rattle.live_client.specs.Told.{IsCutSo}
 use Rattle.live_client.proofs.ClientEntries.{Uncut, one_call, uncancelled}
-use Rattle.live_client.proofs.DriveLemmas.{front_beyond, runs_beyond, said_later, there_beyond}
+use Rattle.live_client.proofs.DriveLemmas.{front_beyond, runs_beyond, there_beyond}
+use Rattle.live_client.proofs.SaidLemmas.{said_later}
 use Rattle.live_client.proofs.StepsOf.{end_stays, halts_split}
 use Rattle.live_client.proofs.WorkLemmas.{halted_on}
 
@@ -341,7 +342,7 @@ module _ (table : TableId) (count : ℕ) (watches : Bool) (packet : Packet) (mem
   pub said_whole : AreSaid live_setting c h outs (says_of h)
   said_whole =
       subst (AreSaid live_setting c h outs) (sym says_are)
-      (said_later live_setting c q1.view.known.seen h outs (says_of q1.view.known.mine) driver_fits.begins d.said)
+      (said_later live_setting c q1.view.known.seen h driver_fits.begins outs (says_of q1.view.known.mine) d.said)
 
   pub cancels_are : cancels h ≡ cancels q1.view.known.mine
   cancels_are = cancels_own h whose ∙ ap cancels driver_fits.own

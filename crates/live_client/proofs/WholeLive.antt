@@ -33,11 +33,11 @@ use Rattle.rpc_journal.specs.Quiet.{is_settled}
 use Rattle.rpc_schedule.specs.declared.stream.TheConstants.{INPUT_LIMIT}
 use Rattle.rpc_schedule.specs.Kept as store
 use Rattle.rpc_shared.specs.Steps.{base_of, log_of}
-use Rattle.rpc_crew.specs.Crew.{Lock, Seat, is_want}
-use Rattle.rpc_crew.specs.Reasons.{reason_of, reason_read}
-use Rattle.rpc_crew.specs.Ring.{HaltsFor}
-use Rattle.rpc_crew.specs.Sessions.{is_halted, is_halting}
-use Rattle.live_client.specs.Asks.{live_setting}
+use Rattle.rpc_shared.specs.session.Crew.{Lock, Seat, is_want}
+use Rattle.rpc_shared.specs.session.Reasons.{reason_of, reason_read}
+use Rattle.rpc_shared.specs.session.Ring.{HaltsFor}
+use Rattle.rpc_shared.specs.session.Sessions.{is_halted, is_halting}
+use Rattle.live_client.specs.Ask.{live_setting}
 use Rattle.live_client.specs.Driving.{DriverEnded, HasWorked, Talks, Works}
 use Rattle.live_client.specs.Feeding.{Fed, HasRead, Reader, is_readers}
 use Rattle.live_client.specs.Histories.{AreSaid, events_run, says_of}
@@ -166,7 +166,7 @@ module _ (table : TableId) (count : ℕ) (watches : Bool) (packet : Packet) (mem
   reader_stops : is_halted live_setting q0.view.known.seen ≡ true → is_halted live_setting h ≡ true
   reader_stops = reader_halted table count watches packet memo c worked.talks.events worked.talks.outs made q0 q1 t closed
 
-  driver_stops : is_halted live_setting q1.view.known.seen ≡ true → is_halted live_setting h ≡ true
+  pub driver_stops : is_halted live_setting q1.view.known.seen ≡ true → is_halted live_setting h ≡ true
   driver_stops = driver_halted table count watches packet memo c worked.talks.events worked.talks.outs made q0 q1 t closed
 
   explains : is_halted live_setting h ≡ false → Explains left_old left_new w0 w d0 d read h
@@ -312,3 +312,12 @@ pub ends_of : (r : Lock) → r.base ≡ live_setting → (watches : Bool) (packe
 ends_of r is watches packet memo did c left_old left_new w0 w d0 d f0 f g0 g ending read listener q0 q1 t s =
     live_ends r.table r.count watches packet memo did c left_old left_new w0 w d0 d f0 f g0 g ending read listener q0 q1 t
     (subst (λ lock. Whole watches (Invoke packet memo) did lock c left_old left_new w0 w d0 d f0 f g0 g ending read listener q0 q1 t) (lock_is r is) s)
+
+-- a halt that the driver has seen is in the whole history
+pub stops_of : (r : Lock) → r.base ≡ live_setting → (watches : Bool) (packet : Packet) (memo : Memo) (did : Bool → Did) (c : ℕ) (left_old left_new w0 w : Option (List ℕ)) (d0 d : Option Stored) (f0 f g0 g : ℕ) (ending : Option Ending) (read : ℕ) (listener : Listening) (q0 q1 : Seat) (t : Table)
+    → Whole watches (Invoke packet memo) did r c left_old left_new w0 w d0 d f0 f g0 g ending read listener q0 q1 t
+    → is_halted r.base q1.view.known.seen ≡ true → is_halted live_setting t.entries ≡ true
+stops_of r is watches packet memo did c left_old left_new w0 w d0 d f0 f g0 g ending read listener q0 q1 t s halted =
+    driver_stops r.table r.count watches packet memo did c left_old left_new w0 w d0 d f0 f g0 g ending read listener q0 q1 t
+    (subst (λ lock. Whole watches (Invoke packet memo) did lock c left_old left_new w0 w d0 d f0 f g0 g ending read listener q0 q1 t) (lock_is r is) s)
+    (subst (λ base. is_halted base q1.view.known.seen ≡ true) is halted)

@@ -27,8 +27,8 @@ use Rattle.rpc_journal.specs.Laws.{HasNoRunOf, seat_of}
 use Rattle.rpc_journal.proofs.Allowed.{allowed}
 use Rattle.rpc_journal.proofs.Push.{all-reverse, allowed-parts}
 use Rattle.rpc_journal.proofs.RunLemmas.{quiet_for_good}
-use Rattle.rpc_crew.specs.Crew.{AreOf, Seat}
-use Rattle.live_client.specs.Asks.{live_setting}
+use Rattle.rpc_shared.specs.session.Crew.{AreOf, Seat}
+use Rattle.live_client.specs.Ask.{live_setting}
 use Rattle.live_client.specs.Driving.{IsCalmed, IsWritten, is_closing}
 use Rattle.live_client.specs.Feeding.{is_readers}
 use Rattle.live_client.specs.Histories.{is_cancel}

@@ -29,11 +29,11 @@ use Rattle.rpc_journal.specs.Quiet.{is_quiet}
 use Rattle.rpc_journal.proofs.ItemLemmas.{flushes_count, flushes_of_seat, items_begin}
 use Rattle.rpc_journal.proofs.Push.{beginning_is_lawful}
 use Rattle.rpc_journal.proofs.StayLemmas.{halt_stays}
-use Rattle.rpc_crew.specs.Crew.{Adds, AreOf, Lock, Seat, is_want}
-use Rattle.rpc_crew.specs.Ring.{HaltsFor}
-use Rattle.rpc_crew.specs.Sessions.{is_halted, is_halting, wire}
-use Rattle.rpc_crew.proofs.PassLemmas.{of_weaker}
-use Rattle.rpc_crew.proofs.WriterLemmas.{holds_more, wire-append}
+use Rattle.rpc_shared.specs.session.Crew.{Adds, AreOf, Lock, Seat, is_want}
+use Rattle.rpc_shared.specs.session.Ring.{HaltsFor}
+use Rattle.rpc_shared.specs.session.Sessions.{is_halted, is_halting, wire}
+use Rattle.rpc_shared.proofs.session.PassLemmas.{of_weaker}
+use Rattle.rpc_shared.proofs.session.WriterLemmas.{holds_more, wire-append}
 use Rattle.live_client.specs.Histories.{cancels}
 use Rattle.live_client.specs.Silent.{silent_rule}
 use Rattle.live_client.specs.Driving.{Calm, Drives, FlushFails, Flushed, FlushesMore, HasCauses, HasCut, HasWorked, IsCalmed, IsClosing, IsWritten, Made, Rests, Talks, Works, is_closing, is_cutting, is_flushing, is_running, is_saying, is_talking}

@@ -11,11 +11,11 @@ use Rattle.rpc_journal.specs.declared.entry.Entry.{Entry}
 use Rattle.rpc_journal.specs.declared.entry.EntryKind.TheVariants.{Halt}
 use Rattle.rpc_journal.specs.declared.item.Item.{Item}
 use Rattle.rpc_journal.specs.History.{entry_by}
-use Rattle.rpc_crew.specs.Crew.{Lock, Seat}
-use Rattle.rpc_crew.specs.Ring.{HaltsFor}
-use Rattle.rpc_crew.specs.Sessions.{wire}
-use Rattle.rpc_crew.proofs.ReaderLemmas.{take_begins}
-use Rattle.rpc_crew.proofs.WriterLemmas.{holds_none}
+use Rattle.rpc_shared.specs.session.Crew.{Lock, Seat}
+use Rattle.rpc_shared.specs.session.Ring.{HaltsFor}
+use Rattle.rpc_shared.specs.session.Sessions.{wire}
+use Rattle.rpc_shared.proofs.session.ReaderLemmas.{take_begins}
+use Rattle.rpc_shared.proofs.session.WriterLemmas.{holds_none}
 use Rattle.live_client.specs.Driving.{Calm, Drives, FlushFails, Flushed, FlushesMore, TakesItem, TakesNone, is_flushing}
 use Rattle.live_client.proofs.StepsOf.{halts_halt}
 

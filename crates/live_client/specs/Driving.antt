@@ -28,9 +28,9 @@ use Rattle.link_io.specs.declared.why.Why.{Why}
 use Rattle.link_io.specs.declared.why.Why.TheVariants.{Sink, Store, JournalLimit, Memory as short}
 use Rattle.rpc_journal.specs.declared.answers.SayRefused.{SayRefused}
 use Rattle.rpc_journal.specs.declared.answers.SayRefused.TheVariants.{JournalFull, Memory}
-use Rattle.rpc_crew.specs.Crew.{Adds, AreOf, Lock, Seat, Stands, is_want}
-use Rattle.rpc_crew.specs.Ring.{HaltsFor}
-use Rattle.rpc_crew.specs.Sessions.{is_halted, is_halting, wire}
+use Rattle.rpc_shared.specs.session.Crew.{Adds, AreOf, Lock, Seat, Stands, is_want}
+use Rattle.rpc_shared.specs.session.Ring.{HaltsFor}
+use Rattle.rpc_shared.specs.session.Sessions.{is_halted, is_halting, wire}
 use Rattle.live_client.specs.Histories.{AreSaid, cancels, says_of}
 use Rattle.live_client.specs.Silent.{is_silent, silent_rule}
 

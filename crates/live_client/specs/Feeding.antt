@@ -13,8 +13,8 @@ use Rattle.rpc_journal.specs.declared.entry.EntryKind.TheVariants.{Arrive, EndIn
 use Rattle.rpc_journal.specs.declared.setting.Setting.{Setting}
 use Rattle.rpc_journal.specs.Items.{arrivals}
 use Rattle.rpc_schedule.specs.declared.stream.TheConstants.{INPUT_LIMIT}
-use Rattle.rpc_crew.specs.Crew.{AreOf, Lock, Seat, Stands, is_want}
-use Rattle.rpc_crew.specs.Sessions.{is_halted}
+use Rattle.rpc_shared.specs.session.Crew.{AreOf, Lock, Seat, Stands, is_want}
+use Rattle.rpc_shared.specs.session.Sessions.{is_halted}
 use Rattle.live_client.specs.Silent.{silent_rule}
 
 -- until the input ends the reader takes packets in, and halts for want

@@ -1,22 +1,23 @@
 -- What a live client's history tells: who adds what, the events that were run, and what was said.
-use Rattle.std.specs.Prelude.{◌≡◌, ◌⊎◌, ℕ, ◌==◌, ◌&&◌, not, Bool, true, false, if◌then◌else◌, List, [], ◌∷◌, ◌++◌, Some}
+use Rattle.std.specs.Prelude.{◌≡◌, ◌⊎◌, ℕ, ◌==◌, ◌<◌, ◌&&◌, not, Bool, true, false, if◌then◌else◌, List, [], ◌∷◌, ◌++◌}
 use Rattle.std.specs.List.{AllByRecursion}
 use Rattle.std.specs.Option.{option_to_list}
-use mathlib.Core.List.{IsPrefix}
 use Rattle.rpc_handlers.specs.declared.answer.Out.{Out}
+use Rattle.rpc_handlers.specs.declared.answer.Out.TheVariants.{Say as Message}
 use Rattle.rpc_handlers.specs.declared.event.Event.{Event}
 use Rattle.rpc_handlers.specs.Limits.{is_long_out}
-use Rattle.rpc_journal.specs.declared.answers.SayRefused.{SayRefused}
 use Rattle.rpc_journal.specs.declared.entry.Entry.{Entry}
 use Rattle.rpc_journal.specs.declared.entry.EntryKind.{EntryKind}
 use Rattle.rpc_journal.specs.declared.entry.EntryKind.TheVariants.{Arrive, Say, Start, Finish, Cancel, Flush, EndIn, Halt}
 use Rattle.rpc_journal.specs.declared.setting.Setting.{Setting}
-use Rattle.rpc_journal.specs.Calls.{is_finish_of}
+use Rattle.rpc_journal.specs.Calls.{call_at, call_count, has_end, is_cancelled, is_finish_of}
 use Rattle.rpc_journal.specs.Effect.{Deed}
 use Rattle.rpc_journal.specs.History.{history}
+use Rattle.rpc_journal.specs.Items.{is_done}
+use Rattle.rpc_journal.specs.Kinds.{is_server}
+use Rattle.rpc_journal.specs.Lawful.{has_stream}
 use Rattle.rpc_journal.specs.Queues.{taken_event}
-use Rattle.rpc_journal.specs.Refusals.{out_refusal}
-use Rattle.rpc_crew.specs.Sessions.{is_halting}
+use Rattle.rpc_shared.specs.session.Sessions.{is_halting}
 use Rattle.live_client.specs.Silent.{is_silent}
 
 -- What a seat adds behind the opening of the call: the reader's, 0, feeds the input; the driver's, 1, runs handlers, which answer
@@ -52,17 +53,34 @@ abbrev pub says_of : List Entry → List Out
 says_of [] = []
 says_of (e ∷ h) = said_by e.kind ++ says_of h
 
--- In some beginning of the history the table refuses to say this in call c; or no frame takes it.
-abbrev pub IsRefused : Setting → ℕ → List Entry → Out → Type 0
-IsRefused set c h out =
-    ((front : List Entry) × IsPrefix front h × (why : SayRefused) × (out_refusal set (history set front) c out ≡ Some why))
-    ⊎ (is_long_out out ≡ true)
+-- a message of the call; what else is said acts on the store
+abbrev pub is_spoken : Out → Bool
+is_spoken (Message payload) = true
+is_spoken _ = false
 
--- of these outs, in order, each was said or refused
+-- The table refuses each message of c, now and for good: c has an end, or it is there and has no stream in this direction, or this
+-- client has completed it.
+abbrev pub IsShut : Setting → ℕ → List Deed → Type 0
+IsShut set c ds =
+    (has_end ds c ≡ true) ⊎ (((c < call_count ds) × (has_stream set.role (call_at ds c) ≡ false)) ⊎ ((not (is_server set.role) && is_done ds c) ≡ true))
+
+-- Of these outs, in order, no message was said, and each store action was, but where the call was cancelled.
+abbrev pub AreActed : Setting → ℕ → List Entry → List Out → List Out → Type 0
+AreActed set c h [] says = says ≡ []
+AreActed set c h (out ∷ outs) says =
+    ((is_spoken out ≡ true) × AreActed set c h outs says)
+    ⊎ (((is_spoken out ≡ false) × (rest : List Out) × (says ≡ out ∷ rest) × AreActed set c h outs rest)
+    ⊎ ((is_spoken out ≡ false) × (is_cancelled (history set h) c ≡ true) × AreActed set c h outs says))
+
+-- Of these outs, in order, each was said, but for what no frame takes, for store actions of a call that was cancelled, and, from one
+-- message on that the table refused, for all messages.
 abbrev pub AreSaid : Setting → ℕ → List Entry → List Out → List Out → Type 0
 AreSaid set c h [] says = says ≡ []
 AreSaid set c h (out ∷ outs) says =
-    ((rest : List Out) × (says ≡ out ∷ rest) × AreSaid set c h outs rest) ⊎ (IsRefused set c h out × AreSaid set c h outs says)
+    ((rest : List Out) × (says ≡ out ∷ rest) × AreSaid set c h outs rest)
+    ⊎ (((is_long_out out ≡ true) × AreSaid set c h outs says)
+    ⊎ (((is_spoken out ≡ false) × (is_cancelled (history set h) c ≡ true) × AreSaid set c h outs says)
+    ⊎ (IsShut set c (history set h) × AreActed set c h (out ∷ outs) says)))
 
 abbrev pub is_cancel : EntryKind → Bool
 is_cancel (Cancel c) = true

@@ -1,6 +1,7 @@
-pub mod Asks
+pub mod Ask
 pub mod Driving
 pub mod Feeding
+pub mod Fetched
 pub mod Histories
 pub mod Lengths
 pub mod Live
@@ -9,3 +10,4 @@ pub mod Ran
 pub mod Silent
 pub mod Told
 pub mod Waking
+pub mod asks

@@ -18,19 +18,19 @@ use Rattle.rpc_journal.specs.Lawful.{IsLegal}
 use Rattle.rpc_journal.specs.Quiet.{is_settled}
 use Rattle.rpc_schedule.specs.declared.stream.TheConstants.{INPUT_LIMIT}
 use Rattle.rpc_schedule.specs.Kept as store
-use Rattle.rpc_crew.specs.Sessions.{AreLate, is_halted, is_halting, wire}
+use Rattle.rpc_shared.specs.session.Sessions.{AreLate, is_halted, is_halting, wire}
 use Rattle.transfer_client.specs.Read.{new_download, read_offset}
 use Rattle.transfer_client.specs.Write.{new_upload, write_offset}
 use Rattle.transfer_client.specs.Tasks.{PollsRead, PollsWrite, Reads, Writes}
 use Rattle.live_client.specs.declared.ask.Live.{Live}
 use Rattle.live_client.specs.declared.ask.LiveAsk.{LiveAsk}
 use Rattle.live_client.specs.declared.ask.LiveAsk.TheVariants.{Get, Put, Watch}
-use Rattle.live_client.specs.Asks.{is_watch, live_setting, opening_of}
+use Rattle.live_client.specs.Ask.{is_watch, live_setting, opening_of}
 use Rattle.live_client.specs.Lengths.{committed_by, length_put}
 use Rattle.live_client.specs.Histories.{AreOfLive, AreSaid, cancels, events_run, says_of}
 use Rattle.live_client.specs.Silent.{silent_rule}
-use Rattle.live_errand.specs.Events.{first_end, messages_in}
-use Rattle.live_errand.specs.Tasks.{TaskRan}
+use Rattle.live_client.specs.asks.Events.{first_end, messages_in}
+use Rattle.live_client.specs.asks.Tasks.{TaskRan}
 
 -- The journal of a client that ended for this reason, which is that of its Halt, where there is one. It begins with the opening of
 -- its one call.
@@ -109,10 +109,10 @@ pub record WatchRan (limit : ℕ) (l : Live) : Type 0 where
 abbrev pub AskRan : LiveAsk → ℕ → ℕ → Live → Type 0
 AskRan (Get resource offset) start end l =
     TransferRan (λ outs (t : Reads).
-    TaskRan PollsRead (record { session = 1; download = new_download resource offset 4 256 }) start end (events_run live_setting l.journal.entries 0) outs t l.ended
+    TaskRan PollsRead (record { session = 1; download = new_download resource offset 4 256 }) start end (is_halted live_setting l.journal.entries) (events_run live_setting l.journal.entries 0) outs t l.ended
     × (l.from ≡ read_offset t.download) × (l.length ≡ committed_by (says_of l.journal.entries)) × (l.messages ≡ 0)) l.journal.entries
 AskRan (Put resource offset bytes) start end l =
     TransferRan (λ outs (t : Writes).
-    TaskRan PollsWrite (record { session = 1; upload = new_upload resource bytes offset }) start end (events_run live_setting l.journal.entries 0) outs t l.ended
+    TaskRan PollsWrite (record { session = 1; upload = new_upload resource bytes offset }) start end (is_halted live_setting l.journal.entries) (events_run live_setting l.journal.entries 0) outs t l.ended
     × (l.from ≡ write_offset t.upload) × (l.length ≡ length_put bytes l.ended) × (l.messages ≡ 0)) l.journal.entries
 AskRan (Watch n limit) start end l = WatchRan limit l × (l.from ≡ 0) × (l.length ≡ 0)

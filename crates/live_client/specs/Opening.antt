@@ -9,7 +9,7 @@ use Rattle.rpc_journal.specs.Calls.{call_count}
 use Rattle.rpc_journal.specs.Changes.{request}
 use Rattle.rpc_journal.specs.History.{adding, entry_by, history}
 use Rattle.rpc_journal.specs.Laws.{seat_of}
-use Rattle.rpc_crew.specs.Crew.{Lock, Seat}
+use Rattle.rpc_shared.specs.session.Crew.{Lock, Seat}
 use Rattle.live_client.specs.Driving.{CanDrive, Drives}
 
 -- it opened call c, behind entries of other seats, and did nothing else

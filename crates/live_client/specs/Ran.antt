@@ -9,8 +9,8 @@ use Rattle.rpc_journal.specs.declared.entry.Entry.{Entry}
 use Rattle.rpc_journal.specs.declared.entry.EntryKind.{EntryKind}
 use Rattle.rpc_journal.specs.declared.entry.TheConstants.{MAX_ENTRIES}
 use Rattle.rpc_schedule.specs.declared.stream.TheConstants.{INPUT_LIMIT}
-use Rattle.rpc_crew.specs.Sessions.{is_halted}
-use Rattle.live_client.specs.Asks.{live_setting}
+use Rattle.rpc_shared.specs.session.Sessions.{is_halted}
+use Rattle.live_client.specs.Ask.{live_setting}
 use Rattle.live_client.specs.Live.{Begins, Explains, IsHistoryOf}
 
 -- Its journal and why it ended, the bytes that it read and wrote, its store, and the faults of its source, sink and store.

@@ -6,8 +6,8 @@ use Rattle.rpc_handlers.specs.declared.event.Event.{Event}
 use Rattle.rpc_journal.specs.declared.entry.Entry.{Entry}
 use Rattle.rpc_journal.specs.Calls.{end_of}
 use Rattle.rpc_journal.specs.History.{history}
-use Rattle.rpc_crew.specs.Sessions.{is_halted}
-use Rattle.live_client.specs.Asks.{live_setting}
+use Rattle.rpc_shared.specs.session.Sessions.{is_halted}
+use Rattle.live_client.specs.Ask.{live_setting}
 use Rattle.live_client.specs.Histories.{AreSaid, cancels, events_run, says_of}
 
 -- the call was cancelled, which answered this; or it wasn't

@@ -1,9 +1,9 @@
 -- The bell by which the reader wakes the one task.
 use Rattle.std.specs.Prelude.{◌≡◌, ℕ, ◌+◌, ◌<◌, length}
-use Rattle.rpc_crew.specs.Crew.{Seat}
+use Rattle.rpc_shared.specs.session.Crew.{Seat}
 use Rattle.rpc_journal.specs.Items.{arrivals}
-use Rattle.wake_bells.specs.Bells.{Rung, Tower}
-use Rattle.wake_bells.specs.Rings.{times}
+use Rattle.task_core.specs.bells.Bells.{Rung, Tower}
+use Rattle.task_core.specs.bells.Rings.{times}
 
 pub record CanRing (tower : Tower) (bell : Rung) : Type 0 where
   pub own : bell.table ≡ tower.table

@@ -5,8 +5,8 @@ ghost use Rattle.link_io.specs.Causes.{Rose};
 ghost use Rattle.link_io.specs.declared.why.Why.TheVariants.{Settled, Source as Read, Sink as Link, Store as Depot, InputLimit, JournalLimit};
 ghost use Rattle.rpc_journal.specs.declared.entry.TheConstants.{MAX_ENTRIES};
 ghost use Rattle.rpc_schedule.specs.declared.stream.TheConstants.{INPUT_LIMIT};
-ghost use Rattle.rpc_crew.specs.Sessions.{is_halted};
-ghost use Rattle.live_client.specs.Asks.{CanAsk, live_setting};
+ghost use Rattle.rpc_shared.specs.session.Sessions.{is_halted};
+ghost use Rattle.live_client.specs.Ask.{CanAsk, live_setting};
 ghost use Rattle.live_client.specs.Live.{AskRan, Begins, Explains, IsLiveHistory};
 
 use crate::ask::{Live, LiveAsk};
@@ -49,6 +49,7 @@ pub fn live<
         Explains (I.left link_in.old) (I.left link_in.new) (O.written link_out.old) (O.written link_out.new) (S.holds store.old) (S.holds store.new) l.read l.journal.entries) }
     ensures ran { IfOk result (λ l. AskRan ask (C.last clock.old) (C.last clock.new) l) }
     ensures ended { IfOk result (λ l. is_halted live_setting l.journal.entries ≡ false → is_some l.ended ≡ true) }
+    ensures finished { IfOk result (λ l. is_halted live_setting l.journal.entries ≡ false → O.finished link_out.new ≡ true) }
     ensures at_end { IfOk result (λ l. l.why ≡ Settled → IsAtEnd (I.left link_in.new)) }
     ensures at_limit { IfOk result (λ l. l.why ≡ InputLimit → l.read ≡ INPUT_LIMIT) }
     ensures below { IfOk result (λ l. (l.why ≡ Settled) ⊎ (l.why ≡ Read) → l.read < INPUT_LIMIT) }

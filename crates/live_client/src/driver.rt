@@ -9,23 +9,23 @@ ghost use Rattle.rpc_journal.specs.declared.entry.EntryKind.{EntryKind};
 ghost use Rattle.rpc_journal.specs.declared.item.Item.{Item};
 ghost use Rattle.rpc_journal.specs.History.{history};
 ghost use Rattle.rpc_journal.specs.Quiet.{is_settled};
-ghost use Rattle.rpc_crew.specs.Crew.{Adds};
-ghost use Rattle.wake_bells.specs.Bells.{Tower};
-ghost use Rattle.rpc_crew.specs.Ring.{HaltsFor};
-ghost use Rattle.rpc_crew.specs.Sessions.{is_halted};
+ghost use Rattle.rpc_shared.specs.session.Crew.{Adds};
+ghost use Rattle.task_core.specs.bells.Bells.{Tower};
+ghost use Rattle.rpc_shared.specs.session.Ring.{HaltsFor};
+ghost use Rattle.rpc_shared.specs.session.Sessions.{is_halted};
 ghost use Rattle.live_client.specs.Driving.{Calm, CanDrive, Drove, HasWorked, Rests, Talks, Works, is_flushing, is_running, is_saying, is_talking};
 ghost use Rattle.live_client.specs.Silent.{silent_rule};
 
+use crate::asks::Errand;
 use crate::driving::{cut_one, go_on, run_one, say_one};
 use crate::halting::{Halted, Seat, Table, halt};
 use crate::signal::ROUND;
 use crate::wakes::Wakes;
 use crate::writing::flush_one;
 use link_io::{Clock, Sink, Store, Why};
-use live_errand::Errand;
 use std::alloc::Global;
 use std::sync::Wait;
-use wake_bells::Bells;
+use task_core::bells::Bells;
 
 // The errand hears an event, and the call is cancelled where it has enough.
 fn listen<W: Errand, R: Wait>(
@@ -44,6 +44,7 @@ fn listen<W: Errand, R: Wait>(
     ensures uncut { W.cuts errand.new ≡ false }
     ensures ready { W.ready errand.new }
     ensures origin { W.origin errand.new ≡ W.origin errand.old }
+    ensures short { W.short errand.new ≡ W.short errand.old }
     ensures moment { W.moment errand.new ≡ W.moment errand.old }
     ensures fits { (tower : Tower) → W.fits errand.old tower → W.fits errand.new tower }
 {
@@ -70,6 +71,7 @@ fn speak<W: Errand, C: Clock, R: Wait>(
     requires ready { W.ready errand.old }
     requires fits { W.fits errand.old bells.now }
     requires past { W.moment errand.old ≤ C.last clock.old }
+    requires whole { W.short errand.old ≡ false }
     requires uncut { W.cuts errand.old ≡ false }
     ensures adds { Adds silent_rule table.now is_saying pass.old pass.new }
     ensures talks { OnOk result ((opening : EntryKind) (all : Bool) (start : ℕ) (items : List Item) → start ≤ C.last clock.old → Talks W.watches opening (W.did errand.old all start (C.last clock.old)) table.now call true false items pass.old → Talks W.watches opening (W.did errand.new false start (C.last clock.new)) table.now call true false items pass.new) }
@@ -79,6 +81,7 @@ fn speak<W: Errand, C: Clock, R: Wait>(
     ensures uncut { W.cuts errand.new ≡ false }
     ensures ready { W.ready errand.new }
     ensures origin { W.origin errand.new ≡ W.origin errand.old }
+    ensures whole { OnOk result (W.short errand.new ≡ false) }
     ensures fits { W.fits errand.new bells.now }
     ensures past { W.moment errand.new ≤ C.last clock.new }
     ensures later { C.last clock.old ≤ C.last clock.new }
@@ -103,6 +106,7 @@ fn talk<W: Errand, C: Clock, R: Wait>(
     requires ready { W.ready errand.old }
     requires fits { W.fits errand.old bells.now }
     requires past { W.moment errand.old ≤ C.last clock.old }
+    requires whole { W.short errand.old ≡ false }
     requires uncut { W.cuts errand.old ≡ false }
     ensures adds { Adds silent_rule table.now is_talking pass.old pass.new }
     ensures talks { OnOk result ((opening : EntryKind) (all : Bool) (start : ℕ) (items : List Item) → start ≤ C.last clock.old → Talks W.watches opening (W.did errand.old all start (C.last clock.old)) table.now call true false items pass.old → Talks W.watches opening (W.did errand.new false start (C.last clock.new)) table.now call true false items pass.new) }
@@ -112,6 +116,7 @@ fn talk<W: Errand, C: Clock, R: Wait>(
     ensures uncut { W.cuts errand.new ≡ false }
     ensures ready { W.ready errand.new }
     ensures origin { W.origin errand.new ≡ W.origin errand.old }
+    ensures whole { OnOk result (W.short errand.new ≡ false) }
     ensures fits { W.fits errand.new bells.now }
     ensures past { W.moment errand.new ≤ C.last clock.new }
     ensures later { C.last clock.old ≤ C.last clock.new }
@@ -142,6 +147,7 @@ fn round<W: Errand, O: Sink, S: Store, C: Clock, R: Wait>(
     requires ready { W.ready errand.old }
     requires fits { W.fits errand.old bells.now }
     requires past { W.moment errand.old ≤ C.last clock.old }
+    requires whole { W.short errand.old ≡ false }
     requires uncut { W.cuts errand.old ≡ false }
     requires open { O.finished output.old ≡ false }
     ensures can { CanDrive table.now call pass.new }
@@ -160,6 +166,7 @@ fn round<W: Errand, O: Sink, S: Store, C: Clock, R: Wait>(
     ensures uncut { W.cuts errand.new ≡ false }
     ensures ready { W.ready errand.new }
     ensures origin { W.origin errand.new ≡ W.origin errand.old }
+    ensures whole { OnOk result (W.short errand.new ≡ false) }
     ensures fits { W.fits errand.new bells.now }
     ensures past { W.moment errand.new ≤ C.last clock.new }
     ensures later { C.last clock.old ≤ C.last clock.new }
@@ -219,6 +226,7 @@ fn converse<W: Errand, O: Sink, S: Store, C: Clock, R: Wait>(
     requires ready { W.ready errand.old }
     requires fits { W.fits errand.old wakes.now.bells }
     requires past { W.moment errand.old ≤ C.last clock.old }
+    requires whole { W.short errand.old ≡ false }
     requires uncut { W.cuts errand.old ≡ false }
     requires open { O.finished output.old ≡ false }
     ensures can { CanDrive table.now call pass.new }
@@ -234,6 +242,7 @@ fn converse<W: Errand, O: Sink, S: Store, C: Clock, R: Wait>(
     ensures uncut { W.cuts errand.new ≡ false }
     ensures ready { W.ready errand.new }
     ensures origin { W.origin errand.new ≡ W.origin errand.old }
+    ensures whole { OnOk result (W.short errand.new ≡ false) }
     ensures later { C.last clock.old ≤ C.last clock.new }
     ensures faults { (O.faults output.old ≤ O.faults output.new) × (S.faults store.old ≤ S.faults store.new) }
     ensures open { O.finished output.new ≡ false }
@@ -321,6 +330,7 @@ fn wind<W: Errand, O: Sink, S: Store, R: Wait>(
     ensures halted { OnErr result (is_halted table.now.base pass.new.view.known.seen ≡ true) }
     ensures ready { W.ready errand.new }
     ensures origin { W.origin errand.new ≡ W.origin errand.old }
+    ensures short { W.short errand.new ≡ W.short errand.old }
     ensures faults { (O.faults output.old ≤ O.faults output.new) × (S.faults store.old ≤ S.faults store.new) }
     ensures closed { O.finished output.new ≡ true }
 {
@@ -363,6 +373,8 @@ fn wind_up<W: Errand, O: Sink, S: Store, R: Wait>(
     ensures halted { OnErr result (is_halted table.now.base pass.new.view.known.seen ≡ true) }
     ensures ready { W.ready errand.new }
     ensures origin { W.origin errand.new ≡ W.origin errand.old }
+    ensures short { W.short errand.new ≡ W.short errand.old }
+    ensures finished { OnOk result (O.finished output.new ≡ true) }
     ensures faults { (O.faults output.old ≤ O.faults output.new) × (S.faults store.old ≤ S.faults store.new) }
 {
     for _ in rt.forever() {
@@ -407,6 +419,7 @@ pub(crate) fn drive<W: Errand, O: Sink, S: Store, C: Clock, R: Wait>(
     requires ready { W.ready errand.old }
     requires fits { W.fits errand.old wakes.now.bells }
     requires past { W.moment errand.old ≤ C.last clock.old }
+    requires whole { W.short errand.old ≡ false }
     requires uncut { W.cuts errand.old ≡ false }
     requires open { O.finished output.old ≡ false }
     ensures can { CanDrive table.now call pass.new }
@@ -424,6 +437,8 @@ pub(crate) fn drive<W: Errand, O: Sink, S: Store, C: Clock, R: Wait>(
     ensures halted { OnErr result (is_halted table.now.base pass.new.view.known.seen ≡ true) }
     ensures ready { W.ready errand.new }
     ensures origin { W.origin errand.new ≡ W.origin errand.old }
+    ensures whole { OnOk result (W.short errand.new ≡ false) }
+    ensures finished { OnOk result (O.finished output.new ≡ true) }
     ensures later { C.last clock.old ≤ C.last clock.new }
     ensures faults { (O.faults output.old ≤ O.faults output.new) × (S.faults store.old ≤ S.faults store.new) }
 {
@@ -476,6 +491,7 @@ pub(crate) fn drive_met<W: Errand, O: Sink, S: Store, C: Clock, R: Wait>(
     requires ready { W.ready errand.old }
     requires fits { W.fits errand.old wakes.now.bells }
     requires past { W.moment errand.old ≤ C.last clock.old }
+    requires whole { W.short errand.old ≡ false }
     requires uncut { W.cuts errand.old ≡ false }
     requires open { O.finished output.old ≡ false }
     ensures can { CanDrive table.now call pass.new }
@@ -485,6 +501,8 @@ pub(crate) fn drive_met<W: Errand, O: Sink, S: Store, C: Clock, R: Wait>(
     ensures halted { OnErr result (is_halted table.now.base pass.new.view.known.seen ≡ true) }
     ensures ready { W.ready errand.new }
     ensures origin { W.origin errand.new ≡ W.origin errand.old }
+    ensures whole { OnOk result (W.short errand.new ≡ false) }
+    ensures finished { OnOk result (O.finished output.new ≡ true) }
     ensures later { C.last clock.old ≤ C.last clock.new }
     ensures faults { (O.faults output.old ≤ O.faults output.new) × (S.faults store.old ≤ S.faults store.new) }
 {

@@ -6,21 +6,21 @@ ghost use Rattle.rpc_ids.specs.declared.status.Status.{Status as End};
 ghost use Rattle.rpc_journal.specs.declared.entry.EntryKind.{EntryKind};
 ghost use Rattle.rpc_journal.specs.declared.item.Item.{Item};
 ghost use Rattle.rpc_shared.specs.OwnRuns.{Runs};
-ghost use Rattle.rpc_crew.specs.Crew.{Adds};
-ghost use Rattle.rpc_crew.specs.Sessions.{is_halted};
-ghost use Rattle.wake_bells.specs.Bells.{Tower};
+ghost use Rattle.rpc_shared.specs.session.Crew.{Adds};
+ghost use Rattle.rpc_shared.specs.session.Sessions.{is_halted};
+ghost use Rattle.task_core.specs.bells.Bells.{Tower};
 ghost use Rattle.live_client.specs.Driving.{CanDrive, Talks, is_cutting, is_running, is_saying};
 ghost use Rattle.live_client.specs.Silent.{silent_rule};
 
+use crate::asks::Errand;
 use crate::halting::{Halted, Seat, Table, halt};
 use crate::silent::Silent;
 use crate::stepping::{begin_run, cancel, end_run, say};
 use link_io::{Clock, Why};
-use live_errand::Errand;
 use rpc_calls::Running;
 use std::alloc::AllocError;
 use std::sync::Wait;
-use wake_bells::Bells;
+use task_core::bells::Bells;
 
 /// Runs the call's handler on its next event, which the errand hears. False where there is none.
 pub(crate) fn run_one<W: Errand, R: Wait>(
@@ -39,6 +39,7 @@ pub(crate) fn run_one<W: Errand, R: Wait>(
     ensures over { (opening : EntryKind) (all : Bool) (start upto : ℕ) (items : List Item) → Talks W.watches opening (W.did errand.old all start upto) table.now call true true items pass.old → W.cuts errand.old ≡ false → W.cuts errand.new ≡ false }
     ensures ready { W.ready errand.new }
     ensures origin { W.origin errand.new ≡ W.origin errand.old }
+    ensures short { W.short errand.new ≡ W.short errand.old }
     ensures moment { W.moment errand.new ≡ W.moment errand.old }
     ensures fits { (tower : Tower) → W.fits errand.old tower → W.fits errand.new tower }
 {
@@ -73,6 +74,7 @@ fn hear_one<W: Errand, R: Wait>(
     ensures over { (opening : EntryKind) (all : Bool) (start upto : ℕ) (items : List Item) → Talks W.watches opening (W.did errand.old all start upto) table.now call true true items pass.old → W.cuts errand.old ≡ false → W.cuts errand.new ≡ false }
     ensures ready { W.ready errand.new }
     ensures origin { W.origin errand.new ≡ W.origin errand.old }
+    ensures short { W.short errand.new ≡ W.short errand.old }
     ensures moment { W.moment errand.new ≡ W.moment errand.old }
     ensures fits { (tower : Tower) → W.fits errand.old tower → W.fits errand.new tower }
 {
@@ -98,6 +100,7 @@ fn answer<W: Errand>(running: &mut Running<Silent>, errand: &mut W) -> Result<()
     ensures uncut { OnErr result (W.cuts errand.old ≡ false → W.cuts errand.new ≡ false) }
     ensures ready { W.ready errand.new }
     ensures origin { W.origin errand.new ≡ W.origin errand.old }
+    ensures short { W.short errand.new ≡ W.short errand.old }
     ensures moment { W.moment errand.new ≡ W.moment errand.old }
     ensures fits { (tower : Tower) → W.fits errand.old tower → W.fits errand.new tower }
 {
@@ -120,12 +123,14 @@ pub(crate) fn go_on<W: Errand, C: Clock, R: Wait>(
     requires ready { W.ready errand.old }
     requires fits { W.fits errand.old bells.now }
     requires past { W.moment errand.old ≤ C.last clock.old }
+    requires whole { W.short errand.old ≡ false }
     ensures adds { Adds silent_rule table.now is_saying pass.old pass.new }
     ensures talks { (opening : EntryKind) (all over : Bool) (start : ℕ) (items : List Item) → start ≤ C.last clock.old → Talks W.watches opening (W.did errand.old all start (C.last clock.old)) table.now call true over items pass.old → Talks W.watches opening (W.did errand.new false start (C.last clock.new)) table.now call true false items pass.new }
     ensures halted { OnErr result (is_halted table.now.base pass.new.view.known.seen ≡ true) }
     ensures uncut { W.cuts errand.old ≡ false → W.cuts errand.new ≡ false }
     ensures ready { W.ready errand.new }
     ensures origin { W.origin errand.new ≡ W.origin errand.old }
+    ensures whole { OnOk result (W.short errand.new ≡ false) }
     ensures fits { W.fits errand.new bells.now }
     ensures past { W.moment errand.new ≤ C.last clock.new }
     ensures later { C.last clock.old ≤ C.last clock.new }
@@ -155,6 +160,7 @@ pub(crate) fn say_one<W: Errand, R: Wait>(
     ensures uncut { W.cuts errand.new ≡ W.cuts errand.old }
     ensures ready { W.ready errand.new }
     ensures origin { W.origin errand.new ≡ W.origin errand.old }
+    ensures short { W.short errand.new ≡ W.short errand.old }
     ensures moment { W.moment errand.new ≡ W.moment errand.old }
     ensures fits { (tower : Tower) → W.fits errand.old tower → W.fits errand.new tower }
 {
@@ -182,6 +188,7 @@ pub(crate) fn cut_one<W: Errand, R: Wait>(
     ensures uncut { W.cuts errand.new ≡ false }
     ensures ready { W.ready errand.new }
     ensures origin { W.origin errand.new ≡ W.origin errand.old }
+    ensures short { W.short errand.new ≡ W.short errand.old }
     ensures moment { W.moment errand.new ≡ W.moment errand.old }
     ensures fits { (tower : Tower) → W.fits errand.old tower → W.fits errand.new tower }
 {

@@ -7,8 +7,8 @@ ghost use Rattle.rpc_journal.specs.declared.entry.TheConstants.{MAX_ENTRIES};
 ghost use Rattle.rpc_journal.specs.History.{entry_by};
 ghost use Rattle.rpc_shared.specs.Steps.{IsOwn, Steps};
 ghost use Rattle.rpc_journal.specs.Changes.{HaltDid};
-ghost use Rattle.rpc_crew.specs.Crew.{Adds};
-ghost use Rattle.rpc_crew.specs.Sessions.{is_halted, is_halting};
+ghost use Rattle.rpc_shared.specs.session.Crew.{Adds};
+ghost use Rattle.rpc_shared.specs.session.Sessions.{is_halted, is_halting};
 ghost use Rattle.live_client.specs.Silent.{silent_rule};
 
 use crate::silent::Silent;

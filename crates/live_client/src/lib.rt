@@ -1,12 +1,14 @@
 //! A live client: one call over a link, by a thread that reads and one that drives the call. It fetches a resource, sends one, or
-//! watches a stream. docs/LIVE.md shows a fetch. Enter at [`live`].
+//! watches a stream. docs/LIVE.md shows a fetch. Enter at [`live`]; [`asks`] has what one call is for.
 #![tactic(auto)]
 
 mod ask;
+pub mod asks;
 mod calling;
 mod driver;
 mod driving;
 mod halting;
+pub mod laws;
 mod length;
 mod opening;
 mod reading;
@@ -15,8 +17,6 @@ mod signal;
 mod silent;
 mod stepping;
 mod table;
-#[cfg(test)]
-mod tests;
 mod threads;
 mod transfers;
 mod wakes;

@@ -13,7 +13,7 @@ ghost use Rattle.rpc_packet.specs.Hearing.{Hears};
 ghost use Rattle.rpc_packet.specs.Message.{message_of};
 ghost use Rattle.live_client.specs.Feeding.{Cut, Fed, HasRead, Reader, is_feeding, is_readers};
 ghost use Rattle.live_client.specs.Waking.{CanRing, RangForEach};
-ghost use Rattle.rpc_crew.specs.Sessions.{is_halted};
+ghost use Rattle.rpc_shared.specs.session.Sessions.{is_halted};
 
 use crate::halting::{Halted, Seat, Table, halt};
 use crate::signal::{ROUND, Signal};
@@ -27,7 +27,7 @@ use rpc_packet::Packet;
 use rpc_schedule::INPUT_LIMIT;
 use rpc_shared::Look;
 use std::sync::Wait;
-use wake_bells::Bell;
+use task_core::bells::Bell;
 
 // How many bytes are asked for in one read.
 const PIECE: usize = 4_096;

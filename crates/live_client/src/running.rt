@@ -2,11 +2,13 @@
 ghost use Rattle.std.specs.Prelude.{◌≡◌, ℕ, ◌≤◌, Bool, List, Option, None, [], true, false, IfOk, OnErr, OnOk};
 ghost use Rattle.rpc_handlers.specs.Limits.{is_long};
 ghost use Rattle.rpc_journal.specs.Lawful.{has_zero};
-ghost use Rattle.live_client.specs.Asks.{live_name, opens};
+ghost use Rattle.rpc_shared.specs.session.Sessions.{is_halted};
+ghost use Rattle.live_client.specs.Ask.{live_name, live_setting, opens};
 ghost use Rattle.live_client.specs.Ran.{HasRun};
 ghost use Rattle.live_client.specs.Told.{HasTold};
 ghost use Rattle.live_client.specs.Waking.{CanRing};
 
+use crate::asks::Errand;
 use crate::opening::open_call;
 use crate::silent::Silent;
 use crate::table::{Seats, apart, new_table, together, why_of};
@@ -14,7 +16,6 @@ use crate::threads::run_both;
 use crate::wakes::Wakes;
 use bytes::Bytes;
 use link_io::{Clock, Sink, Source, Store, Why};
-use live_errand::Errand;
 use rpc_frames::Listener;
 use rpc_handlers::Nobody;
 use rpc_ids::Role;
@@ -23,7 +24,7 @@ use rpc_packet::CallName;
 use std::alloc::{AllocError, Global};
 use std::sync::Wait;
 use std::thread::Threads;
-use wake_bells::Bell;
+use task_core::bells::Bell;
 
 /// What the table of a live client did.
 #[derive(Drop)]
@@ -62,6 +63,7 @@ pub(crate) fn run_live<
     requires ready { W.ready errand.old }
     requires fits { W.fits errand.old wakes.now.bells }
     requires past { W.moment errand.old ≤ C.last clock.old }
+    requires whole { W.short errand.old ≡ false }
     requires uncut { W.cuts errand.old ≡ false }
     requires fresh { (start upto : ℕ) → W.did errand.old true start upto None [] [] None }
     ensures ran { IfOk result (λ run. HasRun W.watches (opens service method payload) (I.left link_in.old) (I.left link_in.new) (O.written link_out.old) (O.written link_out.new) (S.holds store.old) (S.holds store.new) (I.faults link_in.old) (I.faults link_in.new) (O.faults link_out.old) (O.faults link_out.new) (S.faults store.old) (S.faults store.new) run.why run.read run.journal.entries) }
@@ -69,6 +71,8 @@ pub(crate) fn run_live<
     ensures uncut { OnOk result (W.cuts errand.new ≡ false) }
     ensures ready { OnOk result (W.ready errand.new) }
     ensures origin { OnOk result (W.origin errand.new ≡ W.origin errand.old) }
+    ensures whole { IfOk result (λ run. is_halted live_setting run.journal.entries ≡ false → W.short errand.new ≡ false) }
+    ensures finished { IfOk result (λ run. is_halted live_setting run.journal.entries ≡ false → O.finished link_out.new ≡ true) }
     ensures later { (I.faults link_in.old ≤ I.faults link_in.new) × (O.faults link_out.old ≤ O.faults link_out.new) × (S.faults store.old ≤ S.faults store.new) }
     ensures clock { C.last clock.old ≤ C.last clock.new }
     ensures untouched { OnErr result ((link_in.new ≡ link_in.old) × (link_out.new ≡ link_out.old) × (store.new ≡ store.old) × (clock.new ≡ clock.old)) }

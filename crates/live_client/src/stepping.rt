@@ -3,7 +3,7 @@ ghost use Rattle.std.specs.Prelude.{◌≡◌, true, Some, IfNone, IfOk, IfSome,
 ghost use Rattle.rpc_handlers.specs.Limits.{is_long_out};
 ghost use Rattle.rpc_shared.specs.OwnRuns.{Runs};
 ghost use Rattle.rpc_journal.specs.Runs.{IsRunning};
-ghost use Rattle.rpc_crew.specs.Sessions.{is_halted};
+ghost use Rattle.rpc_shared.specs.session.Sessions.{is_halted};
 ghost use Rattle.live_client.specs.Driving.{Calm, CanDrive, Cuts, EndsRun, Speaks, TakesItem, TakesNone, is_running, is_saying, want_by};
 ghost use Rattle.live_client.specs.Silent.{silent_rule};
 

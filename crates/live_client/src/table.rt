@@ -3,8 +3,8 @@ ghost use Rattle.std.specs.Prelude.{◌≡◌, ◌≤◌, ◌++◌, [], ◌∷�
 ghost use Rattle.turn_cell.specs.Passes.{AreAll, IsNew};
 ghost use Rattle.rpc_ids.specs.Names.{name_id};
 ghost use Rattle.rpc_ids.specs.Registry.{method_of};
-ghost use Rattle.rpc_crew.specs.Reasons.{reason_of};
-ghost use Rattle.live_client.specs.Asks.{live_methods, live_setting};
+ghost use Rattle.rpc_shared.specs.session.Reasons.{reason_of};
+ghost use Rattle.live_client.specs.Ask.{live_methods, live_setting};
 
 use crate::halting::{Seat, Table};
 use crate::silent::Silent;

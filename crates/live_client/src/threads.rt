@@ -8,24 +8,24 @@ ghost use Rattle.rpc_handlers.specs.HandlerRule.{empty_memo};
 ghost use Rattle.rpc_ids.specs.declared.method.Role.TheVariants.{Client};
 ghost use Rattle.rpc_journal.specs.History.{history};
 ghost use Rattle.rpc_journal.specs.Quiet.{is_settled};
-ghost use Rattle.rpc_crew.specs.Sessions.{is_halted};
+ghost use Rattle.rpc_shared.specs.session.Sessions.{is_halted};
 ghost use Rattle.live_client.specs.Driving.{CanDrive, Drove};
 ghost use Rattle.live_client.specs.Feeding.{Fed, HasRead, Reader, is_readers};
 ghost use Rattle.live_client.specs.Waking.{CanRing};
 
+use crate::asks::Errand;
 use crate::driver::drive_met;
 use crate::halting::{Halted, Seat, Table};
 use crate::reading::{Reading, read};
 use crate::silent::Silent;
 use crate::wakes::Wakes;
 use link_io::{Clock, Sink, Source, Store};
-use live_errand::Errand;
 use rpc_frames::Listener;
 use rpc_handlers::Nobody;
 use std::alloc::Global;
 use std::sync::Wait;
 use std::thread::{Threads, join_mut};
-use wake_bells::Bell;
+use task_core::bells::Bell;
 
 /// Both threads, until each has ended.
 pub(crate) fn run_both<
@@ -62,6 +62,7 @@ pub(crate) fn run_both<
     requires ready { W.ready errand.old }
     requires fits { W.fits errand.old wakes.now.bells }
     requires past { W.moment errand.old ≤ C.last clock.old }
+    requires whole { W.short errand.old ≡ false }
     requires uncut { W.cuts errand.old ≡ false }
     requires open { O.finished output.old ≡ false }
     ensures reader { Reader is_readers table.now reader.new × IsSame reader.old reader.new }
@@ -74,6 +75,8 @@ pub(crate) fn run_both<
     ensures halted { OnErr result.1 (is_halted table.now.base driver.new.view.known.seen ≡ true) }
     ensures ready { W.ready errand.new }
     ensures origin { W.origin errand.new ≡ W.origin errand.old }
+    ensures whole { OnOk result.1 (W.short errand.new ≡ false) }
+    ensures finished { OnOk result.1 (O.finished output.new ≡ true) }
     ensures later { C.last clock.old ≤ C.last clock.new }
     ensures faults { (O.faults output.old ≤ O.faults output.new) × (S.faults store.old ≤ S.faults store.new) }
 {
@@ -87,7 +90,7 @@ pub(crate) fn run_both<
                 × (I.faults input.entry.now ≤ I.faults input.exit.now) }
         { read(rt, table, reader, wakes, bell, listener, input, maker) },
         &mut || -> Result<(), Halted>
-            requires { IsSync R.row × CanDrive table.now call driver.now × W.ready errand.now × W.fits errand.now wakes.now.bells × (W.moment errand.now ≤ C.last clock.now) × (W.cuts errand.now ≡ false) × (O.finished output.now ≡ false) }
+            requires { IsSync R.row × CanDrive table.now call driver.now × W.ready errand.now × W.fits errand.now wakes.now.bells × (W.moment errand.now ≤ C.last clock.now) × (W.short errand.now ≡ false) × (W.cuts errand.now ≡ false) × (O.finished output.now ≡ false) }
         {
             drive_met(
                 rt, alloc, table, driver, call, errand, wakes, output, store, clock,

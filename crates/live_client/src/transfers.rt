@@ -1,22 +1,22 @@
 //! A transfer: a resource is fetched, or sent.
 ghost use Rattle.std.specs.Prelude.{◌≡◌, ◌≤◌, [], true, false, length, is_some, IfOk, OnErr};
 ghost use Rattle.rpc_journal.specs.Lawful.{has_zero};
-ghost use Rattle.rpc_crew.specs.Sessions.{is_halted};
-ghost use Rattle.live_errand.specs.Telling.{IsAlone, Tells};
+ghost use Rattle.rpc_shared.specs.session.Sessions.{is_halted};
+ghost use Rattle.live_client.specs.asks.Telling.{IsAlone, Tells};
 ghost use Rattle.live_client.specs.declared.ask.LiveAsk.TheVariants.{Get, Put};
-ghost use Rattle.live_client.specs.Asks.{live_name, live_setting, opens};
+ghost use Rattle.live_client.specs.Ask.{live_name, live_setting, opens};
 ghost use Rattle.live_client.specs.Live.{AskRan};
 ghost use Rattle.live_client.specs.Ran.{HasRun};
 ghost use Rattle.live_client.specs.Told.{HasTold};
 
 use crate::ask::Live;
+use crate::asks::{Errand, TaskErrand};
 use crate::length::{committed, put_length};
 use crate::running::{Run, run_live};
 use crate::wakes::Wakes;
 use bytes::Bytes;
 use demo_services::ids::{READ, TRANSFER, WRITE};
 use link_io::{Clock, Sink, Source, Store};
-use live_errand::{Errand, TaskErrand};
 use std::alloc::{AllocError, Global};
 use std::sync::Wait;
 use std::thread::Threads;
@@ -61,8 +61,10 @@ fn transfer<
     requires open { O.finished link_out.old ≡ false }
     requires named { has_zero (live_name TRANSFER method) ≡ false }
     ensures ran { IfOk result (λ m. HasRun false (opens TRANSFER method []) (I.left link_in.old) (I.left link_in.new) (O.written link_out.old) (O.written link_out.new) (S.holds store.old) (S.holds store.new) (I.faults link_in.old) (I.faults link_in.new) (O.faults link_out.old) (O.faults link_out.new) (S.faults store.old) (S.faults store.new) m.run.why m.run.read m.run.journal.entries) }
-    ensures told { IfOk result (λ m. HasTold (λ all. Tells T.polls task m.errand.tasks m.errand.ear all (C.last clock.old) (C.last clock.new)) m.run.journal.entries) }
+    ensures told { IfOk result (λ m. HasTold (λ all. Tells T.polls task m.errand.tasks m.errand.ear m.errand.short.value all (C.last clock.old) (C.last clock.new)) m.run.journal.entries) }
     ensures ready { IfOk result (λ m. IsAlone m.errand.tasks) }
+    ensures whole { IfOk result (λ m. is_halted live_setting m.run.journal.entries ≡ false → m.errand.short.value ≡ false) }
+    ensures finished { IfOk result (λ m. is_halted live_setting m.run.journal.entries ≡ false → O.finished link_out.new ≡ true) }
     ensures first { IfOk result (λ m. m.errand.first.value ≡ task) }
     ensures later { (I.faults link_in.old ≤ I.faults link_in.new) × (O.faults link_out.old ≤ O.faults link_out.new) × (S.faults store.old ≤ S.faults store.new) }
     ensures clock { C.last clock.old ≤ C.last clock.new }
@@ -103,6 +105,7 @@ pub(crate) fn get<R: Threads + Wait + Sync, I: Source + Send, O: Sink, S: Store,
     ensures ran { IfOk result (λ l. HasRun false (opens TRANSFER READ []) (I.left link_in.old) (I.left link_in.new) (O.written link_out.old) (O.written link_out.new) (S.holds store.old) (S.holds store.new) (I.faults link_in.old) (I.faults link_in.new) (O.faults link_out.old) (O.faults link_out.new) (S.faults store.old) (S.faults store.new) l.why l.read l.journal.entries) }
     ensures asked { IfOk result (λ l. AskRan (Get resource offset) (C.last clock.old) (C.last clock.new) l) }
     ensures ended { IfOk result (λ l. is_halted live_setting l.journal.entries ≡ false → is_some l.ended ≡ true) }
+    ensures finished { IfOk result (λ l. is_halted live_setting l.journal.entries ≡ false → O.finished link_out.new ≡ true) }
     ensures later { (I.faults link_in.old ≤ I.faults link_in.new) × (O.faults link_out.old ≤ O.faults link_out.new) × (S.faults store.old ≤ S.faults store.new) }
     ensures clock { C.last clock.old ≤ C.last clock.new }
     ensures untouched { OnErr result ((link_in.new ≡ link_in.old) × (link_out.new ≡ link_out.old) × (store.new ≡ store.old) × (clock.new ≡ clock.old)) }
@@ -138,6 +141,7 @@ pub(crate) fn put<R: Threads + Wait + Sync, I: Source + Send, O: Sink, S: Store,
     ensures ran { IfOk result (λ l. HasRun false (opens TRANSFER WRITE []) (I.left link_in.old) (I.left link_in.new) (O.written link_out.old) (O.written link_out.new) (S.holds store.old) (S.holds store.new) (I.faults link_in.old) (I.faults link_in.new) (O.faults link_out.old) (O.faults link_out.new) (S.faults store.old) (S.faults store.new) l.why l.read l.journal.entries) }
     ensures asked { IfOk result (λ l. AskRan (Put resource offset bytes) (C.last clock.old) (C.last clock.new) l) }
     ensures ended { IfOk result (λ l. is_halted live_setting l.journal.entries ≡ false → is_some l.ended ≡ true) }
+    ensures finished { IfOk result (λ l. is_halted live_setting l.journal.entries ≡ false → O.finished link_out.new ≡ true) }
     ensures later { (I.faults link_in.old ≤ I.faults link_in.new) × (O.faults link_out.old ≤ O.faults link_out.new) × (S.faults store.old ≤ S.faults store.new) }
     ensures clock { C.last clock.old ≤ C.last clock.new }
     ensures untouched { OnErr result ((link_in.new ≡ link_in.old) × (link_out.new ≡ link_out.old) × (store.new ≡ store.old) × (clock.new ≡ clock.old)) }

@@ -1,11 +1,11 @@
 //! What the reader wakes the driver by.
 ghost use Rattle.std.specs.Prelude.{◌≡◌, ◌∷◌, [], IfOk};
-ghost use Rattle.live_errand.specs.Telling.{HasWord};
+ghost use Rattle.live_client.specs.asks.Telling.{HasWord};
 ghost use Rattle.live_client.specs.Waking.{CanRing};
 
 use crate::signal::Signals;
 use std::alloc::{AllocError, Global};
-use wake_bells::{Bell, Bells, Ear};
+use task_core::bells::{Bell, Bells, Ear};
 
 /// The word of the driver's task, which the reader's bell rings, and the signals of the threads.
 #[derive(Drop)]

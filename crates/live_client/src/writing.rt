@@ -10,9 +10,9 @@ ghost use Rattle.rpc_journal.specs.declared.item.Item.{Item as Sent};
 ghost use Rattle.rpc_journal.specs.Changes.{NothingToFlush};
 ghost use Rattle.rpc_journal.specs.History.{history};
 ghost use Rattle.rpc_schedule.specs.Kept.{Holds};
-ghost use Rattle.rpc_crew.specs.Crew.{Adds};
-ghost use Rattle.rpc_crew.specs.Ring.{HaltsFor};
-ghost use Rattle.rpc_crew.specs.Sessions.{is_halted, is_halting, wire};
+ghost use Rattle.rpc_shared.specs.session.Crew.{Adds};
+ghost use Rattle.rpc_shared.specs.session.Ring.{HaltsFor};
+ghost use Rattle.rpc_shared.specs.session.Sessions.{is_halted, is_halting, wire};
 ghost use Rattle.live_client.specs.Driving.{CanDrive, FlushFails, Flushed, FlushesMore, is_flushing};
 ghost use Rattle.live_client.specs.Silent.{silent_rule};
 

@@ -7,7 +7,7 @@ use Rattle.rpc_packet.specs.declared.owned.Packet.{Packet}
 use Rattle.rpc_packet.specs.declared.packet_type.PacketType.TheVariants.{Request}
 use Rattle.rpc_packet.specs.Message.{message_of}
 use Rattle.rpc_frames.specs.Written.{frame_of_packet, frames_of_packets}
-use Rattle.load_stream.specs.Generator.{number_after, number_behind}
+use Rattle.link_script.specs.Generator.{number_after, number_behind}
 use Rattle.load_stream.specs.Load.{call_name, call_packets, count_in, load_packets, load_stream, packet, streamed, highest_bytes}
 
 abbrev pub frame : Packet → List ℕ

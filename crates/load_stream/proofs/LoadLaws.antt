@@ -15,7 +15,7 @@ use Rattle.rpc_frames.specs.Laws.{AreHeardBack}
 use Rattle.rpc_frames.specs.Written.{IsSendable, frames_of_packets}
 use Rattle.rpc_frames.proofs.HeardBack.{are_heard_back}
 use Rattle.load_stream.specs.declared.calls.TheConstants.{LONGEST_CALL}
-use Rattle.load_stream.specs.Generator.{number_after}
+use Rattle.link_script.specs.Generator.{number_after}
 use Rattle.load_stream.specs.Laws.{IsHeard}
 use Rattle.load_stream.specs.Load.{call_name, call_packets, count_in, highest_bytes, load_packets, load_stream, messages, packet, streamed}
 use Rattle.load_stream.proofs.FrameSteps.{frames_joined}

@@ -3,7 +3,7 @@ use Rattle.std.specs.Prelude.{◌≡◌, ℕ, ◌+◌, ◌++◌}
 use Rattle.rpc_frames.specs.Heard.{heard_packets}
 use Rattle.rpc_frames.specs.Written.{frames_of_packets}
 use Rattle.rpc_ids.specs.declared.method.Role.TheVariants.{Server}
-use Rattle.load_stream.specs.Generator.{number_after}
+use Rattle.link_script.specs.Generator.{number_after}
 use Rattle.load_stream.specs.Load.{call_packets, load_packets, load_stream}
 
 -- with one call more the stream goes on by the frames of that call

@@ -1,3 +1,2 @@
-pub mod Generator
 pub mod Laws
 pub mod Load

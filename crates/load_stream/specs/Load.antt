@@ -8,7 +8,7 @@ use Rattle.rpc_packet.specs.declared.owned.Packet.{Packet}
 use Rattle.rpc_packet.specs.declared.packet_type.PacketType.{PacketType}
 use Rattle.rpc_packet.specs.declared.packet_type.PacketType.TheVariants.{Request, ClientStream, Completion}
 use Rattle.load_stream.specs.declared.calls.TheConstants.{CHANNEL, SENT_BYTES}
-use Rattle.load_stream.specs.Generator.{number_after}
+use Rattle.link_script.specs.Generator.{number_after}
 
 -- the name of the call with this number, of a method of demo.Demo; the calls have the ids from 1
 abbrev pub call_name : ℕ → ℕ → CallName

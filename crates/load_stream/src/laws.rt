@@ -5,12 +5,9 @@ ghost use Rattle.load_stream.specs.Laws.{GoesOn, IsHeard};
 ghost use Rattle.load_stream.specs.Load.{load_stream};
 
 use crate::calls::{CHANNEL, LONGEST_CALL, SENT_BYTES};
-use crate::generator::{INCREMENT, MULTIPLIER};
 
-/// The numbers of the generator, and of the calls that are made from it.
+/// The numbers of the calls that are made from the generator.
 pub fn numbers_of_a_load()
-    ensures multiplier { MULTIPLIER ≡ 6364136223846793005 }
-    ensures increment { INCREMENT ≡ 1442695040888963407 }
     ensures channel { CHANNEL ≡ 1 }
     ensures bytes { SENT_BYTES ≡ 3 }
 {}

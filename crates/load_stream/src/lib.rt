@@ -4,12 +4,8 @@
 #![tactic(auto)]
 
 mod calls;
-mod generator;
 pub mod laws;
 mod source;
-#[cfg(test)]
-mod tests;
 
 pub use calls::LONGEST_CALL;
-pub use generator::next_number;
 pub use source::LoadSource;

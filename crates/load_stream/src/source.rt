@@ -5,8 +5,8 @@ ghost use Rattle.link_io.specs.Causes.{HasCause};
 ghost use Rattle.load_stream.specs.Load.{load_stream};
 
 use crate::calls::write_call;
-use crate::next_number;
 use link_io::{Failed, MemSource, Source};
+use link_script::next_number;
 use std::alloc::{AllocError, Global};
 use std::marker::Model;
 

@@ -5,11 +5,12 @@ mod damage;
 mod drops;
 mod lossless;
 
+use link_script::text::read_script;
 use link_script::{Report, ReportLine};
 use link_world::World;
 use rpc_ids::Status;
-use script_text::read_script;
 use std::alloc::{AllocError, Global};
+use std::process::Abort;
 
 /// What is told of the run of a script's text, where it is a script and meets no limit.
 fn told(alloc: Global, text: &str) -> Result<Option<Report>, AllocError> {
@@ -47,4 +48,16 @@ fn is_whole(report: &Report, size: u64) -> bool {
 fn ends_whole(alloc: Global, script: &str, size: u64) -> Result<bool, AllocError> {
     let report = told(alloc, script)?;
     Ok(report.is_some_and(|report| is_whole(&report, size)))
+}
+
+/// The transfer of a script ends OK with all bytes.
+fn ends_well(rt: &impl Abort, alloc: Global, script: &str, size: u64) -> Result<(), AllocError> {
+    let is_whole = ends_whole(alloc, script, size)?;
+    is_so(rt, script, is_whole);
+    Ok(())
+}
+
+/// It is so of a script's run.
+fn is_so(rt: &impl Abort, script: &str, fact: bool) {
+    assert!(rt; fact, "{script}");
 }

@@ -8,8 +8,6 @@ mod fields;
 mod laws;
 mod reader;
 mod slice_writer;
-#[cfg(test)]
-mod tests;
 mod varint;
 mod writer;
 

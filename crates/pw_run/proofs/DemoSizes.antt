@@ -15,7 +15,7 @@ use Rattle.demo_services.specs.DemoCall.{answer_of, call_of}
 use Rattle.demo_services.specs.DemoRule.{demo_rule}
 use Rattle.demo_services.specs.Echo.{echo_answer}
 use Rattle.demo_services.specs.Log.{log_line}
-use Rattle.schedule_size.specs.Size.{AnswersWithin, answer_items}
+use Rattle.history_laws.specs.sizes.Size.{AnswersWithin, answer_items}
 use Rattle.pw_run.proofs.GoodCalls.{demo_stays, is_demo, is_demo_call}
 
 -- The most items that the demo service answers to an event: to a request of one byte of at most 64, as Count is asked,

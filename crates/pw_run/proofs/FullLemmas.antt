@@ -13,8 +13,8 @@ use Rattle.rpc_schedule.specs.OneThread.{IsFullBeginning}
 use Rattle.demo_services.specs.DemoRule.{demo_rule}
 use Rattle.load_stream.specs.Load.{load_packets, load_stream}
 use Rattle.load_stream.proofs.LoadLaws.{load_heard}
-use Rattle.schedule_size.specs.Size.{arrival_entries, history_entries}
-use Rattle.schedule_size.proofs.HistoryLemmas.{full_entries}
+use Rattle.history_laws.specs.sizes.Size.{arrival_entries, history_entries}
+use Rattle.history_laws.proofs.sizes.HistoryLemmas.{full_entries}
 use Rattle.pw_run.specs.declared.command.TheConstants.{MAX_LOAD}
 use Rattle.rpc_schedule.specs.ends.EndState.{heard}
 use Rattle.pw_run.proofs.DemoSizes.{demo_most, demo_within}

@@ -19,9 +19,9 @@ use Rattle.demo_services.specs.declared.ids.TheConstants.{DEMO, ECHO, COUNT, SUM
 use Rattle.demo_services.specs.DemoCall.{call_after, call_of, memo_of}
 use Rattle.demo_services.specs.DemoRule.{demo_rule, first_by, plain_call, transfer_side}
 use Rattle.demo_services.specs.Methods.{transfer_id}
-use Rattle.load_stream.specs.Generator.{number_after}
+use Rattle.link_script.specs.Generator.{number_after}
 use Rattle.load_stream.specs.Load.{call_name, call_packets, count_in, highest_bytes, load_packets, messages, packet, streamed}
-use Rattle.schedule_size.specs.Size.{BeginGood}
+use Rattle.history_laws.specs.sizes.Size.{BeginGood}
 
 -- a call of demo.Demo or of demo.Log
 abbrev pub is_demo_call : DemoCall → Bool

@@ -1,5 +1,5 @@
 -- What a session served of a link.
-use Rattle.std.proofs.Common.{◌≡◌, ◌⊎◌, ℕ, ◌+◌, ◌<◌, false, List, [], ◌++◌, length, Result, Ok, Err, IfOk, Option, IfSome, refl, sym, ap, ◌∙◌, subst, inl, inr, arith, append_assoc, length-append}
+use Rattle.std.proofs.Common.{◌≡◌, ◌⊎◌, ℕ, ◌+◌, ◌<◌, ◌≤◌, false, List, [], ◌++◌, length, Result, Ok, Err, IfOk, Option, IfSome, refl, sym, ap, ◌∙◌, subst, inl, inr, arith, append_assoc, length-append}
 use Rattle.std.proofs.lemmas.List.{append-nil, nil_from_length}
 use Rattle.std.specs.Io.KnownBytes.{IsAtEnd}
 use mathlib.Core.List.{IsPrefix}
@@ -14,9 +14,9 @@ use Rattle.rpc_journal.specs.declared.item.Item.{Item}
 use Rattle.rpc_journal.specs.declared.setting.Setting.{Setting}
 use Rattle.rpc_journal.specs.CallTable.{Table}
 use Rattle.rpc_journal.specs.History.{history}
-use Rattle.rpc_journal.specs.Items.{items_sent}
+use Rattle.rpc_journal.specs.Items.{items_sent, moments}
 use Rattle.rpc_schedule.specs.declared.stream.TheConstants.{INPUT_LIMIT}
-use Rattle.rpc_crew.specs.Sessions.{Begins, Explains, IsSessionHistory, TicksBetween, is_halted, is_halting, session_setting}
+use Rattle.rpc_shared.specs.session.Sessions.{Begins, Explains, IsSessionHistory, LeavesNoneDue, TicksBetween, is_halted, is_halting, session_setting}
 use Rattle.demo_services.specs.DemoRule.{demo_rule}
 use Rattle.demo_services.specs.Methods.{demo_methods}
 use Rattle.demo_services.specs.Transfer.{demo_seed}
@@ -44,8 +44,9 @@ pub shelf_served : (set : Setting) (workers : ℕ) (shelf : Shelf) (before after
     → Begins set before.left after.left before.sent after.sent before.held after.held counts read done items table.entries
     → (is_halted set table.entries ≡ false → Explains set before.left after.left before.sent after.sent before.held after.held counts read done table.entries)
     → (why ≡ Settled → IsAtEnd after.left) → (why ≡ InputLimit → read ≡ INPUT_LIMIT) → ((why ≡ Settled) ⊎ (why ≡ Source) → read < INPUT_LIMIT) → TicksBetween before.moment after.moment table.entries
+    → (began : ℕ) → (before.moment ≤ began) × (began ≤ after.moment) → (is_halted set table.entries ≡ false → LeavesNoneDue began after.moment (moments table.entries))
     → ServesShelf workers shelf before after why counts table items
-shelf_served set workers shelf before after why counts read done table items same setting history_is begins explains at_end at_limit below ticks =
+shelf_served set workers shelf before after why counts read done table items same setting history_is begins explains at_end at_limit below ticks began bounds due =
     let all = λ (calm : is_halting why ≡ false). explains (sym history_is.halts ∙ calm) in
     record {
       setting = setting ∙ same;
@@ -62,6 +63,7 @@ shelf_served set workers shelf before after why counts read done table items sam
       at_limit = at_limit;
       below = below;
       ticks = ticks;
+      due = λ calm. record { began = began; later = bounds.0; within = bounds.1; none = due (sym history_is.halts ∙ calm) };
     }
 
 -- the store was listed first, which left what it holds

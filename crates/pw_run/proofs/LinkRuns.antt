@@ -3,15 +3,15 @@ use Rattle.std.proofs.Common.{◌≡◌, List, ℕ, refl, subst, sym}
 use Rattle.link_script.specs.declared.command.Command.{Command}
 use Rattle.link_script.specs.declared.script.Script.{Script}
 use Rattle.link_world.specs.declared.outcome.Outcome.{Outcome}
-use Rattle.link_world.specs.Outcomes.{AllArrive, AllEndWell, IsRunOf, IsRunWith, LinesHold, LossesEndWell}
-use Rattle.script_text.specs.Report.{report_text}
-use Rattle.world_fits.specs.Scripts.{IsScript}
-use Rattle.world_laws.proofs.OneRun.{runs_are_one}
-use Rattle.world_lossless.specs.Lossless.{IsLosslessScript}
-use Rattle.world_lossless.specs.Scripts.{IsOpenScript}
-use Rattle.world_turns.specs.Setup.{setup_of}
-use Rattle.world_turns.specs.Sound.{NoFlips}
-use Rattle.world_turns.specs.World.{Setup, World}
+use Rattle.link_world.specs.Outcomes.{AllArrive, AllEndWell, IsRunOf, IsRunWith, LinesHold, LossesEndWell, RunIsSound, SoundLinesHold}
+use Rattle.link_script.specs.text.Report.{report_text}
+use Rattle.link_laws.specs.transfers_fit.Scripts.{IsScript}
+use Rattle.link_laws.proofs.one_run.OneRun.{runs_are_one}
+use Rattle.link_laws.specs.lossless_scripts.Lossless.{IsLosslessScript}
+use Rattle.link_laws.specs.lossless_scripts.Scripts.{IsOpenScript}
+use Rattle.link_laws.specs.world.Setup.{setup_of}
+use Rattle.link_laws.specs.world.Sound.{NoFlips}
+use Rattle.link_laws.specs.world.World.{Setup, World}
 use Rattle.pw_run.specs.declared.told.Found.{Found}
 use Rattle.pw_run.specs.declared.told.Found.TheVariants.{Good}
 use Rattle.pw_run.specs.Link.{TellsReport, TellsRun}
@@ -25,6 +25,8 @@ of_one Holds script outcome run it =
 -- what a run of this script promises of its outcome
 pub record Promises (script : Script) (outcome : Outcome) : Type 0 where
   pub run : IsRunOf script outcome
+  pub sound : IsScript script → NoFlips script.losses → IsRunWith RunIsSound script outcome
+  pub sound_bytes : IsScript script → IsRunWith SoundLinesHold script outcome
   pub bytes : IsScript script → NoFlips script.losses → IsRunWith LinesHold script outcome
   pub lossless : IsLosslessScript script → IsRunWith AllEndWell script outcome
   pub arrives : IsLosslessScript script → IsRunWith AllArrive script outcome
@@ -35,6 +37,8 @@ reported script outcome told p is = record {
   now = p.run.now;
   run = p.run.run;
   report = subst (λ r. told ≡ report_text r) p.run.report is;
+  sound = λ fits calm. of_one RunIsSound script outcome p.run (p.sound fits calm);
+  sound_bytes = λ fits. of_one SoundLinesHold script outcome p.run (p.sound_bytes fits);
   bytes = λ fits calm. of_one LinesHold script outcome p.run (p.bytes fits calm);
   lossless = λ fits. of_one AllEndWell script outcome p.run (p.lossless fits);
   arrives = λ fits. of_one AllArrive script outcome p.run (p.arrives fits);

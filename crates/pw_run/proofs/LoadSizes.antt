@@ -4,9 +4,9 @@ use Rattle.std.proofs.lemmas.List.Sums.{sum_by-append}
 use Rattle.rpc_packet.specs.declared.call_name.CallName.{CallName}
 use Rattle.rpc_packet.specs.declared.owned.Packet.{Packet}
 use Rattle.demo_services.specs.declared.ids.TheConstants.{SUM, CHAT}
-use Rattle.load_stream.specs.Generator.{number_after}
+use Rattle.link_script.specs.Generator.{number_after}
 use Rattle.load_stream.specs.Load.{call_name, call_packets, count_in, highest_bytes, load_packets, streamed}
-use Rattle.schedule_size.specs.Size.{arrival_entries, history_entries}
+use Rattle.history_laws.specs.sizes.Size.{arrival_entries, history_entries}
 use Rattle.pw_run.proofs.DemoSizes.{demo_most, request_few}
 
 -- what a call brings: 8, 72, 24 and 24 by turns

@@ -15,7 +15,7 @@ use Rattle.pw_run.specs.Devices.{Devices, devices}
 use Rattle.pw_run.specs.LinkServed.{ServesLink, WritesServed}
 use Rattle.pw_run.specs.Serve.{ServesAll, ServesConnection, ServesInTurn}
 
-pub connection_ran : (workers number : ℕ) (left written_old written_new : Option (List ℕ)) (held_old held_new : Option Stored) (links_old between links_new : Links)
+pub connection_ran : (workers number : ℕ) (left written_old written_new : Option (List ℕ)) (failed_old failed_new : ℕ) (held_old held_new : Option Stored) (links_old between links_new : Links)
     (moment_old moment_new : ℕ) (left_old sent_old left_new sent_new : Option (List ℕ)) (in_before in_faults out_before out_faults : ℕ)
     (why : Why) (counts : Counts) (table : Table) (items : List Item) (outcome : Outcome)
     → HandsOut links_old between left_old sent_old → links_old.faults ≤ between.faults → TakesBack between links_new left_new sent_new in_faults out_faults
@@ -23,9 +23,9 @@ pub connection_ran : (workers number : ℕ) (left written_old written_new : Opti
     → ServesLink workers (record { left = left_old; sent = sent_old; held = held_old; moment = moment_old })
     (record { left = left_new; sent = sent_new; held = held_new; moment = moment_new }) why counts table items
     → (why ≡ Source → Rose in_before in_faults) → (why ≡ Sink → Rose out_before out_faults)
-    → WritesServed (connection_report number table counts why) why written_old written_new outcome
-    → ServesConnection workers number (devices left written_old held_old links_old moment_old) (devices left written_new held_new links_new moment_new) outcome
-connection_ran workers number left written_old written_new held_old held_new links_old between links_new moment_old moment_new left_old sent_old left_new sent_new
+    → WritesServed (connection_report number table counts why) why written_old written_new failed_old failed_new outcome
+    → ServesConnection workers number (devices left written_old failed_old held_old links_old moment_old) (devices left written_new failed_new held_new links_new moment_new) outcome
+connection_ran workers number left written_old written_new failed_old failed_new held_old held_new links_old between links_new moment_old moment_new left_old sent_old left_new sent_new
     in_before in_faults out_before out_faults why counts table items outcome handed later taken no_in no_out serves source sink writes =
     inl (record {
       left_old = left_old;

@@ -8,8 +8,22 @@ use Rattle.rpc_journal.specs.CallTable.{Table}
 use Rattle.rpc_schedule.specs.declared.ending.Ending.{Ending}
 use Rattle.rpc_schedule.specs.declared.ending.Ending.TheVariants.{AtEnd, SourceFault, StoreFault, InputLimit, JournalLimit}
 use Rattle.rpc_schedule.specs.OneThread.{AreOfOneThread}
-use Rattle.rpc_schedule.specs.Replays.{FillsJournal, Replayed, Replays, StopsBehind}
+use Rattle.rpc_schedule.specs.Replays.{BreaksOff, FillsJournal, Replayed, Replays, StopsBehind}
 use Rattle.rpc_schedule.proofs.OneThreadLemmas.{full_all, store_all, whole_all}
+use Rattle.pw_run.specs.Replay.{IsUntold}
+
+-- what was fed before memory was wanting, with no count of its segments
+pub broken_as : (heard : List ℕ → List Packet) (P : List ℕ → Type 0) (left_old left_new : Option (List ℕ)) (table : Table) (items : List Item)
+    → BreaksOff heard P left_old left_new table items → BreaksOff heard IsUntold left_old left_new table items
+broken_as heard P left_old left_new table items b = record {
+  bytes = b.bytes;
+  unfed = b.unfed;
+  taken = b.taken;
+  within = b.within;
+  fed = tt;
+  arrived = b.arrived;
+  sent = b.sent;
+}
 
 replays_as : {rule : HandlerRule} {heard : List ℕ → List Packet} (P Q : List ℕ → Type 0)
     {left_old left_new : Option (List ℕ)} {ending : Ending} {table : Table} {items : List Item}

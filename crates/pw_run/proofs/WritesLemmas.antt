@@ -14,7 +14,7 @@ use Rattle.pw_run.specs.declared.command.Form.{Form}
 use Rattle.pw_run.specs.declared.outcome.Outcome.{Outcome}
 use Rattle.pw_run.specs.declared.outcome.Outcome.TheVariants.{NoMemory, InputLimit}
 use Rattle.pw_run.specs.Load.{DidLoad, ServesLoad, WritesLoad}
-use Rattle.pw_run.specs.Replay.{DidReplay, ServesDemo, ServesShelf, WritesRun, no_counts, no_table}
+use Rattle.pw_run.specs.Replay.{DidReplay, ReadsNothing, ServesDemo, ServesShelf, WritesRun, no_counts, no_table}
 use Rattle.pw_run.specs.declared.text_command.TextCommand.{TextCommand}
 use Rattle.pw_run.specs.declared.told.Found.{Found}
 use Rattle.pw_run.specs.Tells.{DidText, Tells, WritesTold}
@@ -47,7 +47,8 @@ pub shelf_served : (form : Form) (shelf : Shelf) (left_old left_new : Option (Li
     (items : List Item) (ending : Ending) (old new : Option (List ℕ)) (outcome : Outcome) → ServesDemo shelf left_old left_new ending counts table items
     → Holds items store_old store_new → WritesRun form counts table items ending old new outcome
     → ServesShelf form shelf left_old left_new old new store_old store_new outcome
-shelf_served form shelf left_old left_new store_old store_new counts table items ending old new NoMemory serves holds writes = tt
+shelf_served form shelf left_old left_new store_old store_new counts table items ending old new NoMemory serves holds writes =
+    inr (inl (record { ending = ending; counts = counts; table = table; items = items; serves = serves; holds = holds }))
 shelf_served form shelf left_old left_new store_old store_new counts table items ending old new _ serves holds writes =
     record { ending = ending; counts = counts; table = table; items = items; serves = serves; holds = holds; writes = writes }
 
@@ -60,13 +61,13 @@ replay_did form shelf left_old left_new old new store_old listed store_new outco
   where
     at : (outcome : Outcome) → ServesShelf form shelf left_old left_new old new store_old store_new outcome
         → DidReplay form left_old left_new old new store_old store_new outcome
-    at NoMemory stream = tt
+    at NoMemory short = inl (record { shelf = shelf; listed = is; short = short })
     at _ stream = inl (record { shelf = shelf; listed = is; stream = stream })
 
 -- what was done where the store couldn't be listed
 pub nothing_did : (form : Form) (left old new : Option (List ℕ)) (store_old store_new : Option Stored) (outcome : Outcome) → store_new ≡ store_old
     → WritesRun form no_counts no_table [] ended.StoreFault old new outcome → DidReplay form left left old new store_old store_new outcome
-nothing_did form left old new store_old store_new NoMemory same writes = tt
+nothing_did form left old new store_old store_new NoMemory same writes = inr (record { unread = refl; same = same })
 nothing_did form left old new store_old store_new _ same writes = inr (record { unread = refl; same = same; writes = writes })
 
 -- what a load did, where what was written of its text is so

@@ -3,9 +3,9 @@ use Rattle.std.specs.Prelude.{◌≡◌, ◌≢◌, ℕ, ◌⊎◌, List, ◌∷
 use Rattle.link_io.specs.Causes.{Rose}
 use Rattle.link_io.specs.declared.why.Why.TheVariants.{JournalLimit}
 use Rattle.link_io.specs.Links.{Ends}
-use Rattle.frame_bridge.specs.declared.bridged.Bridged.{Bridged}
-use Rattle.frame_bridge.specs.Bridges.{Bridges, IsNoBridge, TellsBridge, bridge_routes, reason_of}
-use Rattle.frame_bridge.specs.Printed.{bridge_text}
+use Rattle.frame_router.specs.declared.bridge.bridged.Bridged.{Bridged}
+use Rattle.frame_router.specs.bridge.Bridges.{Bridges, IsNoBridge, TellsBridge, bridge_routes, reason_of}
+use Rattle.frame_router.specs.bridge.Printed.{bridge_text}
 use Rattle.pw_run.specs.declared.outcome.Outcome.{Outcome}
 use Rattle.pw_run.specs.declared.outcome.Outcome.TheVariants.{LinkFault}
 use Rattle.pw_run.specs.Devices.{Devices}
@@ -18,9 +18,9 @@ pub record RunsBridge (at_right at_left : ℕ) (before after : Devices) (outcome
   pub tells :
       (left right : Ends) (rest gone : List Ends) → before.links.coming ≡ Some (left ∷ right ∷ rest) → before.links.gone ≡ Some gone →
       TellsBridge (bridge_routes at_right at_left) left right rest gone after.links done
-  pub same : after ≡ record before { links = after.links; written = after.written }
+  pub same : after ≡ record before { links = after.links; written = after.written; failed = after.failed }
   pub no_journal : reason_of done ≢ JournalLimit
-  pub writes : WritesServed (bridge_text done) (reason_of done) before.written after.written outcome
+  pub writes : WritesServed (bridge_text done) (reason_of done) before.written after.written before.failed after.failed outcome
 
 -- A link couldn't be made.
 pub record FailsToBridge (before after : Devices) (outcome : Outcome) : Type 0 where

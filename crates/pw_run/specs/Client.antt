@@ -11,7 +11,7 @@ use Rattle.rpc_ids.specs.declared.status.Status.{Status}
 use Rattle.rpc_ids.specs.declared.status.Status.TheVariants.{Okay, NotFound, OutOfRange}
 use Rattle.rpc_journal.specs.declared.entry.TheConstants.{MAX_ENTRIES}
 use Rattle.rpc_schedule.specs.declared.stream.TheConstants.{INPUT_LIMIT}
-use Rattle.rpc_crew.specs.Sessions.{is_halting}
+use Rattle.rpc_shared.specs.session.Sessions.{is_halting}
 use Rattle.transfer_base.specs.declared.limits.TheConstants.{MAX_RESOURCE}
 use Rattle.live_client.specs.declared.ask.Live.{Live}
 use Rattle.live_client.specs.declared.ask.LiveAsk.{LiveAsk}
@@ -30,7 +30,7 @@ use Rattle.pw_run.specs.Crew.{DoesNothing}
 use Rattle.pw_run.specs.Devices.{Devices, LinkDevices, with_link}
 use Rattle.pw_run.specs.Outcome.{outcome_for}
 use Rattle.pw_run.specs.Serve.{FailsToLink, GivesBack, Lends}
-use Rattle.pw_run.specs.Writes.{Writes}
+use Rattle.pw_run.specs.Writes.{Writes, WritesOrFails}
 
 -- a resource is sent from an offset on, or from its end, where that is before; where it isn't there or is too long, this is told
 abbrev pub sent : ℕ → ℕ → Option (List ℕ) → Result LiveAsk LiveLine
@@ -88,10 +88,10 @@ pub record DoesAsked (ask : LiveAsk) (before after : LinkDevices) (l : Live) : T
 
 -- What was written of a client: its text, whole or with an output that failed, or nothing for want of memory, be it that of the
 -- client or of the text.
-abbrev pub WritesClient : ClientCommand → Live → Option (List ℕ) → Option (List ℕ) → Outcome → Type 0
-WritesClient command l written_old written_new NoMemory = Keeps written_old written_new
-WritesClient command l written_old written_new outcome =
-    (l.why ≢ reason.Memory) × Writes written_old written_new (live_report (told_of command l) l.why) (client_outcome l.why l.ended) outcome
+abbrev pub WritesClient : ClientCommand → Live → Option (List ℕ) → Option (List ℕ) → ℕ → ℕ → Outcome → Type 0
+WritesClient command l written_old written_new failed_old failed_new NoMemory = Keeps written_old written_new
+WritesClient command l written_old written_new failed_old failed_new outcome =
+    (l.why ≢ reason.Memory) × WritesOrFails written_old written_new failed_old failed_new (live_report (told_of command l) l.why) (client_outcome l.why l.ended) outcome
 
 -- A link was made, the client did over it what it was asked, the ends were given back, and what came of it was written.
 pub record RunsClient (command : ClientCommand) (asks : LiveAsk) (before after : Devices) (outcome : Outcome) : Type 0 where
@@ -107,7 +107,7 @@ pub record RunsClient (command : ClientCommand) (asks : LiveAsk) (before after :
   pub source : did.why ≡ reason.Source → Rose 0 in_faults
   pub sink : did.why ≡ reason.Sink → Rose 0 out_faults
   pub unread : after.left ≡ before.left
-  pub writes : WritesClient command did before.written after.written outcome
+  pub writes : WritesClient command did before.written after.written before.failed after.failed outcome
 
 -- a link was made and lent to the client, or there was none to be had
 abbrev pub AsksOverLink : ClientCommand → LiveAsk → Devices → Devices → Outcome → Type 0
@@ -121,7 +121,7 @@ WritesText text own written_old written_new outcome = Writes written_old written
 
 -- nothing was done but to write this text
 pub record WritesAlone (text : List ℕ) (own : Outcome) (before after : Devices) (outcome : Outcome) : Type 0 where
-  pub same : after ≡ record before { written = after.written }
+  pub same : after ≡ record before { written = after.written; failed = after.failed }
   pub writes : WritesText text own before.written after.written outcome
 
 -- what was done where this is asked; a resource that can't be sent is told alone

@@ -19,7 +19,7 @@ pub record RunsCrew (workers : ℕ) (before after : Devices) (outcome : Outcome)
   pub items : List Item
   pub serves : ServesLink workers (with_link before before.left None) (with_link after after.left None) why counts table items
   pub unfailing : why ≢ Sink
-  pub writes : WritesServed (crew_report table counts items why) why before.written after.written outcome
+  pub writes : WritesServed (crew_report table counts items why) why before.written after.written before.failed after.failed outcome
 
 -- nothing was read, written or stored, for want of memory
 pub record DoesNothing (before after : Devices) (outcome : Outcome) : Type 0 where

@@ -4,20 +4,20 @@ use Rattle.std.specs.Fmt.{decimal}
 use Rattle.link_script.specs.declared.script.Script.{Script}
 use Rattle.rpc_journal.specs.declared.entry.TheConstants.{MAX_ENTRIES}
 use Rattle.run_report.specs.Lines.{line}
-use Rattle.script_text.specs.Reading.{IsFirstBadLine, IsScriptText}
-use Rattle.script_text.specs.Report.{bad_line_text, report_text}
+use Rattle.link_script.specs.text.Reading.{IsFirstBadLine, IsScriptText}
+use Rattle.link_script.specs.text.Report.{bad_line_text, report_text}
 use Rattle.text_fields.specs.Lines.{ended}
-use Rattle.world_turns.specs.declared.limits.TheConstants.{MAX_DELIVERIES}
-use Rattle.world_turns.specs.Limits.{IsPastFrames, IsPastJournal}
-use Rattle.world_turns.specs.Reports.{report_of}
-use Rattle.world_turns.specs.Setup.{setup_of}
-use Rattle.world_turns.specs.Sound.{NoFlips}
-use Rattle.world_turns.specs.Turns.{Turned}
-use Rattle.world_turns.specs.World.{World}
-use Rattle.world_fits.specs.Scripts.{IsScript}
-use Rattle.world_lossless.specs.Lossless.{IsLosslessScript}
-use Rattle.world_lossless.specs.Scripts.{IsOpenScript}
-use Rattle.link_world.specs.Outcomes.{AllArrive, AllEndWell, LinesHold, LossesEndWell}
+use Rattle.link_laws.specs.declared.world.limits.TheConstants.{MAX_DELIVERIES}
+use Rattle.link_laws.specs.world.Limits.{IsPastFrames, IsPastJournal}
+use Rattle.link_laws.specs.world.Reports.{report_of}
+use Rattle.link_laws.specs.world.Setup.{setup_of}
+use Rattle.link_laws.specs.world.Sound.{NoFlips}
+use Rattle.link_laws.specs.world.Turns.{Turned}
+use Rattle.link_laws.specs.world.World.{World}
+use Rattle.link_laws.specs.transfers_fit.Scripts.{IsScript}
+use Rattle.link_laws.specs.lossless_scripts.Lossless.{IsLosslessScript}
+use Rattle.link_laws.specs.lossless_scripts.Scripts.{IsOpenScript}
+use Rattle.link_world.specs.Outcomes.{AllArrive, AllEndWell, LinesHold, LossesEndWell, RunIsSound, SoundLinesHold}
 use Rattle.pw_run.specs.declared.told.Found.{Found}
 use Rattle.pw_run.specs.declared.told.Found.TheVariants.{Good, BadLine, PastFrames, PastJournal}
 
@@ -25,12 +25,14 @@ use Rattle.pw_run.specs.declared.told.Found.TheVariants.{Good, BadLine, PastFram
 abbrev pub limit_text : List ℕ → ℕ → List ℕ
 limit_text what limit = line (codes "limit" ∷ what ∷ decimal limit ∷ [])
 
--- The script was run to its end, and this is the report of its run. Where its numbers fit and no loss damages a frame, OK means the
--- bytes; where nothing is lost, or three chunks at most, all end well; and where nothing is lost all arrives.
+-- The script was run to its end, and this is the report of its run. Where its numbers fit and no loss damages a frame, the run is
+-- sound; in a run that is sound throughout, OK means the bytes, whatever the link does; where nothing is lost, or three chunks at most, all end well; and where nothing is lost all arrives.
 pub record TellsReport (script : Script) (told : List ℕ) : Type 0 where
   pub now : World
   pub run : Turned (setup_of script) script.commands now
   pub report : told ≡ report_text (report_of (setup_of script) now)
+  pub sound : IsScript script → NoFlips script.losses → RunIsSound (setup_of script) script.commands now
+  pub sound_bytes : IsScript script → SoundLinesHold (setup_of script) script.commands now
   pub bytes : IsScript script → NoFlips script.losses → LinesHold (setup_of script) script.commands now
   pub lossless : IsLosslessScript script → AllEndWell (setup_of script) script.commands now
   pub arrives : IsLosslessScript script → AllArrive (setup_of script) script.commands now

@@ -11,7 +11,7 @@ use Rattle.rpc_journal.specs.CallTable.{Table}
 use Rattle.rpc_schedule.specs.declared.ending.Ending.{Ending}
 use Rattle.rpc_schedule.specs.declared.ending.Ending.TheVariants.{StoreFault}
 use Rattle.rpc_schedule.specs.Kept.{Holds}
-use Rattle.rpc_schedule.specs.Replays.{Replayed}
+use Rattle.rpc_schedule.specs.Replays.{BreaksOff, Replayed}
 use Rattle.rpc_schedule.specs.OneThread.{AreOfOneThread}
 use Rattle.rpc_schedule.specs.ends.EndState.{heard}
 use Rattle.demo_services.specs.DemoRule.{demo_rule}
@@ -61,8 +61,43 @@ pub record ServesStream (form : Form) (shelf : Shelf) (left_old left_new written
   pub holds : Holds items store_old store_new
   pub writes : Writes written_old written_new (text_of form counts table items ending) (outcome_of ending) outcome
 
+-- so many bytes were fed, of whose segments no count is told
+abbrev pub IsUntold : List ℕ → Type 0
+IsUntold bytes = Unit {0}
+
+-- Memory was wanting while the input was served over a shelf: the table has a legal history of a beginning of it. The store holds
+-- what a beginning of the items that this sent made of it.
+pub record BreaksServing (shelf : Shelf) (left_old left_new : Option (List ℕ)) (store_old store_new : Option Stored) : Type 0 where
+  pub table : Table
+  pub items : List Item
+  pub setting : table.setting ≡ demo_setting shelf
+  pub legal : IsLegal demo_rule table.setting table.entries
+  pub broken : BreaksOff (heard Server) IsUntold left_old left_new table items
+  pub holds : Holds items store_old store_new
+
+-- All was served over a shelf, and memory was wanting for the text.
+pub record ServesUntold (shelf : Shelf) (left_old left_new : Option (List ℕ)) (store_old store_new : Option Stored) : Type 0 where
+  pub ending : Ending
+  pub counts : Counts
+  pub table : Table
+  pub items : List Item
+  pub serves : ServesDemo shelf left_old left_new ending counts table items
+  pub holds : Holds items store_old store_new
+
+-- nothing was read or stored
+pub record ReadsNothing (left_old left_new : Option (List ℕ)) (store_old store_new : Option Stored) : Type 0 where
+  pub unread : left_new ≡ left_old
+  pub same : store_new ≡ store_old
+
+-- how far a run came that wanted memory
+abbrev pub ServesShort : Shelf → Option (List ℕ) → Option (List ℕ) → Option Stored → Option Stored → Type 0
+ServesShort shelf left_old left_new store_old store_new =
+    BreaksServing shelf left_old left_new store_old store_new
+    ⊎ (ServesUntold shelf left_old left_new store_old store_new ⊎ ReadsNothing left_old left_new store_old store_new)
+
 abbrev pub ServesShelf : Form → Shelf → Option (List ℕ) → Option (List ℕ) → Option (List ℕ) → Option (List ℕ) → Option Stored → Option Stored → Outcome → Type 0
-ServesShelf form shelf left_old left_new written_old written_new store_old store_new NoMemory = Unit {0}
+ServesShelf form shelf left_old left_new written_old written_new store_old store_new NoMemory =
+    ServesShort shelf left_old left_new store_old store_new
 ServesShelf form shelf left_old left_new written_old written_new store_old store_new outcome =
     ServesStream form shelf left_old left_new written_old written_new store_old store_new outcome
 
@@ -71,6 +106,12 @@ pub record RunsReplay (form : Form) (left_old left_new written_old written_new :
   pub shelf : Shelf
   pub listed : IfSome store_old (λ st. shelf ≡ shelf_of st)
   pub stream : ServesStream form shelf left_old left_new written_old written_new store_old store_new outcome
+
+-- The store was listed, and memory was wanting while its shelf was served, or behind that.
+pub record RunsShort (left_old left_new : Option (List ℕ)) (store_old store_new : Option Stored) : Type 0 where
+  pub shelf : Shelf
+  pub listed : IfSome store_old (λ st. shelf ≡ shelf_of st)
+  pub short : ServesShort shelf left_old left_new store_old store_new
 
 -- no segment was read
 abbrev pub no_counts : Counts
@@ -86,9 +127,10 @@ pub record ListsNothing (form : Form) (left_old left_new written_old written_new
   pub same : store_new ≡ store_old
   pub writes : Writes written_old written_new (text_of form no_counts no_table [] StoreFault) (outcome_of StoreFault) outcome
 
--- what was read, written and stored, where there was memory
+-- What was read, written and stored. Nothing was written where memory was wanting.
 abbrev pub DidReplay : Form → Option (List ℕ) → Option (List ℕ) → Option (List ℕ) → Option (List ℕ) → Option Stored → Option Stored → Outcome → Type 0
-DidReplay form left_old left_new written_old written_new store_old store_new NoMemory = Unit {0}
+DidReplay form left_old left_new written_old written_new store_old store_new NoMemory =
+    RunsShort left_old left_new store_old store_new ⊎ ReadsNothing left_old left_new store_old store_new
 DidReplay form left_old left_new written_old written_new store_old store_new outcome =
     RunsReplay form left_old left_new written_old written_new store_old store_new outcome ⊎
     ListsNothing form left_old left_new written_old written_new store_old store_new outcome

@@ -1,7 +1,7 @@
 -- What `route` tells of a text.
 use Rattle.std.specs.Prelude.{ℕ, Bool, true, false, List, [], codes}
 use Rattle.text_fields.specs.Lines.{lines_of}
-use Rattle.route_lines.specs.Lines.{HasBadLine, IsPrinted}
+use Rattle.frame_router.specs.text.Lines.{HasBadLine, IsPrinted}
 use Rattle.pw_run.specs.Texts.{TellsBadLine}
 
 -- what is printed of a router by its routes and the steps behind them; or the first bad line

@@ -37,7 +37,7 @@ pub record RunsConnection (workers number : ℕ) (before after : Devices) (outco
   pub source : why ≡ Source → Rose 0 in_faults
   pub sink : why ≡ Sink → Rose 0 out_faults
   pub unread : after.left ≡ before.left
-  pub writes : WritesServed (connection_report number table counts why) why before.written after.written outcome
+  pub writes : WritesServed (connection_report number table counts why) why before.written after.written before.failed after.failed outcome
 
 -- A connection was accepted and given back as it was, for want of memory.
 pub record GivesBack (before after : Devices) (outcome : Outcome) : Type 0 where

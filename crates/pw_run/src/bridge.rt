@@ -3,8 +3,8 @@ ghost use Rattle.std.specs.Prelude.{◌≡◌, ◌≢◌, ℕ, ◌≤◌, ◌⊎
 ghost use Rattle.link_io.specs.Causes.{Rose};
 ghost use Rattle.link_io.specs.Stored.{Stored};
 ghost use Rattle.link_io.specs.declared.why.Why.TheVariants.{Source as Read, Sink as Link, Store as Depot};
-ghost use Rattle.frame_bridge.specs.Bridges.{reason_of};
-ghost use Rattle.frame_bridge.specs.Printed.{bridge_text};
+ghost use Rattle.frame_router.specs.bridge.Bridges.{reason_of};
+ghost use Rattle.frame_router.specs.bridge.Printed.{bridge_text};
 ghost use Rattle.pw_run.specs.declared.outcome.Outcome.TheVariants.{BadWords, LinkFault, SinkFault, SourceFault, StoreFault};
 ghost use Rattle.pw_run.specs.Bridge.{DidBridge};
 ghost use Rattle.pw_run.specs.Devices.{devices};
@@ -13,7 +13,7 @@ ghost use Rattle.pw_run.specs.Outcome.{IsSilent};
 
 use crate::Outcome;
 use crate::served_text::write_served;
-use frame_bridge::{Bridged, bridge_text};
+use frame_router::bridge::{Bridged, bridge_text};
 use link_io::{Linker, Sink, Why};
 use std::alloc::Global;
 use std::thread::Threads;
@@ -35,8 +35,8 @@ pub(crate) fn bridge<R: Threads, O: Sink, N: Linker>(
     ensures words { result ≢ BadWords }
     ensures store { result ≢ StoreFault }
     ensures did { (unread : Option (List ℕ)) (held : Option Stored) (moment : ℕ) → DidBridge at_right at_left
-        (devices unread (O.written output.old) held (N.links net.old) moment)
-        (devices unread (O.written output.new) held (N.links net.new) moment) result }
+        (devices unread (O.written output.old) (O.faults output.old) held (N.links net.old) moment)
+        (devices unread (O.written output.new) (O.faults output.new) held (N.links net.new) moment) result }
     ensures silent { IsSilent result → output.new ≡ output.old }
     ensures source { result ≡ SourceFault → Rose (N.links net.old).in_faults (N.links net.new).in_faults }
     ensures sink { result ≡ SinkFault →
@@ -45,7 +45,7 @@ pub(crate) fn bridge<R: Threads, O: Sink, N: Linker>(
     ensures linker_later { (N.links net.old).faults ≤ (N.links net.new).faults }
     ensures sink_later { O.faults output.old ≤ O.faults output.new }
 {
-    match frame_bridge::bridge(rt, alloc, net, left, right, at_right, at_left) {
+    match frame_router::bridge::bridge(rt, alloc, net, left, right, at_right, at_left) {
         Err(_) => Outcome::LinkFault,
         Ok(done) => write_bridge(alloc, done, output),
     }
@@ -55,7 +55,7 @@ pub(crate) fn bridge<R: Threads, O: Sink, N: Linker>(
 fn write_bridge<O: Sink>(alloc: Global, done: Bridged, output: &mut O) -> Outcome
     requires open { O.finished output.old ≡ false }
     requires storeless { reason_of done ≢ Depot }
-    ensures writes { WritesServed (bridge_text done) (reason_of done) (O.written output.old) (O.written output.new) result }
+    ensures writes { WritesServed (bridge_text done) (reason_of done) (O.written output.old) (O.written output.new) (O.faults output.old) (O.faults output.new) result }
     ensures words { result ≢ BadWords }
     ensures link { result ≢ LinkFault }
     ensures store { result ≢ StoreFault }

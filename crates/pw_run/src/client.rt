@@ -2,7 +2,7 @@
 ghost use Rattle.std.specs.Prelude.{◌≡◌, ◌≢◌, ℕ, ◌≤◌, ◌⊎◌, false, List, Option, Ok, IfOk, IfErr};
 ghost use Rattle.link_io.specs.Causes.{Rose};
 ghost use Rattle.link_io.specs.Resources.{first_of};
-ghost use Rattle.live_client.specs.Asks.{CanAsk};
+ghost use Rattle.live_client.specs.Ask.{CanAsk};
 ghost use Rattle.run_report.specs.declared.live_report.LiveLine.TheVariants.{Put};
 ghost use Rattle.pw_run.specs.declared.client.AskRefused.TheVariants.{Unfit};
 ghost use Rattle.pw_run.specs.declared.outcome.Outcome.TheVariants.{BadWords, LinkFault, SinkFault, SourceFault, StoreFault};
@@ -63,8 +63,8 @@ pub(crate) fn client<
     requires open { O.finished output.old ≡ false }
     ensures words { result ≢ BadWords }
     ensures did { (left : Option (List ℕ)) → DidClient command
-        (devices left (O.written output.old) (S.holds store.old) (N.links net.old) (C.last clock.old))
-        (devices left (O.written output.new) (S.holds store.new) (N.links net.new) (C.last clock.new)) result }
+        (devices left (O.written output.old) (O.faults output.old) (S.holds store.old) (N.links net.old) (C.last clock.old))
+        (devices left (O.written output.new) (O.faults output.new) (S.holds store.new) (N.links net.new) (C.last clock.new)) result }
     ensures silent { IsSilent result → output.new ≡ output.old }
     ensures source { result ≡ SourceFault → Rose (N.links net.old).in_faults (N.links net.new).in_faults }
     ensures sink { result ≡ SinkFault →
@@ -98,8 +98,8 @@ fn client_over<R: Threads + Wait + Sync, O: Sink, S: Store + Send, N: Linker, C:
     requires open { O.finished output.old ≡ false }
     ensures words { result ≢ BadWords }
     ensures did { (left : Option (List ℕ)) → DoesFoundOrNothing command (asked command shelf.now)
-        (devices left (O.written output.old) (S.holds store.old) (N.links net.old) (C.last clock.old))
-        (devices left (O.written output.new) (S.holds store.new) (N.links net.new) (C.last clock.new)) result }
+        (devices left (O.written output.old) (O.faults output.old) (S.holds store.old) (N.links net.old) (C.last clock.old))
+        (devices left (O.written output.new) (O.faults output.new) (S.holds store.new) (N.links net.new) (C.last clock.new)) result }
     ensures silent { IsSilent result → output.new ≡ output.old }
     ensures source { result ≡ SourceFault → Rose (N.links net.old).in_faults (N.links net.new).in_faults }
     ensures sink { result ≡ SinkFault →
@@ -185,8 +185,8 @@ fn ask_over_link<R: Threads + Wait + Sync, O: Sink, S: Store + Send, N: Linker, 
     requires open { O.finished output.old ≡ false }
     ensures words { result ≢ BadWords }
     ensures did { (left : Option (List ℕ)) → AsksOverLink command ask
-        (devices left (O.written output.old) (S.holds store.old) (N.links net.old) (C.last clock.old))
-        (devices left (O.written output.new) (S.holds store.new) (N.links net.new) (C.last clock.new)) result }
+        (devices left (O.written output.old) (O.faults output.old) (S.holds store.old) (N.links net.old) (C.last clock.old))
+        (devices left (O.written output.new) (O.faults output.new) (S.holds store.new) (N.links net.new) (C.last clock.new)) result }
     ensures silent { IsSilent result → output.new ≡ output.old }
     ensures source { result ≡ SourceFault → Rose (N.links net.old).in_faults (N.links net.new).in_faults }
     ensures sink { result ≡ SinkFault →

@@ -23,7 +23,7 @@ pub(crate) fn write_client<O: Sink>(
     output: &mut O,
 ) -> Outcome
     requires open { O.finished output.old ≡ false }
-    ensures writes { WritesClient command done.now (O.written output.old) (O.written output.new) result }
+    ensures writes { WritesClient command done.now (O.written output.old) (O.written output.new) (O.faults output.old) (O.faults output.new) result }
     ensures words { result ≢ BadWords }
     ensures link { result ≢ LinkFault }
     ensures silent { IsSilent result → output.new ≡ output.old }

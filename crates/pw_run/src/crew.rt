@@ -47,8 +47,8 @@ pub(crate) fn crew<
     ensures words { result ≢ BadWords }
     ensures link { result ≢ LinkFault }
     ensures did { (links : Links) → DidCrew workers
-        (devices (I.left input.old) (O.written output.old) (S.holds store.old) links (C.last clock.old))
-        (devices (I.left input.new) (O.written output.new) (S.holds store.new) links (C.last clock.new)) result }
+        (devices (I.left input.old) (O.written output.old) (O.faults output.old) (S.holds store.old) links (C.last clock.old))
+        (devices (I.left input.new) (O.written output.new) (O.faults output.new) (S.holds store.new) links (C.last clock.new)) result }
     ensures silent { IsSilent result → output.new ≡ output.old }
     ensures source { result ≡ SourceFault → Rose (I.faults input.old) (I.faults input.new) }
     ensures sink { result ≡ SinkFault → Rose (O.faults output.old) (O.faults output.new) }
@@ -76,7 +76,7 @@ pub(crate) fn crew<
 fn write_report<O: Sink>(alloc: Global, served: &Served<DemoCall>, output: &mut O) -> Outcome
     requires open { O.finished output.old ≡ false }
     ensures writes { WritesServed (crew_report served.now.calls served.now.counts served.now.items.items served.now.why) served.now.why
-        (O.written output.old) (O.written output.new) result }
+        (O.written output.old) (O.written output.new) (O.faults output.old) (O.faults output.new) result }
     ensures words { result ≢ BadWords }
     ensures link { result ≢ LinkFault }
     ensures silent { IsSilent result → output.new ≡ output.old }

@@ -5,7 +5,7 @@ ghost use Rattle.pw_run.specs.Texts.{TellsText};
 
 use crate::told::{Found, Told, bad_line};
 use std::alloc::{AllocError, Global};
-use token_lines::{LinesRefused, print_lines};
+use token_text::lines::{LinesRefused, print_lines};
 
 /// What is printed of the messages in a text by the formats in front of them, each in a line.
 pub(crate) fn detoken(alloc: Global, text: &[u8]) -> Result<Told, AllocError>

@@ -27,8 +27,6 @@ mod running;
 mod serve;
 mod served_text;
 mod telling;
-#[cfg(test)]
-mod tests;
 mod text_command;
 mod told;
 mod writing;

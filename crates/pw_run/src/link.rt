@@ -4,12 +4,12 @@ ghost use Rattle.link_world.specs.Starting.{IsWithinBounds};
 ghost use Rattle.pw_run.specs.Link.{TellsLink, TellsRun, limit_text};
 
 use crate::told::{Found, Told};
+use link_laws::world::MAX_DELIVERIES;
 use link_script::Script;
+use link_script::text::{add_bad_line, print_report, read_script};
 use link_world::{World, WorldRefused};
 use rpc_journal::MAX_ENTRIES;
-use script_text::{add_bad_line, print_report, read_script};
 use std::alloc::{AllocError, Global};
-use world_turns::MAX_DELIVERIES;
 
 /// What is told of the run of the script in a text.
 pub(crate) fn link(alloc: Global, text: &[u8]) -> Result<Told, AllocError>

@@ -128,6 +128,7 @@ fn unlisted(alloc: Global) -> Result<Served<DemoCall>, AllocError>
         },
         read: 0,
         done: 0,
+        began: 0,
         items: Vec::new(alloc),
     })
 }

@@ -76,12 +76,12 @@ fn serve<I: Source, O: Sink, S: Store>(
         return Outcome::NoMemory;
     };
     let mut items = Vec::new(alloc);
-    match rpc_schedule::replay(&mut server, input, store, &mut items) {
+    let served = rpc_schedule::replay(&mut server, input, store, &mut items);
+    let counts = server.counts();
+    let calls = server.calls();
+    match served {
         Err(_) => Outcome::NoMemory,
-        Ok(ending) => {
-            let counts = server.counts();
-            write_run(alloc, form, counts, server.calls(), &items, ending, output)
-        }
+        Ok(ending) => write_run(alloc, form, counts, calls, &items, ending, output),
     }
 }
 

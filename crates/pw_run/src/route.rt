@@ -4,7 +4,7 @@ ghost use Rattle.pw_run.specs.Route.{TellsRoutes};
 ghost use Rattle.pw_run.specs.Texts.{TellsText};
 
 use crate::told::{Found, Told, bad_line};
-use route_lines::{LinesRefused, route_text};
+use frame_router::text::{LinesRefused, route_text};
 use std::alloc::{AllocError, Global};
 
 /// What is printed of a router by the routes and steps in a text.

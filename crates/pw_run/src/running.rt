@@ -72,8 +72,8 @@ pub fn run<
     // What a command on threads read, sent, wrote and stored.
     ensures live { (command : LiveCommand) → IsLiveCommand (map string_bytes words.now) command →
         EndsWith result (DidLive command
-        (devices (I.left input.old) (O.written output.old) (S.holds store.old) (N.links net.old) (C.last clock.old))
-        (devices (I.left input.new) (O.written output.new) (S.holds store.new) (N.links net.new) (C.last clock.new))) }
+        (devices (I.left input.old) (O.written output.old) (O.faults output.old) (S.holds store.old) (N.links net.old) (C.last clock.old))
+        (devices (I.left input.new) (O.written output.new) (O.faults output.new) (S.holds store.new) (N.links net.new) (C.last clock.new))) }
     ensures linked { MakesLinks (map string_bytes words.now) → input.new ≡ input.old }
     ensures bridged { IsBridge (map string_bytes words.now) → (store.new ≡ store.old) × (clock.new ≡ clock.old) }
     ensures unlinked { (MakesLinks (map string_bytes words.now) → ⊥) → net.new ≡ net.old }

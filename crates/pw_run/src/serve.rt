@@ -46,8 +46,8 @@ pub(crate) fn serve<
     requires open { O.finished output.old ≡ false }
     ensures words { result ≢ BadWords }
     ensures did { (left : Option (List ℕ)) → DidServe workers connections
-        (devices left (O.written output.old) (S.holds store.old) (N.links net.old) (C.last clock.old))
-        (devices left (O.written output.new) (S.holds store.new) (N.links net.new) (C.last clock.new)) result }
+        (devices left (O.written output.old) (O.faults output.old) (S.holds store.old) (N.links net.old) (C.last clock.old))
+        (devices left (O.written output.new) (O.faults output.new) (S.holds store.new) (N.links net.new) (C.last clock.new)) result }
     ensures sink { result ≡ SinkFault →
         Rose (N.links net.old).out_faults (N.links net.new).out_faults ⊎ Rose (O.faults output.old) (O.faults output.new) }
     ensures source { result ≡ SourceFault → Rose (N.links net.old).in_faults (N.links net.new).in_faults }
@@ -97,8 +97,8 @@ fn serve_all<
     requires listens { (N.links net.old).listens ≡ true }
     ensures words { result ≢ BadWords }
     ensures serves { (left : Option (List ℕ)) → ServesInTurn workers connections
-        (devices left (O.written output.old) (S.holds store.old) (N.links net.old) (C.last clock.old))
-        (devices left (O.written output.new) (S.holds store.new) (N.links net.new) (C.last clock.new)) result }
+        (devices left (O.written output.old) (O.faults output.old) (S.holds store.old) (N.links net.old) (C.last clock.old))
+        (devices left (O.written output.new) (O.faults output.new) (S.holds store.new) (N.links net.new) (C.last clock.new)) result }
     ensures source { result ≡ SourceFault → Rose (N.links net.old).in_faults (N.links net.new).in_faults }
     ensures sink { result ≡ SinkFault →
         Rose (N.links net.old).out_faults (N.links net.new).out_faults ⊎ Rose (O.faults output.old) (O.faults output.new) }
@@ -141,8 +141,8 @@ fn serve_next<
     requires listens { (N.links net.old).listens ≡ true }
     ensures words { result ≢ BadWords }
     ensures did { (left : Option (List ℕ)) → ServesConnection workers number
-        (devices left (O.written output.old) (S.holds store.old) (N.links net.old) (C.last clock.old))
-        (devices left (O.written output.new) (S.holds store.new) (N.links net.new) (C.last clock.new)) result }
+        (devices left (O.written output.old) (O.faults output.old) (S.holds store.old) (N.links net.old) (C.last clock.old))
+        (devices left (O.written output.new) (O.faults output.new) (S.holds store.new) (N.links net.new) (C.last clock.new)) result }
     ensures source { result ≡ SourceFault → Rose (N.links net.old).in_faults (N.links net.new).in_faults }
     ensures sink { result ≡ SinkFault →
         Rose (N.links net.old).out_faults (N.links net.new).out_faults ⊎ Rose (O.faults output.old) (O.faults output.new) }
@@ -183,7 +183,7 @@ fn write_lines<O: Sink>(
 ) -> Outcome
     requires open { O.finished output.old ≡ false }
     ensures writes { WritesServed (connection_report number served.now.calls served.now.counts served.now.why) served.now.why
-        (O.written output.old) (O.written output.new) result }
+        (O.written output.old) (O.written output.new) (O.faults output.old) (O.faults output.new) result }
     ensures words { result ≢ BadWords }
     ensures link { result ≢ LinkFault }
     ensures silent { IsSilent result → output.new ≡ output.old }

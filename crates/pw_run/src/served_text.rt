@@ -14,7 +14,7 @@ use link_io::{Sink, Why};
 pub(crate) fn write_served<O: Sink>(output: &mut O, text: &str, why: Why) -> Outcome
     requires open { O.finished output.old ≡ false }
     requires memory { why ≢ Memory }
-    ensures writes { WritesServed text.now why (O.written output.old) (O.written output.new) result }
+    ensures writes { WritesServed text.now why (O.written output.old) (O.written output.new) (O.faults output.old) (O.faults output.new) result }
     ensures words { result ≢ BadWords }
     ensures source { result ≡ SourceFault → why ≡ Read }
     ensures store { result ≡ StoreFault → why ≡ Depot }

@@ -1,5 +1,5 @@
 -- The ready call that goes first: the first one in the list of the calls for which an event waits that can start.
-use Rattle.std.proofs.Common.{◌≡◌, ◌⊎◌, inl, inr, ℕ, zero, suc, ◌<◌, ◌≤◌, ◌==◌, Bool, true, false, not, ◌&&◌, List, [], ◌∷◌, length, count_by, get_or, slice_get, Option, Some, None, is_some, is_none, refl, ap, sym, ◌∙◌, subst, arith}
+use Rattle.std.proofs.Common.{◌≡◌, ◌⊎◌, inl, inr, ℕ, zero, suc, ◌<◌, ◌≤◌, ◌==◌, Bool, true, false, not, ◌&&◌, ◌||◌, List, [], ◌∷◌, length, count_by, get_or, slice_get, Option, Some, None, is_some, is_none, refl, ap, sym, ◌∙◌, subst, arith}
 use Rattle.std.specs.Prelude.{nat_lt}
 use Rattle.std.proofs.lemmas.Bool.{false≢true, and_from, and_parts, eqb-true, eqb-false, eq-eqb}
 use Rattle.std.proofs.lemmas.List.{get_or_default}
@@ -24,7 +24,7 @@ use Rattle.rpc_calls.specs.declared.waiting_calls.WaitingCall.{WaitingCall}
 use Rattle.rpc_calls.specs.First.{FirstToStart, starts_in, starts_since}
 use Rattle.rpc_calls.specs.Indexed.{IsIndexed}
 use Rattle.rpc_calls.specs.Listed.{Goes, Precedes, waits_since}
-use Rattle.rpc_calls.specs.Marks.{one_if, waits}
+use Rattle.rpc_calls.specs.Marks.{is_queued, one_if, waits}
 use Rattle.rpc_calls.proofs.PlaceChanges.{count-cons, count-has}
 use Rattle.rpc_calls.proofs.IndexSteps.{since_waits}
 
@@ -48,16 +48,17 @@ record IsListedReady (t : CallStates) (index : Index) (c : ℕ) : Type 0 where
   pub starts : starts_since t (waits_since c (first_place state.waiting.items)) ≡ true
   pub listed : Contains index.waiting.calls.items (waits_since c (first_place state.waiting.items))
 
-starts_waiting : (a b c d e : Bool) → (a && b && c && d && e) ≡ true → a ≡ true
-starts_waiting true b c d e is = refl
-starts_waiting false b c d e is = absurd (false≢true is)
+starts_waiting : (a : Bool) (o : Option ℕ) (c d e : Bool) → (not a && is_none o && c && d && e) ≡ true → not (is_some o || a) ≡ true
+starts_waiting true o c d e is = absurd (false≢true is)
+starts_waiting false None c d e is = refl
+starts_waiting false (Some seat) c d e is = absurd (false≢true is)
 
 ready_listed : (ds : List Deed) (t : CallStates) (index : Index) (c : ℕ) (o : Option CallState) → Agrees ds t → IsIndexed t.calls.items index
     → slice_get t.calls.items c ≡ o → is_ready ds c ≡ true → IsListedReady t index c
 ready_listed ds t index c None agrees indexed is ready = absurd (false≢true (sym (ready_known ds t c None agrees is) ∙ ready))
 ready_listed ds t index c (Some r) agrees indexed is ready =
     let can : is_startable r t.unflushed (is_some t.halted) ≡ true = sym (ready_known ds t c (Some r) agrees is) ∙ ready in
-    let waiting : waits r ≡ true = starts_waiting (waits r) (is_none r.run) (not r.cancelled) (nat_lt t.unflushed 65536) (not (is_some t.halted)) can in
+    let waiting : waits r ≡ true = starts_waiting (is_empty r.waiting.items) r.run (not r.cancelled) (nat_lt t.unflushed 65536) (not (is_some t.halted)) can in
     record {
       state = r;
       there = is;
@@ -126,30 +127,28 @@ all_true : (n : ℕ) (test : ℕ → Bool) → ((k : ℕ) → k < n → test k �
 all_true zero test each = refl
 all_true (suc n) test each = rw (all_true n test (λ k below. each k (omega (arith, below))), each n (omega arith)) refl
 
--- no event waits for any call exactly where the list is empty
-pub none_waits : (ds : List Deed) (t : CallStates) (index : Index) (empty : Bool) → Agrees ds t → IsIndexed t.calls.items index
-    → empty ≡ (length index.waiting.calls.items == 0) → empty ≡ all_below (call_count ds) (λ c. is_empty (waiting_of ds c))
-none_waits ds t index empty agrees indexed is = at (length index.waiting.calls.items == 0) refl (all_below (call_count ds) (λ c. is_empty (waiting_of ds c))) refl
+-- no event waits for any call exactly where none is counted
+pub none_waits : (ds : List Deed) (t : CallStates) (n : ℕ) (empty : Bool) → Agrees ds t → n ≡ count_by is_queued t.calls.items → empty ≡ (n == 0)
+    → empty ≡ all_below (call_count ds) (λ c. is_empty (waiting_of ds c))
+none_waits ds t n empty agrees many is = at (n == 0) refl (all_below (call_count ds) (λ c. is_empty (waiting_of ds c))) refl
   where
-    idle : length index.waiting.calls.items ≡ 0 → (k : ℕ) (r : CallState) → slice_get t.calls.items k ≡ Some r → is_empty r.waiting.items ≡ true
+    idle : n ≡ 0 → (k : ℕ) (r : CallState) → slice_get t.calls.items k ≡ Some r → is_empty r.waiting.items ≡ true
     idle none k r there = by (is_empty r.waiting.items) refl
       where
         by : (b : Bool) → is_empty r.waiting.items ≡ b → is_empty r.waiting.items ≡ true
         by true empty = empty
-        by false waiting =
-            let listed = indexed.covers k r (first_place r.waiting.items) there (since_waits r (ap not waiting)) in
-            absurd (omega (arith, none, listed.1))
+        by false waiting = absurd (omega (arith, none, many, count-has is_queued t.calls.items k r there (ap not waiting)))
 
-    at : (b : Bool) → (length index.waiting.calls.items == 0) ≡ b → (a : Bool) → all_below (call_count ds) (λ c. is_empty (waiting_of ds c)) ≡ a
+    at : (b : Bool) → (n == 0) ≡ b → (a : Bool) → all_below (call_count ds) (λ c. is_empty (waiting_of ds c)) ≡ a
         → empty ≡ all_below (call_count ds) (λ c. is_empty (waiting_of ds c))
     at true none a all =
         is ∙ none ∙ sym (all_true (call_count ds) (λ c. is_empty (waiting_of ds c)) (λ k below.
         let row = get_some t.calls.items k (omega (arith, below, agrees.calls.many)) in
-        ap is_empty (agrees.calls.each k row.0 row.1).waiting ∙ idle (eqb-true (length index.waiting.calls.items) 0 none) k row.0 row.1))
+        ap is_empty (agrees.calls.each k row.0 row.1).waiting ∙ idle (eqb-true n 0 none) k row.0 row.1))
     at false some false all = is ∙ some ∙ sym all
     at false some true all =
-        let one : 1 ≤ count_by waits t.calls.items = omega (arith, indexed.short, eqb-false (length index.waiting.calls.items) 0 some) in
-        let it = counted waits t.calls.items one in
+        let one : 1 ≤ count_by is_queued t.calls.items = omega (arith, many, eqb-false n 0 some) in
+        let it = counted is_queued t.calls.items one in
         let within : it.number < length t.calls.items = slice_get_within t.calls.items it.number it.state it.there in
         let empty = all_at (call_count ds) it.number (λ c. is_empty (waiting_of ds c)) all (omega (arith, within, agrees.calls.many)) in
         absurd (false≢true (ap not (sym empty ∙ ap is_empty (agrees.calls.each it.number it.state it.there).waiting) ∙ it.passes))

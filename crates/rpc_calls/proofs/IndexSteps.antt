@@ -1,5 +1,5 @@
 -- What a table keeps beside the states of its calls, over the changes of these states.
-use Rattle.std.proofs.Common.{◌≡◌, ◌≢◌, ◌⊎◌, inl, inr, ℕ, zero, suc, ◌+◌, ◌<◌, ◌≤◌, ◌^◌, Bool, true, false, not, List, [], ◌∷◌, ◌++◌, length, slice_get, count_by, Some, is_some, None, if◌then◌else◌, refl, ap, sym, ◌∙◌, subst, arith, length-append}
+use Rattle.std.proofs.Common.{◌≡◌, ◌≢◌, ◌⊎◌, inl, inr, ℕ, zero, suc, ◌+◌, ◌<◌, ◌≤◌, ◌^◌, Bool, true, false, not, ◌||◌, List, [], ◌∷◌, ◌++◌, length, slice_get, count_by, Some, is_some, None, if◌then◌else◌, refl, ap, sym, ◌∙◌, subst, arith, length-append}
 use Rattle.std.specs.List.{Contains}
 use Rattle.std.specs.VecDeque.{deque_capacity}
 use Rattle.std.proofs.lemmas.Bool.{not-true}
@@ -15,7 +15,7 @@ use Rattle.rpc_calls.specs.declared.marks.Marks.{Marks}
 use Rattle.rpc_calls.specs.declared.owed.Owed.{Owed}
 use Rattle.rpc_calls.specs.Indexed.{CanReindex, IsIndexed, Reindexes}
 use Rattle.rpc_calls.specs.Listed.{InOrder, waits_since}
-use Rattle.rpc_calls.specs.Marks.{marks_of, no_marks, oldest_since, one_if, waits}
+use Rattle.rpc_calls.specs.Marks.{is_queued, marks_of, no_marks, oldest_since, one_if, waits}
 use Rattle.rpc_calls.specs.Owed.{owed_by}
 use Rattle.rpc_calls.specs.Places.{ChangesAll, ChangesAt}
 use Rattle.rpc_calls.specs.Room.{uncancelled, running}
@@ -46,22 +46,23 @@ count-lacks p (y ∷ states) (suc c) r is fails =
     at_most false = omega arith
 
 -- two counts are the same where both their numbers are
-same_owed : (owed other : Owed) → owed.uncancelled ≡ other.uncancelled → owed.running ≡ other.running → owed ≡ other
-same_owed owed other open_now busy_now = ap (λ n. both n owed.running) open_now ∙ ap (both other.uncancelled) busy_now
+same_owed : (owed other : Owed) → owed.uncancelled ≡ other.uncancelled → owed.running ≡ other.running → owed.queued ≡ other.queued → owed ≡ other
+same_owed owed other open_now busy_now queued_now =
+    ap (λ n. all n owed.running owed.queued) open_now ∙ ap (λ n. all other.uncancelled n owed.queued) busy_now ∙ ap (all other.uncancelled other.running) queued_now
   where
-    both : ℕ → ℕ → Owed
-    both m n = record { uncancelled = m; running = n }
+    all : ℕ → ℕ → ℕ → Owed
+    all m n k = record { uncancelled = m; running = n; queued = k }
 
 -- an event waits for a call exactly where one waits since a place
 waits_as : (r : CallState) → waits r ≡ is_some (oldest_since r)
-waits_as r = at (is_empty r.waiting.items)
+waits_as r = at (is_some r.run || is_empty r.waiting.items)
   where
     at : (b : Bool) → not b ≡ is_some (if b then None else Some (first_place r.waiting.items))
     at true = refl
     at false = refl
 
 pub since_waits : (r : CallState) → waits r ≡ true → oldest_since r ≡ Some (first_place r.waiting.items)
-since_waits r waiting = rw (not-true (is_empty r.waiting.items) waiting) refl
+since_waits r waiting = rw (not-true (is_some r.run || is_empty r.waiting.items) waiting) refl
 
 -- these are the marks of this call
 abbrev pub AreMarksAt : List CallState → ℕ → Marks → Type 0
@@ -77,8 +78,10 @@ can_reindex states index c was is within marks =
       owed = record {
         open_one = omega (arith, ap (λ (m : Marks). one_if m.uncancelled) its, ap (λ (o : Owed). o.uncancelled) is.counts, count-one (λ (r : CallState). not r.cancelled) states c row.0 row.1);
         busy_one = omega (arith, ap (λ (m : Marks). one_if m.runs) its, ap (λ (o : Owed). o.running) is.counts, count-one (λ (r : CallState). is_some r.run) states c row.0 row.1);
+        queued_one = omega (arith, ap (λ (m : Marks). one_if m.queued) its, ap (λ (o : Owed). o.queued) is.counts, count-one is_queued states c row.0 row.1);
         few_open = omega (arith, ap (λ (o : Owed). o.uncancelled) is.counts, count_by-le-length (λ (r : CallState). not r.cancelled) states, is.few);
         few_busy = omega (arith, ap (λ (o : Owed). o.running) is.counts, count_by-le-length (λ (r : CallState). is_some r.run) states, is.few);
+        few_queued = omega (arith, ap (λ (o : Owed). o.queued) is.counts, count_by-le-length is_queued states, is.few);
       };
       waiting = record {
         order = is.order;
@@ -119,6 +122,14 @@ index_changed R states later index after c was now is within changes before mark
             ap (λ (m : Marks). one_if m.runs) its,
             ap (λ (m : Marks). one_if m.runs) now_its,
             count-change (λ (q : CallState). is_some q.run) states later c r.0 x.0 changes.many changes.others r.1 x.1,
+          ))
+          (omega (
+            arith,
+            moved.owed.queued_now,
+            ap (λ (o : Owed). o.queued) is.counts,
+            ap (λ (m : Marks). one_if m.queued) its,
+            ap (λ (m : Marks). one_if m.queued) now_its,
+            count-change is_queued states later c r.0 x.0 changes.many changes.others r.1 x.1,
           ));
       covers = λ k y p there waiting. cover k y p there waiting (same_or_not k c);
       order = moved.waiting.order;
@@ -163,8 +174,10 @@ can_index states index n is place = record {
   owed = record {
     open_one = omega arith;
     busy_one = omega arith;
+    queued_one = omega arith;
     few_open = omega (arith, ap (λ (o : Owed). o.uncancelled) is.counts, count_by-le-length (λ (r : CallState). not r.cancelled) states, is.few);
     few_busy = omega (arith, ap (λ (o : Owed). o.running) is.counts, count_by-le-length (λ (r : CallState). is_some r.run) states, is.few);
+    few_queued = omega (arith, ap (λ (o : Owed). o.queued) is.counts, count_by-le-length is_queued states, is.few);
   };
   waiting = record {
     order = is.order;
@@ -181,7 +194,8 @@ pub index_opened : (states mid later : List CallState) (index after : Index) (n 
 index_opened states mid later index after n x none its is same number place few more nothing marks moved = record {
   counts = same_owed after.owed (owed_by later)
       (omega (arith, moved.owed.open_now, ap (λ (o : Owed). o.uncancelled) is.counts, ap uncancelled grown, count-push (λ (q : CallState). not q.cancelled) states x, ap (λ (m : Marks). one_if m.uncancelled) nothing, ap (λ (m : Marks). one_if m.uncancelled) marks))
-      (omega (arith, moved.owed.busy_now, ap (λ (o : Owed). o.running) is.counts, ap running grown, count-push (λ (q : CallState). is_some q.run) states x, ap (λ (m : Marks). one_if m.runs) nothing, ap (λ (m : Marks). one_if m.runs) marks));
+      (omega (arith, moved.owed.busy_now, ap (λ (o : Owed). o.running) is.counts, ap running grown, count-push (λ (q : CallState). is_some q.run) states x, ap (λ (m : Marks). one_if m.runs) nothing, ap (λ (m : Marks). one_if m.runs) marks))
+      (omega (arith, moved.owed.queued_now, ap (λ (o : Owed). o.queued) is.counts, ap (count_by is_queued) grown, count-push is_queued states x, ap (λ (m : Marks). one_if m.queued) nothing, ap (λ (m : Marks). one_if m.queued) marks));
   covers = λ k y p there waiting. cover k y p (subst (λ ys. slice_get ys k ≡ Some y) grown there) waiting (below_or_not k (length states));
   order = moved.waiting.order;
   short = omega (
@@ -219,7 +233,8 @@ pub index_alike : (R : CallState → CallState → Type 0) (states later : List 
 index_alike R states later index is changes alike = record {
   counts = is.counts ∙ same_owed (owed_by states) (owed_by later)
       (sym (same_counts (λ r. not r.cancelled) states later changes.many (λ k x y was now. ap (λ (m : Marks). m.uncancelled) (alike x y (changes.each k x y was now)))))
-      (sym (same_counts (λ r. is_some r.run) states later changes.many (λ k x y was now. ap (λ (m : Marks). m.runs) (alike x y (changes.each k x y was now)))));
+      (sym (same_counts (λ r. is_some r.run) states later changes.many (λ k x y was now. ap (λ (m : Marks). m.runs) (alike x y (changes.each k x y was now)))))
+      (sym (same_counts is_queued states later changes.many (λ k x y was now. ap (λ (m : Marks). m.queued) (alike x y (changes.each k x y was now)))));
   order = is.order;
   covers = λ k y p there waiting.
       let within : k < length later = slice_get_within later k y there in

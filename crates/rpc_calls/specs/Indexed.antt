@@ -9,8 +9,8 @@ use Rattle.rpc_calls.specs.Listed.{CanRelist, InOrder, Relists, waits_since}
 use Rattle.rpc_calls.specs.Marks.{oldest_since, waits}
 use Rattle.rpc_calls.specs.Owed.{Counts, Recounts, owed_by}
 
--- the counts are those of the calls; each call for which an event waits is in the list with the place since which one
--- does; the list is in order, no longer than these are many, and has a place for each call; and the calls are few enough
+-- the counts are those of the calls; each call that doesn't run and for which an event waits is in the list with the place
+-- since which one does; the list is in order, no longer than these are many, and has a place for each call; and the calls are few enough
 -- to be numbered
 pub record IsIndexed (states : List CallState) (index : Index) : Type 0 where
   pub counts : index.owed ≡ owed_by states

@@ -1,4 +1,4 @@
--- The list of the calls for which an event waits.
+-- The list of the calls that don't run and for which an event waits.
 use Rattle.std.specs.Prelude.{◌≡◌, ◌≢◌, ◌==◌, ℕ, ◌+◌, ◌<◌, ◌≤◌, ◌⊎◌, Bool, true, false, ◌&&◌, ◌||◌, nat_lt, nat_le, List, length, slice_index_or, Option, Some, None, is_some, MatchOption}
 use Rattle.std.specs.List.{AllWithin, Contains, HoldsAt}
 use Rattle.rpc_calls.specs.declared.waiting_calls.WaitingCall.{WaitingCall}

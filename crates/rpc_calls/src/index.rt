@@ -7,7 +7,7 @@ use crate::owed::Owed;
 use crate::waiting_calls::WaitingCalls;
 use std::alloc::Global;
 
-/// How many calls can still be cancelled and how many run, and the list of those for which an event waits.
+/// How many calls can still be cancelled, run, and have an event that waits, and the list of those that can run next.
 #[derive(Drop)]
 pub struct Index {
     pub owed: Owed,

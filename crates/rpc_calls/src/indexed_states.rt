@@ -16,7 +16,7 @@ use std::alloc::Global;
 use std::marker::Model;
 
 /// The states of a table's calls, with what spares it from going over all of them: how many can still be cancelled
-/// and how many run, and the list of those for which an event waits. Contracts see the states alone.
+/// how many run and for how many an event waits, and the list of those that can run next. Contracts see the states alone.
 #[derive(Drop)]
 pub struct IndexedStates {
     states: CallStates,

@@ -29,6 +29,3 @@ pub use rpc_journal::{
     StartOfRefused, StartRefused,
 };
 pub use running::Running;
-
-#[cfg(test)]
-mod tests;

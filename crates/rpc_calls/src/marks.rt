@@ -12,7 +12,9 @@ pub struct Marks {
     pub uncancelled: bool,
     /// It runs.
     pub runs: bool,
-    /// The place of the entry that put the oldest event that waits for it, where one does.
+    /// An event waits for it.
+    pub queued: bool,
+    /// The place of the entry that put the oldest event that waits for it, where one does and it doesn't run.
     pub since: Option<u64>,
 }
 
@@ -24,6 +26,7 @@ impl Marks {
         Marks {
             uncancelled: false,
             runs: false,
+            queued: false,
             since: None,
         }
     }
@@ -43,6 +46,7 @@ impl Marks {
         Marks {
             uncancelled: !state.cancelled,
             runs: state.run.is_some(),
+            queued: !state.waiting.is_empty(),
             since: waiting_since(state),
         }
     }
@@ -52,7 +56,7 @@ impl Marks {
 fn waiting_since(state: &CallState) -> Option<u64>
     ensures { result ≡ oldest_since state.now }
 {
-    if state.waiting.is_empty() {
+    if state.run.is_some() || state.waiting.is_empty() {
         None
     } else {
         Some(state.oldest_place())

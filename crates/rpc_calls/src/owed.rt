@@ -1,17 +1,20 @@
-//! How many calls still owe items and entries that are never refused.
+//! How many calls still owe items and entries that are never refused, and for how many an event waits.
 ghost use Rattle.std.specs.Prelude.{◌≡◌, ◌+◌, ◌<◌, ◌≤◌, ◌^◌, []};
 ghost use Rattle.rpc_calls.specs.Marks.{one_if};
 ghost use Rattle.rpc_calls.specs.Owed.{Counts, Recounts, owed_by};
 
 use crate::marks::Marks;
 
-/// How many calls still owe items and entries that are never refused: those of a cancel, and those of a finish.
+/// How many calls still owe items and entries that are never refused, those of a cancel and those of a finish, and for
+/// how many an event waits.
 #[derive(Clone, Copy, Debug)]
 pub struct Owed {
     /// The calls that can still be cancelled.
     pub uncancelled: u64,
     /// The calls that run.
     pub running: u64,
+    /// The calls for which an event waits.
+    pub queued: u64,
 }
 
 impl Owed {
@@ -22,6 +25,7 @@ impl Owed {
         Owed {
             uncancelled: 0,
             running: 0,
+            queued: 0,
         }
     }
 
@@ -32,6 +36,7 @@ impl Owed {
     {
         self.uncancelled = recount(self.uncancelled, was.uncancelled, is.uncancelled);
         self.running = recount(self.running, was.runs, is.runs);
+        self.queued = recount(self.queued, was.queued, is.queued);
     }
 }
 

@@ -1,4 +1,4 @@
-//! The calls for which an event waits, in the order in which they run.
+//! The calls that don't run and for which an event waits, in the order in which they run.
 ghost use Rattle.std.specs.Prelude.{◌≡◌, ◌==◌, ◌≤◌, ◌<◌, ◌||◌, ◌&&◌, false, true, [], length, OnOk, MatchOption, nat_le, nat_lt, Some, None};
 ghost use Rattle.std.specs.List.{AllWithin, Contains, HoldsAt};
 ghost use Rattle.std.specs.VecDeque.{deque_capacity};
@@ -7,7 +7,7 @@ ghost use Rattle.rpc_calls.specs.Listed.{CanRelist, FirstOfCall, InOrder, PlaceI
 use std::alloc::{AllocError, Global};
 use std::collections::VecDeque;
 
-/// A call for which an event waits.
+/// A call that doesn't run and for which an event waits.
 #[derive(Clone, Copy, Debug)]
 pub struct WaitingCall {
     /// The place of the entry that put the oldest event that waits.
@@ -15,7 +15,7 @@ pub struct WaitingCall {
     pub call: u32,
 }
 
-/// The calls for which an event waits, by the place since which one does and then by their numbers.
+/// The calls that don't run and for which an event waits, by the place since which one does and then by their numbers.
 #[derive(Drop)]
 pub struct WaitingCalls {
     pub calls: VecDeque<WaitingCall>,

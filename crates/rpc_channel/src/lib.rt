@@ -6,6 +6,3 @@
 mod channels;
 
 pub use channels::{ChannelRefused, Channels, MAX_CHANNELS};
-
-#[cfg(test)]
-mod tests;

@@ -9,6 +9,3 @@ mod settling;
 
 pub use client::Client;
 pub use settling::work_until_idle;
-
-#[cfg(test)]
-mod tests;

@@ -1,9 +1,4 @@
-pub mod PassLemmas
 pub mod PumpLemmas
-pub mod ReaderLemmas
-pub mod SessionLemmas
 pub mod RingLemmas
-pub mod StepLemmas
 pub mod WholeSession
 pub mod WorkerLists
-pub mod WriterLemmas

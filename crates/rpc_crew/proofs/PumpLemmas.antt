@@ -1,5 +1,5 @@
 -- What the pump has flushed and put into the ring.
-use Rattle.std.proofs.Common.{◌≡◌, ◌⊎◌, ℕ, ◌+◌, ◌≤◌, Bool, true, false, if◌then◌else◌, List, [], ◌∷◌, ◌++◌, length, Option, Some, None, slice_get, refl, ap, sym, ◌∙◌, subst, inl, inr, arith, append_assoc, length-append, le_refl}
+use Rattle.std.proofs.Common.{◌≡◌, ◌⊎◌, ℕ, ◌+◌, ◌<◌, ◌≤◌, Bool, true, false, if◌then◌else◌, List, [], ◌∷◌, ◌++◌, length, Option, Some, None, slice_get, refl, ap, sym, ◌∙◌, subst, inl, inr, arith, append_assoc, length-append, le_refl}
 use Rattle.std.proofs.lemmas.List.{append-nil, map-append}
 use Rattle.std.specs.Option.{option_to_list}
 use mathlib.Core.List.{IsPrefix}
@@ -17,13 +17,13 @@ use Rattle.rpc_journal.specs.Laws.{seat_of}
 use Rattle.rpc_journal.specs.Quiet.{is_settled}
 use Rattle.rpc_journal.proofs.ItemLemmas.{flushes_count, flushes_of_seat, items_begin}
 use Rattle.rpc_shared.specs.Steps.{Steps}
-use Rattle.rpc_crew.specs.declared.parcel.Parcel.{Parcel}
-use Rattle.rpc_crew.specs.declared.parcel.Parcel.TheVariants.{End, Put}
-use Rattle.rpc_crew.specs.Crew.{Adds, Lock, Seat, is_pumps}
-use Rattle.rpc_crew.specs.Ring.{PumpEnded, Pumps, Takes, Ticked}
-use Rattle.rpc_crew.specs.Sessions.{AreSpaced, is_halted, last_from}
-use Rattle.rpc_crew.proofs.PassLemmas.{kinds_after, stands_after}
-use Rattle.rpc_crew.proofs.StepLemmas.{flush_adds}
+use Rattle.rpc_shared.specs.declared.session.parcel.Parcel.{Parcel}
+use Rattle.rpc_shared.specs.declared.session.parcel.Parcel.TheVariants.{End, Put}
+use Rattle.rpc_shared.specs.session.Crew.{Adds, Lock, Seat, is_pumps}
+use Rattle.rpc_shared.specs.session.Ring.{PumpEnded, Pumps, Takes, Ticked}
+use Rattle.rpc_shared.specs.session.Sessions.{AreSpaced, LeavesNoneDue, is_halted, last_from}
+use Rattle.rpc_shared.proofs.session.PassLemmas.{kinds_after, stands_after}
+use Rattle.rpc_shared.proofs.session.StepLemmas.{flush_adds}
 
 -- ---- counts and moments of entries
 
@@ -162,6 +162,10 @@ pub last_earlier : (earlier start : ℕ) (ts : List ℕ) → earlier ≤ start �
 last_earlier earlier start [] before = before
 last_earlier earlier start (t ∷ ts) before = le_refl (last_from t ts)
 
+pub spaced_up : (start : ℕ) (ts : List ℕ) → AreSpaced start ts → start ≤ last_from start ts
+spaced_up start [] spaced = le_refl start
+spaced_up start (t ∷ ts) spaced = omega (arith, spaced.0, spaced_up t ts spaced.1)
+
 pub ticked_kept : (start : ℕ) (mine more : List Entry) (ticked last later : ℕ) → Ticked start mine ticked last → moments more ≡ moments mine → last ≤ later → Ticked start more ticked later
 ticked_kept start mine more ticked last later so same after = record {
   spaced = subst (AreSpaced start) (sym same) so.spaced;
@@ -177,6 +181,10 @@ ticked_more start mine more seat ticked last now later so is far at_now =
       last_is = ap (last_from start) same ∙ last_push start (moments mine) now;
       past = omega (arith, at_now);
     }
+
+-- where the clock's last moment is less than 500 past the last Tick
+pub none_due : (start : ℕ) (mine : List Entry) (ticked last : ℕ) → Ticked start mine ticked last → last < ticked + 500 → LeavesNoneDue start last (moments mine)
+none_due start mine ticked last so soon = record { spaced = so.spaced; none_due = omega (arith, so.last_is, soon) }
 
 -- a Halt is neither a flush nor a tick
 pub halt_moments : (mine more : List Entry) (k : ℕ) (why : Why) → (more ≡ mine) ⊎ (more ≡ mine ++ entry_by k (Halt why) ∷ []) → moments more ≡ moments mine

@@ -1,5 +1,5 @@
 -- The clauses of a session.
-use Rattle.std.proofs.Common.{◌≡◌, ◌⊎◌, ℕ, ◌+◌, ◌<◌, ◌≤◌, ◌^◌, true, false, List, [], ◌∷◌, ◌++◌, length, Option, Some, None, is_some, is_none, refl, ap, sym, ◌∙◌, subst, inl, inr, arith, length-append}
+use Rattle.std.proofs.Common.{◌≡◌, ◌⊎◌, ℕ, ◌+◌, ◌<◌, ◌≤◌, ◌^◌, Bool, true, false, List, [], ◌∷◌, ◌++◌, length, Option, Some, None, is_some, is_none, refl, ap, sym, ◌∙◌, subst, inl, inr, arith, length-append}
 use Rattle.std.proofs.lemmas.Bool.{false≢true, true≢false}
 use Rattle.std.proofs.lemmas.List.{append-nil}
 use Rattle.std.specs.Io.KnownBytes.{Appends, IsAtEnd}
@@ -26,13 +26,14 @@ use Rattle.rpc_journal.specs.CallTable.{Table}
 use Rattle.rpc_schedule.specs.declared.stream.TheConstants.{INPUT_LIMIT}
 use Rattle.rpc_schedule.specs.Kept as store
 use Rattle.rpc_shared.specs.Steps.{base_of, log_of}
-use Rattle.rpc_crew.specs.declared.item_log.ItemLog.{ItemLog}
-use Rattle.rpc_crew.specs.declared.parcel.Parcel.{Parcel}
-use Rattle.rpc_crew.specs.Crew.{AllWorked, AreWorkers, Fed, HasRead, Lock, ReaderEnded, Seat}
-use Rattle.rpc_crew.specs.Reasons.{reason_of, reason_read}
-use Rattle.rpc_crew.specs.Ring.{HaltsFor, PumpEnded, WriterEnded}
-use Rattle.rpc_crew.specs.Sessions.{AreSpaced, Begins, Explains, IsSessionHistory, TicksBetween, is_halted, is_halting, last_from, wire}
-use Rattle.rpc_crew.proofs.SessionLemmas.{AllMade, Closed, all_idle_again, all_late, all_worked, few_flushed, few_made, flushed_begin, halting_reason, made_all, made_begin, pump_halted_too, reader_halted, session_arrivals, session_kinds, session_moments, settled_items, settled_whole, writer_halted_too, writers_halt}
+use Rattle.rpc_shared.specs.declared.session.item_log.ItemLog.{ItemLog}
+use Rattle.rpc_shared.specs.declared.session.parcel.Parcel.{Parcel}
+use Rattle.rpc_shared.specs.session.Crew.{AllWorked, AreWorkers, Fed, HasRead, Lock, ReaderEnded, Seat}
+use Rattle.rpc_shared.specs.session.Reasons.{reason_of, reason_read}
+use Rattle.rpc_shared.specs.session.Ring.{HaltsFor, PumpEnded, WriterEnded}
+use Rattle.rpc_shared.specs.session.Sessions.{AreSpaced, Begins, Explains, IsSessionHistory, LeavesNoneDue, TicksBetween, is_halted, is_halting, last_from, wire}
+use Rattle.rpc_crew.proofs.PumpLemmas.{last_earlier, spaced_earlier, spaced_up}
+use Rattle.rpc_shared.proofs.session.SessionLemmas.{AllMade, Closed, all_idle_again, all_late, all_worked, few_flushed, few_made, flushed_begin, halting_reason, made_all, made_begin, pump_halted_too, reader_halted, session_arrivals, session_kinds, session_moments, settled_items, settled_whole, writer_halted_too, writers_halt}
 
 -- all that the threads of a session did, once its table is closed
 pub record Whole (rule : HandlerRule) (r : Lock) (workers : ℕ) (left_old left_new w0 w : Option (List ℕ)) (d0 d : Option Stored) (l0 l : ItemLog) (listener : Listening) (counts : Counts) (ending : Option Ending) (read done : ℕ) (t : Table) (q0 q1 qw : Seat) (qs : List Seat) : Type 0 where
@@ -248,10 +249,28 @@ module _ (rule : HandlerRule) (r : Lock) (workers : ℕ) (left_old left_new w0 w
     pub store_halted : why ≡ Store → HaltsFor Store qw.view.known.mine
     store_halted is = writers_halt rule r workers q0 q1 qw qs t closed Store refl (halts_of Store is refl (λ same. cc same))
 
-  pub ticks_between : (start end : ℕ) → AreSpaced start (moments q1.view.known.mine) → last_from start (moments q1.view.known.mine) ≤ end → TicksBetween start end t.entries
-  ticks_between start end spaced past =
+  -- its Ticks are those of the pump, which began at this moment
+  pub ticks_between : (start began end : ℕ) → start ≤ began → AreSpaced began (moments q1.view.known.mine) → last_from began (moments q1.view.known.mine) ≤ end → TicksBetween start end t.entries
+  ticks_between start began end after spaced past =
       let same = session_moments rule r workers q0 q1 qw qs t closed in
-      record { spaced = subst (AreSpaced start) (sym same) spaced; past = subst (λ ts. last_from start ts ≤ end) (sym same) past }
+      let ticks = moments q1.view.known.mine in
+      record {
+        spaced = subst (AreSpaced start) (sym same) (spaced_earlier start began ticks after spaced);
+        past = subst (λ ts. last_from start ts ≤ end) (sym same) (omega (arith, last_earlier start began ticks after, past));
+      }
+
+  pub none_left_due : (began end : ℕ) → (is_halted r.base q1.view.known.seen ≡ false → LeavesNoneDue began end (moments q1.view.known.mine))
+      → is_halted r.base t.entries ≡ false → LeavesNoneDue began end (moments t.entries)
+  unfolding closed
+  none_left_due began end due calm =
+      subst (LeavesNoneDue began end) (sym (session_moments rule r workers q0 q1 qw qs t closed)) (due (unhalted (is_halted r.base q1.view.known.seen) refl))
+    where
+      unhalted : (b : Bool) → is_halted r.base q1.view.known.seen ≡ b → is_halted r.base q1.view.known.seen ≡ false
+      unhalted true halted = absurd (true≢false (sym (pump_halted_too rule r workers q0 q1 qw qs t closed halted) ∙ calm))
+      unhalted false calm_then = calm_then
+
+  pub began_before : (began end : ℕ) → last_from began (moments q1.view.known.mine) ≤ end → AreSpaced began (moments q1.view.known.mine) → began ≤ end
+  began_before began end past spaced = omega (arith, past, spaced_up began (moments q1.view.known.mine) spaced)
 
 -- ---- from the passes that went out to those that came back
 

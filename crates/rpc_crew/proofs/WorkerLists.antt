@@ -3,7 +3,7 @@ use Rattle.std.proofs.Common.{◌≡◌, suc, List, [], ◌∷◌, ◌++◌, len
 use Rattle.entry_lists.proofs.Makers.{all_first, all_second}
 use Rattle.rpc_handlers.specs.HandlerRule.{HandlerRule}
 use Rattle.turn_cell.specs.Passes.{IsSame}
-use Rattle.rpc_crew.specs.Crew.{AllWorked, AreWorkers, Lock, Seat, Worker}
+use Rattle.rpc_shared.specs.session.Crew.{AllWorked, AreWorkers, Lock, Seat, Worker}
 
 module _ (rule : HandlerRule) (r : Lock) where
   pub are_front : (ps : List Seat) (p : Seat) → AreWorkers rule r (ps ++ p ∷ []) → AreWorkers rule r ps

@@ -5,16 +5,12 @@
 mod bell;
 mod gate;
 mod halting;
-mod item_log;
 mod outcome;
-mod parcel;
 mod pumping;
 mod reading;
 mod running;
 mod serving;
 mod table;
-#[cfg(test)]
-mod tests;
 mod threads;
 mod working;
 mod writing;

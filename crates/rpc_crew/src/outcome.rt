@@ -19,6 +19,8 @@ pub struct Session {
     pub read: u64,
     /// How many items were written or made whole.
     pub done: u64,
+    /// The first moment that the clock gave: the first Tick is due 500 ms past it.
+    pub began: u64,
 }
 
 /// The same with the table itself, and the items that were made, in order: what a report of the calls takes.
@@ -34,6 +36,8 @@ pub struct Served<H: Handler> {
     pub read: u64,
     /// How many items were written or made whole.
     pub done: u64,
+    /// The first moment that the clock gave, as in [`Session`].
+    pub began: u64,
     /// These items.
     pub items: Vec<Item>,
 }

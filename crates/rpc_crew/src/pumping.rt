@@ -1,22 +1,22 @@
 //! The pump: it tells the table the time, and takes what goes out to the ring.
-ghost use Rattle.std.specs.Prelude.{◌≡◌, ℕ, ◌≤◌, true, false, [], ◌∷◌, ◌++◌, Some, None, is_some, IfOk, OnErr};
+ghost use Rattle.std.specs.Prelude.{◌≡◌, ℕ, ◌+◌, ◌<◌, ◌≤◌, true, false, [], ◌∷◌, ◌++◌, Some, None, is_some, IfOk, OnOk, OnErr};
 ghost use Rattle.rpc_journal.specs.Items.{flushes, moments};
 ghost use Rattle.rtrb.specs.Ring.{SameProducer, sent};
 ghost use Rattle.rtrb.specs.declared.errors.PushError.TheVariants.{Full};
 ghost use Rattle.turn_cell.specs.Passes.{IsSame};
-ghost use Rattle.rpc_crew.specs.Crew.{Adds, Stands, is_pumps};
-ghost use Rattle.rpc_crew.specs.Ring.{PumpEnded, Pumps, Ticked};
-ghost use Rattle.rpc_crew.specs.Sessions.{AreSpaced, is_halted, last_from};
-ghost use Rattle.rpc_crew.specs.declared.parcel.Parcel.{Parcel};
-ghost use Rattle.rpc_crew.specs.declared.parcel.Parcel.TheVariants.{End};
+ghost use Rattle.rpc_shared.specs.session.Crew.{Adds, Stands, is_pumps};
+ghost use Rattle.rpc_shared.specs.session.Ring.{PumpEnded, Pumps, Ticked};
+ghost use Rattle.rpc_shared.specs.session.Sessions.{AreSpaced, TicksInTime, is_halted, last_from};
+ghost use Rattle.rpc_shared.specs.declared.session.parcel.Parcel.{Parcel};
+ghost use Rattle.rpc_shared.specs.declared.session.parcel.Parcel.TheVariants.{End};
 
 use crate::bell::Bell;
 use crate::halting::{Halted, halt};
-use crate::parcel::Parcel;
 use crate::table::Table;
 use link_io::{Clock, Why};
 use rpc_calls::StartRefused;
 use rpc_handlers::Handler;
+use rpc_shared::session::parcel::Parcel;
 use rpc_shared::{Look, Pass};
 use rtrb::{Producer, PushError};
 use std::sync::Wait;
@@ -33,24 +33,27 @@ const ROUND: u64 = 2;
 struct Ended;
 
 /// Ticks and flushes until the table is settled and the ring has had all items and the end, or the table is halted. An item is
-/// flushed only when the one before it is in the ring.
+/// flushed only when the one before it is in the ring. The first Tick is due `TICK` past the moment `began`.
 pub(crate) fn pump<H: Handler, C: Clock, R: Wait>(
     rt: &R,
     shared: &Table<H>,
     pass: &mut Pass<H>,
     ring: &mut Producer<Parcel>,
     clock: &mut C,
+    began: u64,
 )
     requires pumps { Pumps H.rule shared.now (sent ring.old) None pass.old }
     requires fresh { pass.old.view.known.mine ≡ [] }
+    requires began { C.last clock.old ≡ began }
     ensures ended { PumpEnded H.rule shared.now (sent ring.new) pass.new }
     ensures same { IsSame pass.old pass.new }
     ensures ring { SameProducer ring.old ring.new }
-    ensures spaced { AreSpaced (C.last clock.old) (moments pass.new.view.known.mine) }
-    ensures past { last_from (C.last clock.old) (moments pass.new.view.known.mine) ≤ C.last clock.new }
+    ensures spaced { AreSpaced began (moments pass.new.view.known.mine) }
+    ensures past { last_from began (moments pass.new.view.known.mine) ≤ C.last clock.new }
+    ensures due { TicksInTime shared.now.base pass.new.view.known.seen began (C.last clock.new) (moments pass.new.view.known.mine) }
 {
     shared.bells().begun.ring();
-    let mut ticked = clock.now();
+    let mut ticked = began;
     let mut hand = None;
     for _ in rt.forever() {
         if tick(rt, shared, pass, clock, &mut ticked).is_err() {
@@ -78,6 +81,7 @@ fn tick<H: Handler, C: Clock, R: Wait>(
     ensures adds { Adds H.rule shared.now is_pumps pass.old pass.new }
     ensures flushes { flushes pass.new.view.known.mine ≡ flushes pass.old.view.known.mine }
     ensures ticks { (start : ℕ) → Ticked start pass.old.view.known.mine ticked.old (C.last clock.old) → Ticked start pass.new.view.known.mine ticked.new (C.last clock.new) }
+    ensures due { OnOk result (C.last clock.new < ticked.new + 500) }
     ensures halted { OnErr result (is_halted shared.now.base pass.new.view.known.seen ≡ true) }
 {
     let now = clock.now();

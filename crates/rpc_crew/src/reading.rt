@@ -11,8 +11,8 @@ ghost use Rattle.rpc_journal.specs.Items.{arrivals};
 ghost use Rattle.rpc_packet.specs.Hearing.{Hears};
 ghost use Rattle.rpc_packet.specs.Message.{message_of};
 ghost use Rattle.rpc_shared.specs.Steps.{IsOwn};
-ghost use Rattle.rpc_crew.specs.Crew.{Adds, Cut, Fed, HasRead, Reader, ReaderEnded, is_workers};
-ghost use Rattle.rpc_crew.specs.Sessions.{is_halted};
+ghost use Rattle.rpc_shared.specs.session.Crew.{Adds, Cut, Fed, HasRead, Reader, ReaderEnded, is_workers};
+ghost use Rattle.rpc_shared.specs.session.Sessions.{is_halted};
 
 use crate::Gate;
 use crate::bell::Bell;

@@ -2,8 +2,8 @@
 ghost use Rattle.std.specs.Prelude.{◌≡◌, true, OnErr};
 ghost use Rattle.rpc_shared.specs.OwnRuns.{Runs};
 ghost use Rattle.rpc_shared.specs.Steps.{IsOwn};
-ghost use Rattle.rpc_crew.specs.Crew.{Adds, is_workers};
-ghost use Rattle.rpc_crew.specs.Sessions.{is_halted};
+ghost use Rattle.rpc_shared.specs.session.Crew.{Adds, is_workers};
+ghost use Rattle.rpc_shared.specs.session.Sessions.{is_halted};
 
 use crate::Gate;
 use crate::halting::{Halted, halt};

@@ -4,13 +4,12 @@ ghost use Rattle.std.specs.Io.KnownBytes.{IsAtEnd};
 ghost use Rattle.link_io.specs.Causes.{Rose};
 ghost use Rattle.link_io.specs.declared.why.Why.TheVariants.{Settled, Source as Read, Sink as Link, Store as Depot, InputLimit};
 ghost use Rattle.rpc_journal.specs.declared.item.Item.{Item};
+ghost use Rattle.rpc_journal.specs.Items.{moments};
 ghost use Rattle.rpc_schedule.specs.declared.stream.TheConstants.{INPUT_LIMIT};
-ghost use Rattle.rpc_crew.specs.Log.{Logs};
-ghost use Rattle.rpc_crew.specs.Reasons.{reason_of};
-ghost use Rattle.rpc_crew.specs.Sessions.{Begins, Explains, IsSessionHistory, TicksBetween, is_halted, session_setting};
+ghost use Rattle.rpc_shared.specs.session.Log.{Logs};
+ghost use Rattle.rpc_shared.specs.session.Reasons.{reason_of};
+ghost use Rattle.rpc_shared.specs.session.Sessions.{Begins, Explains, IsSessionHistory, LeavesNoneDue, TicksBetween, is_halted, session_setting};
 
-use crate::item_log::ItemLog;
-use crate::parcel::Parcel;
 use crate::table::Table;
 use crate::threads::run_threads;
 use crate::working::Workers;
@@ -22,6 +21,8 @@ use rpc_frames::{Counts, Listener};
 use rpc_handlers::{Handler, Maker};
 use rpc_ids::{Registry, Role};
 use rpc_shared::Pass;
+use rpc_shared::session::item_log::ItemLog;
+use rpc_shared::session::parcel::Parcel;
 use rtrb::RingBuffer;
 use std::alloc::{AllocError, Global};
 use std::sync::Wait;
@@ -32,7 +33,7 @@ const PLACES: usize = 256;
 
 /// Serves one link until its input has ended and all that it asked for is done, or the table is halted. A reader, a pump, a writer
 /// and 1 to 16 workers share one table of calls, each in a thread of its own; where one can't be made the table is halted for want
-/// of memory, with nothing read. The time is asked of the clock alone, and the gate stands at each run of a handler. A fault of the
+/// of memory, with nothing read. The time is asked of the clock alone, here for the first time, and the gate stands at each run of a handler. A fault of the
 /// source and the limit of 67,108,864 bytes end the input, and the session still settles; a fault of the sink or the store, a full
 /// journal and want of memory halt it.
 ///
@@ -75,6 +76,8 @@ where
     ensures sink { IfOk result (λ s. s.why ≡ Link → Rose (O.faults link_out.old) (O.faults link_out.new)) }
     ensures store { IfOk result (λ s. s.why ≡ Depot → Rose (S.faults store.old) (S.faults store.new)) }
     ensures ticks { IfOk result (λ s. TicksBetween (C.last clock.old) (C.last clock.new) s.journal.entries) }
+    ensures began { IfOk result (λ s. (C.last clock.old ≤ s.began) × (s.began ≤ C.last clock.new)) }
+    ensures due { IfOk result (λ s. is_halted (session_setting channels registry (M.seed_memo maker.now)) s.journal.entries ≡ false → LeavesNoneDue s.began (C.last clock.new) (moments s.journal.entries)) }
     ensures open { O.finished link_out.new ≡ false }
     ensures later { (I.faults link_in.old ≤ I.faults link_in.new) × (O.faults link_out.old ≤ O.faults link_out.new) × (S.faults store.old ≤ S.faults store.new) }
     ensures untouched { OnErr result ((link_in.new ≡ link_in.old) × (link_out.new ≡ link_out.old) × (store.new ≡ store.old) × (clock.new ≡ clock.old)) }
@@ -90,6 +93,7 @@ where
         counts: served.counts,
         read: served.read,
         done: served.done,
+        began: served.began,
     })
 }
 
@@ -134,6 +138,8 @@ where
     ensures sink { IfOk result (λ s. s.why ≡ Link → Rose (O.faults link_out.old) (O.faults link_out.new)) }
     ensures store { IfOk result (λ s. s.why ≡ Depot → Rose (S.faults store.old) (S.faults store.new)) }
     ensures ticks { IfOk result (λ s. TicksBetween (C.last clock.old) (C.last clock.new) s.calls.entries) }
+    ensures began { IfOk result (λ s. (C.last clock.old ≤ s.began) × (s.began ≤ C.last clock.new)) }
+    ensures due { IfOk result (λ s. is_halted (session_setting channels registry (M.seed_memo maker.now)) s.calls.entries ≡ false → LeavesNoneDue s.began (C.last clock.new) (moments s.calls.entries)) }
     ensures setting { IfOk result (λ s. s.calls.setting ≡ (session_setting channels registry (M.seed_memo maker.now))) }
     ensures open { O.finished link_out.new ≡ false }
     ensures later { (I.faults link_in.old ≤ I.faults link_in.new) × (O.faults link_out.old ≤ O.faults link_out.new) × (S.faults store.old ≤ S.faults store.new) }
@@ -150,6 +156,7 @@ where
         counts: served.counts,
         read: served.read,
         done: served.done,
+        began: served.began,
         items: log.items,
     })
 }
@@ -162,6 +169,7 @@ struct Ended<H: Handler> {
     counts: Counts,
     read: u64,
     done: u64,
+    began: u64,
 }
 
 fn serve<
@@ -201,6 +209,8 @@ where
     ensures sink { IfOk result (λ s. s.why ≡ Link → Rose (O.faults link_out.old) (O.faults link_out.new)) }
     ensures store { IfOk result (λ s. s.why ≡ Depot → Rose (S.faults store.old) (S.faults store.new)) }
     ensures ticks { IfOk result (λ s. TicksBetween (C.last clock.old) (C.last clock.new) s.calls.entries) }
+    ensures began { IfOk result (λ s. (C.last clock.old ≤ s.began) × (s.began ≤ C.last clock.new)) }
+    ensures due { IfOk result (λ s. is_halted (session_setting channels registry (M.seed_memo maker.now)) s.calls.entries ≡ false → LeavesNoneDue s.began (C.last clock.new) (moments s.calls.entries)) }
     ensures setting { IfOk result (λ s. s.calls.setting ≡ (session_setting channels registry (M.seed_memo maker.now))) }
     ensures open { O.finished link_out.new ≡ false }
     ensures later { (I.faults link_in.old ≤ I.faults link_in.new) × (O.faults link_out.old ≤ O.faults link_out.new) × (S.faults store.old ≤ S.faults store.new) }
@@ -217,6 +227,7 @@ where
         mut writer,
         workers: mut crew,
     } = apart(passes);
+    let began = clock.now();
     let (done, reading) = run_threads(
         rt,
         alloc,
@@ -234,6 +245,7 @@ where
         store,
         log,
         clock,
+        began,
         gate,
     );
     let calls = shared.close(together(Passes {
@@ -250,6 +262,7 @@ where
         counts: listener.counts(),
         read: reading.read,
         done,
+        began,
         calls,
     })
 }

@@ -9,13 +9,11 @@ ghost use Rattle.rpc_ids.specs.declared.method.Role.TheVariants.{Server};
 ghost use Rattle.rpc_journal.specs.Items.{moments};
 ghost use Rattle.rtrb.specs.Ring.{SameConsumer, SameProducer, received, sent};
 ghost use Rattle.turn_cell.specs.Passes.{IsSame};
-ghost use Rattle.rpc_crew.specs.Crew.{AllWorked, AreWorkers, Fed, HasRead, Reader, ReaderEnded};
-ghost use Rattle.rpc_crew.specs.Ring.{HaltsFor, PumpEnded, Pumps, WriterEnded, Writes};
-ghost use Rattle.rpc_crew.specs.Sessions.{AreSpaced, last_from};
+ghost use Rattle.rpc_shared.specs.session.Crew.{AllWorked, AreWorkers, Fed, HasRead, Reader, ReaderEnded};
+ghost use Rattle.rpc_shared.specs.session.Ring.{HaltsFor, PumpEnded, Pumps, WriterEnded, Writes};
+ghost use Rattle.rpc_shared.specs.session.Sessions.{AreSpaced, TicksInTime, last_from};
 
 use crate::Gate;
-use crate::item_log::ItemLog;
-use crate::parcel::Parcel;
 use crate::pumping::pump;
 use crate::reading::{Reading, read};
 use crate::table::Table;
@@ -25,6 +23,8 @@ use link_io::{Clock, Sink, Source, Store};
 use rpc_frames::Listener;
 use rpc_handlers::Maker;
 use rpc_shared::Pass;
+use rpc_shared::session::item_log::ItemLog;
+use rpc_shared::session::parcel::Parcel;
 use rtrb::{Consumer, Producer};
 use std::alloc::Global;
 use std::sync::Wait;
@@ -57,6 +57,7 @@ pub(crate) fn run_threads<
     store: &'a mut S,
     log: &'a mut ItemLog,
     clock: &'a mut C,
+    began: u64,
     gate: &'a G,
 ) -> (u64, Reading)
 where
@@ -68,6 +69,7 @@ where
     requires workers { AreWorkers M.H.rule shared.now workers.old.passes.items }
     requires pumps { Pumps M.H.rule shared.now (sent ring.old) None pumper.old }
     requires fresh { pumper.old.view.known.mine ≡ [] }
+    requires began { C.last clock.old ≡ began }
     requires writes { Writes M.H.rule shared.now (O.written link_out.old) (O.written link_out.old) (S.holds store.old) (S.holds store.old) log.old log.old (received end.old) 0 writer.old }
     requires open { O.finished link_out.old ≡ false }
     ensures reader { ReaderEnded M.H.rule shared.now reader.new × IsSame reader.old reader.new }
@@ -78,8 +80,9 @@ where
     ensures room { vec_capacity workers.new.passes ≡ vec_capacity workers.old.passes }
     ensures pump { PumpEnded M.H.rule shared.now (sent ring.new) pumper.new × IsSame pumper.old pumper.new }
     ensures producer { SameProducer ring.old ring.new }
-    ensures spaced { AreSpaced (C.last clock.old) (moments pumper.new.view.known.mine) }
-    ensures past { last_from (C.last clock.old) (moments pumper.new.view.known.mine) ≤ C.last clock.new }
+    ensures spaced { AreSpaced began (moments pumper.new.view.known.mine) }
+    ensures past { last_from began (moments pumper.new.view.known.mine) ≤ C.last clock.new }
+    ensures due { TicksInTime shared.now.base pumper.new.view.known.seen began (C.last clock.new) (moments pumper.new.view.known.mine) }
     ensures writer { WriterEnded M.H.rule shared.now (O.written link_out.old) (O.written link_out.new) (S.holds store.old) (S.holds store.new) log.old log.new (received end.new) result.0 writer.new × IsSame writer.old writer.new }
     ensures consumer { SameConsumer end.old end.new }
     ensures sink { HaltsFor Link writer.new.view.known.mine → Rose (O.faults link_out.old) (O.faults link_out.new) }
@@ -101,11 +104,11 @@ where
         { write(rt, own, shared, writer, end, link_out, store, log) },
         &mut || -> Reading
             requires { IsSync R.row × Reader M.H.rule shared.now reader.now × Fed listener.now reader.now [] × (shared.now.base.role ≡ Server) × (M.seed_memo maker.now ≡ shared.now.base.seed)
-                × AreWorkers M.H.rule shared.now workers.now.passes.items × Pumps M.H.rule shared.now (sent ring.now) None pumper.now × (pumper.now.view.known.mine ≡ []) }
+                × AreWorkers M.H.rule shared.now workers.now.passes.items × Pumps M.H.rule shared.now (sent ring.now) None pumper.now × (pumper.now.view.known.mine ≡ []) × (C.last clock.now ≡ began) }
         {
             pumped_any(
                 rt, alloc, shared, reader, pumper, workers, ring, listener, link_in, maker, clock,
-                gate,
+                began, gate,
             )
         },
     )
@@ -130,6 +133,7 @@ fn pumped_any<
     link_in: &mut I,
     maker: &M,
     clock: &mut C,
+    began: u64,
     gate: &G,
 ) -> Reading
 where
@@ -141,6 +145,7 @@ where
     requires workers { AreWorkers M.H.rule shared.now workers.old.passes.items }
     requires pumps { Pumps M.H.rule shared.now (sent ring.old) None pumper.old }
     requires fresh { pumper.old.view.known.mine ≡ [] }
+    requires began { C.last clock.old ≡ began }
     ensures reader { ReaderEnded M.H.rule shared.now reader.new × IsSame reader.old reader.new }
     ensures read { HasRead shared.now.base (I.left link_in.old) (I.left link_in.new) result.ending result.read listener.new reader.new }
     ensures fault { result.ending ≡ Some Failed → Rose (I.faults link_in.old) (I.faults link_in.new) }
@@ -149,11 +154,13 @@ where
     ensures room { vec_capacity workers.new.passes ≡ vec_capacity workers.old.passes }
     ensures pump { PumpEnded M.H.rule shared.now (sent ring.new) pumper.new × IsSame pumper.old pumper.new }
     ensures producer { SameProducer ring.old ring.new }
-    ensures spaced { AreSpaced (C.last clock.old) (moments pumper.new.view.known.mine) }
-    ensures past { last_from (C.last clock.old) (moments pumper.new.view.known.mine) ≤ C.last clock.new }
+    ensures spaced { AreSpaced began (moments pumper.new.view.known.mine) }
+    ensures past { last_from began (moments pumper.new.view.known.mine) ≤ C.last clock.new }
+    ensures due { TicksInTime shared.now.base pumper.new.view.known.seen began (C.last clock.new) (moments pumper.new.view.known.mine) }
 {
     pumped(
-        rt, alloc, shared, reader, pumper, workers, ring, listener, link_in, maker, clock, gate,
+        rt, alloc, shared, reader, pumper, workers, ring, listener, link_in, maker, clock, began,
+        gate,
     )
 }
 
@@ -177,6 +184,7 @@ fn pumped<
     link_in: &'a mut I,
     maker: &'a M,
     clock: &'a mut C,
+    began: u64,
     gate: &'a G,
 ) -> Reading
 where
@@ -188,6 +196,7 @@ where
     requires workers { AreWorkers M.H.rule shared.now workers.old.passes.items }
     requires pumps { Pumps M.H.rule shared.now (sent ring.old) None pumper.old }
     requires fresh { pumper.old.view.known.mine ≡ [] }
+    requires began { C.last clock.old ≡ began }
     ensures reader { ReaderEnded M.H.rule shared.now reader.new × IsSame reader.old reader.new }
     ensures read { HasRead shared.now.base (I.left link_in.old) (I.left link_in.new) result.ending result.read listener.new reader.new }
     ensures fault { result.ending ≡ Some Failed → Rose (I.faults link_in.old) (I.faults link_in.new) }
@@ -196,16 +205,18 @@ where
     ensures room { vec_capacity workers.new.passes ≡ vec_capacity workers.old.passes }
     ensures pump { PumpEnded M.H.rule shared.now (sent ring.new) pumper.new × IsSame pumper.old pumper.new }
     ensures producer { SameProducer ring.old ring.new }
-    ensures spaced { AreSpaced (C.last clock.old) (moments pumper.new.view.known.mine) }
-    ensures past { last_from (C.last clock.old) (moments pumper.new.view.known.mine) ≤ C.last clock.new }
+    ensures spaced { AreSpaced began (moments pumper.new.view.known.mine) }
+    ensures past { last_from began (moments pumper.new.view.known.mine) ≤ C.last clock.new }
+    ensures due { TicksInTime shared.now.base pumper.new.view.known.seen began (C.last clock.new) (moments pumper.new.view.known.mine) }
 {
     let (_, reading) = join_mut(
         rt,
         &mut ||
-            requires { Pumps M.H.rule shared.now (sent ring.now) None pumper.now × (pumper.now.view.known.mine ≡ []) }
+            requires { Pumps M.H.rule shared.now (sent ring.now) None pumper.now × (pumper.now.view.known.mine ≡ []) × (C.last clock.now ≡ began) }
             ensures { PumpEnded M.H.rule shared.entry.now (sent ring.exit.now) pumper.exit.now × IsSame pumper.entry.now pumper.exit.now × SameProducer ring.entry.now ring.exit.now
-                × AreSpaced (C.last clock.entry.now) (moments pumper.exit.now.view.known.mine) × (last_from (C.last clock.entry.now) (moments pumper.exit.now.view.known.mine) ≤ C.last clock.exit.now) }
-        { pump(rt, shared, pumper, ring, clock) },
+                × AreSpaced began (moments pumper.exit.now.view.known.mine) × (last_from began (moments pumper.exit.now.view.known.mine) ≤ C.last clock.exit.now)
+                × TicksInTime shared.entry.now.base pumper.exit.now.view.known.seen began (C.last clock.exit.now) (moments pumper.exit.now.view.known.mine) }
+        { pump(rt, shared, pumper, ring, clock, began) },
         &mut || -> Reading
             requires { IsSync R.row × Reader M.H.rule shared.now reader.now × Fed listener.now reader.now [] × (shared.now.base.role ≡ Server) × (M.seed_memo maker.now ≡ shared.now.base.seed)
                 × AreWorkers M.H.rule shared.now workers.now.passes.items }

@@ -3,7 +3,7 @@ ghost use Rattle.std.specs.Prelude.{◌≡◌, vec_capacity};
 ghost use Rattle.std.specs.Thread.{IsSync};
 ghost use Rattle.turn_cell.specs.Passes.{IsSame};
 ghost use Rattle.rpc_shared.specs.Steps.{IsOwn};
-ghost use Rattle.rpc_crew.specs.Crew.{Adds, AllWorked, AreWorkers, Worker, is_workers};
+ghost use Rattle.rpc_shared.specs.session.Crew.{Adds, AllWorked, AreWorkers, Worker, is_workers};
 
 use crate::Gate;
 use crate::bell::Bell;

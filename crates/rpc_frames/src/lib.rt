@@ -8,8 +8,6 @@ mod heard;
 pub mod laws;
 mod limits;
 mod listener;
-#[cfg(test)]
-mod tests;
 mod written;
 
 pub use counts::Counts;

@@ -5,6 +5,7 @@
 
 mod acts;
 mod answer;
+mod boxed;
 mod event;
 mod fun;
 mod lists;
@@ -16,6 +17,3 @@ pub use event::{Event, Memo};
 pub use fun::{Fun, Rule};
 pub use lists::{Outs, Parts, Words};
 pub use maker::{Maker, Nobody};
-
-#[cfg(test)]
-mod tests;

@@ -7,8 +7,6 @@ mod method;
 mod name_hash;
 mod registry;
 mod status;
-#[cfg(test)]
-mod tests;
 
 pub use method::{Kind, MethodRef, Role};
 pub use name_hash::hash_name;

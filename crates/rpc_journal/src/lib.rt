@@ -29,14 +29,3 @@ pub use kinds::{is_okay, is_server, is_unary};
 pub use setting::Setting;
 pub use verdict::check;
 pub use waiting::Waiting;
-
-#[cfg(test)]
-mod client_tests;
-#[cfg(test)]
-mod close_tests;
-#[cfg(test)]
-mod judge_tests;
-#[cfg(test)]
-mod test_world;
-#[cfg(test)]
-mod tests;

@@ -14,7 +14,7 @@ mod server_arrivals;
 mod state_changes;
 
 pub use answer_ends::{completes_by, end_by};
-pub use arrival_move::{Move, move_at};
+pub use arrival_move::{Move, move_at, move_of};
 pub use call_state::CallState;
 pub use call_states::CallStates;
 pub use notice::Notice;

@@ -11,8 +11,6 @@ mod packet_ref;
 mod packet_type;
 mod placed;
 mod spelling;
-#[cfg(test)]
-mod tests;
 
 pub use call_name::CallName;
 pub use owned::Packet;

@@ -1,3 +1,4 @@
+pub mod BreakLemmas
 pub mod ChoiceLemmas
 pub mod EntryLemmas
 pub mod Examples
@@ -7,6 +8,7 @@ pub mod OneThreadLemmas
 pub mod PendingLemmas
 pub mod RunOnce
 pub mod ScheduleLemmas
+pub mod SentLemmas
 pub mod ServingLemmas
 pub mod StreamLemmas
 pub mod ThereLemmas

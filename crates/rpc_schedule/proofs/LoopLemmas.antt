@@ -18,6 +18,7 @@ use Rattle.rpc_schedule.specs.Serving.{Feeds, Gives, Serving, Works, deeds, is_i
 use Rattle.rpc_schedule.specs.Settling.{FlushesAll, Grows, IsOrderly, LeadsTo, RunsAll, RunsAndFlushes, SettlesAll, Stays, StopsAtStore, StopsFull}
 use Rattle.rpc_schedule.proofs.EntryLemmas.{none_ready}
 use Rattle.rpc_schedule.proofs.ScheduleLemmas.{reaches_itself, reaches_then, reaches_turn}
+use Rattle.rpc_schedule.proofs.SentLemmas.{SendsOn, sends_itself, sends_then, sends_worked}
 use Rattle.rpc_schedule.proofs.ServingLemmas.{StepsRun, flush_steps, run_steps}
 
 pub stays_itself : (s : Serving) → Stays s s
@@ -49,6 +50,7 @@ pub record RunsOn (rule : HandlerRule) (old now : Serving) : Type 0 where
   pub orderly : IsOrderly now
   pub same_items : items_flushed (deeds now) ≡ items_flushed (deeds old)
   pub leads : LeadsTo rule old (running old.table.entries) (running now.table.entries)
+  pub sends : SendsOn old now
   pub grew : (now ≡ old) ⊎ ((length old.table.entries < MAX_ENTRIES) × (length old.table.entries < length now.table.entries))
 
 pub runs_on_from : (rule : HandlerRule) (s : Serving) → IsOrderly s → RunsOn rule s s
@@ -57,15 +59,17 @@ runs_on_from rule s orderly = record {
   orderly = orderly;
   same_items = refl;
   leads = reaches_itself rule s.table.setting (running s.table.entries);
+  sends = sends_itself s;
   grew = inl refl;
 }
 
-runs_on_step : (rule : HandlerRule) (old now next : Serving) → RunsOn rule old now → StepsRun rule now next → RunsOn rule old next
-runs_on_step rule old now next on step = record {
+runs_on_step : (rule : HandlerRule) (old now next : Serving) → RunsOn rule old now → StepsRun rule now next → SendsOn now next → RunsOn rule old next
+runs_on_step rule old now next on step sends = record {
   stays = stays_then old now next on.stays step.stays;
   orderly = step.orderly;
   same_items = step.same_items ∙ on.same_items;
   leads = leads_turn rule old now (running old.table.entries) (running now.table.entries) (running next.table.entries) on.stays.setting on.leads step.ran;
+  sends = sends_then old now next on.sends sends;
   grew = inr (omega (arith, step.below, on.stays.longer), omega (arith, step.grows, on.stays.longer));
 }
 
@@ -78,7 +82,8 @@ worked rule s next orderly (inl ends) = absurd (kept_none ends.kept orderly.unke
 worked rule s next orderly (inr ran) = run_steps rule s ran.0 next orderly ran.1 ran.2
 
 pub runs_on_more : (rule : HandlerRule) (old now next : Serving) → RunsOn rule old now → Works rule now (Ok true) next → RunsOn rule old next
-runs_on_more rule old now next on works = runs_on_step rule old now next on (worked rule now next on.orderly works)
+runs_on_more rule old now next on works =
+    runs_on_step rule old now next on (worked rule now next on.orderly works) (sends_worked rule now next (Ok true) works)
 
 pub runs_smaller : (rule : HandlerRule) (now next : Serving) → IsOrderly now → Works rule now (Ok true) next
     → MAX_ENTRIES - length next.table.entries < MAX_ENTRIES - length now.table.entries

@@ -1,6 +1,7 @@
 -- What a replay took from its source, and what the server made of it.
 use Rattle.std.specs.Prelude.{◌≡◌, ◌≢◌, ℕ, ◌<◌, ◌≤◌, true, false, List, [], ◌++◌, length, Option}
 use Rattle.std.specs.Io.KnownBytes.{Consumes, IsAtEnd}
+use mathlib.Core.List.{IsPrefix}
 use Rattle.link_io.specs.declared.reading.Ending as reading
 use Rattle.rpc_packet.specs.declared.owned.Packet.{Packet}
 use Rattle.rpc_handlers.specs.HandlerRule.{HandlerRule}
@@ -63,6 +64,17 @@ pub record FillsJournal (rule : HandlerRule) (heard : List ℕ → List Packet) 
 pub record FailsStore (rule : HandlerRule) (heard : List ℕ → List Packet) (stands : List ℕ → Type 0) (left_old left_new : Option (List ℕ)) (table : Table) (items : List Item) : Type 0 where
   pub read : StopsBehind heard stands left_old left_new table
   pub stop : IsStoreStop rule table.setting (heard read.bytes) table.entries items
+
+-- Memory was wanting. Of the bytes taken a beginning was fed; what arrived is a beginning of the packets in those. The items that
+-- went out are a beginning of all that the table has sent.
+pub record BreaksOff (heard : List ℕ → List Packet) (stands : List ℕ → Type 0) (left_old left_new : Option (List ℕ)) (table : Table) (items : List Item) : Type 0 where
+  pub bytes : List ℕ
+  pub unfed : List ℕ
+  pub taken : Consumes left_old left_new (bytes ++ unfed)
+  pub within : length (bytes ++ unfed) ≤ INPUT_LIMIT
+  pub fed : stands bytes
+  pub arrived : IsPrefix (arrivals table.entries) (heard bytes)
+  pub sent : IsPrefix items (items_sent (past table))
 
 -- what a replay with this ending did
 abbrev pub Replayed : HandlerRule → (List ℕ → List Packet) → (List ℕ → Type 0) → Option (List ℕ) → Option (List ℕ) → Ending → Table → List Item → Type 0

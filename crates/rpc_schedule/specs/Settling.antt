@@ -1,5 +1,6 @@
 -- What the loops do to a server.
 use Rattle.std.specs.Prelude.{◌≡◌, ℕ, ◌<◌, ◌≤◌, true, false, List, ◌++◌, length, reverse, take, Some, None}
+use mathlib.Core.List.{IsPrefix}
 use Rattle.rpc_packet.specs.declared.owned.Packet.{Packet}
 use Rattle.rpc_handlers.specs.HandlerRule.{HandlerRule}
 use Rattle.rpc_journal.specs.declared.entry.TheConstants.{MAX_ENTRIES}
@@ -129,3 +130,10 @@ pub record FillsWithin (rule : HandlerRule) (heard : List ℕ → List Packet) (
 pub record FailsWithin (rule : HandlerRule) (heard : List ℕ → List Packet) (stood stands : List ℕ → Type 0) (piece : List ℕ) (s : Serving) (items : List Item) : Type 0 where
   pub part : StopsIn heard stood stands piece s
   pub stop : IsStoreStopFor rule s items
+
+-- how far a piece was fed before a server broke off, and what had gone out by then
+pub record BreaksWithin (stood stands : List ℕ → Type 0) (piece : List ℕ) (s : Serving) (items : List Item) : Type 0 where
+  pub count : ℕ
+  pub within : count ≤ length piece
+  pub fed : (bytes : List ℕ) → stood bytes → stands (bytes ++ take count piece)
+  pub sent : IsPrefix items (items_sent (deeds s))

@@ -21,6 +21,3 @@ pub use seats::{ARRIVALS, FLUSHES, RUNS};
 pub use serves::Serves;
 pub(crate) use stop::Stop;
 pub use stream::{INPUT_LIMIT, replay};
-
-#[cfg(test)]
-mod tests;

@@ -1,5 +1,6 @@
 //! A stream from its source to a server, and what comes of it.
-ghost use Rattle.std.specs.Prelude.{◌≡◌, ℕ, ◌≤◌, true, [], ◌++◌, Err, IfOk, List, OnOk, Ok, Option};
+ghost use Rattle.std.specs.Prelude.{◌≡◌, ℕ, ◌≤◌, true, [], ◌++◌, Err, IfOk, List, OnErr, OnOk, Ok, Option};
+ghost use mathlib.Core.List.{IsPrefix};
 ghost use Rattle.link_io.specs.Causes.{Rose};
 ghost use Rattle.link_io.specs.Reading.{ConsumesUpTo};
 ghost use Rattle.link_io.specs.declared.reading.Ending.TheVariants.{Failed};
@@ -9,9 +10,9 @@ ghost use Rattle.rpc_schedule.specs.declared.ending.Ending.TheVariants.{SourceFa
 ghost use Rattle.rpc_schedule.specs.declared.stop.Stop.TheVariants as stop;
 ghost use Rattle.rpc_schedule.specs.Fresh.{IsFresh};
 ghost use Rattle.rpc_schedule.specs.Kept.{Holds};
-ghost use Rattle.rpc_schedule.specs.Replays.{FailsStore, FillsJournal, Reads, Replayed};
+ghost use Rattle.rpc_schedule.specs.Replays.{BreaksOff, FailsStore, FillsJournal, Reads, Replayed};
 ghost use Rattle.rpc_schedule.specs.Serving.{deeds};
-ghost use Rattle.rpc_schedule.specs.Settling.{FailsWithin, FillsWithin, IsCalm, IsDone, IsFullFor, IsStoreStopFor};
+ghost use Rattle.rpc_schedule.specs.Settling.{BreaksWithin, FailsWithin, FillsWithin, IsCalm, IsDone, IsFullFor, IsStoreStopFor};
 
 use crate::settling::settle;
 use crate::{Ending, Serves, Stop};
@@ -31,7 +32,7 @@ const PIECE: usize = 4_096;
 ///
 /// # Errors
 ///
-/// For want of memory. What was done until then is lost.
+/// For want of memory. The items that went out, and what they made of the store, are then a beginning of what the table has sent.
 pub fn replay<T: Serves, I: Source, S: Store>(
     server: &mut T,
     input: &mut I,
@@ -42,6 +43,8 @@ pub fn replay<T: Serves, I: Source, S: Store>(
     requires unfed { T.stands server.old [] }
     requires items { items.old.items ≡ [] }
     ensures replayed { IfOk result (λ ending. Replayed T.rule T.heard (T.stands server.new) (I.left input.old) (I.left input.new) ending
+        (T.seen server.new).table items.new.items) }
+    ensures broken { OnErr result (BreaksOff T.heard (T.stands server.new) (I.left input.old) (I.left input.new)
         (T.seen server.new).table items.new.items) }
     ensures setting { (T.seen server.new).table.setting ≡ (T.seen server.old).table.setting }
     ensures read { ConsumesUpTo INPUT_LIMIT (I.left input.old) (I.left input.new) }
@@ -78,6 +81,8 @@ fn replay_all<T: Serves, I: Source, S: Store>(
         (T.seen server.new).table items.new.items }
     ensures fails { result ≡ Err stop.Store → FailsStore T.rule T.heard (T.stands server.new) (I.left input.old) (I.left input.new)
         (T.seen server.new).table items.new.items }
+    ensures broken { OnErr result (BreaksOff T.heard (T.stands server.new) (I.left input.old) (I.left input.new)
+        (T.seen server.new).table items.new.items) }
     ensures setting { (T.seen server.new).table.setting ≡ (T.seen server.old).table.setting }
     ensures read { ConsumesUpTo INPUT_LIMIT (I.left input.old) (I.left input.new) }
     ensures fault { result ≡ Ok Failed → Rose (I.faults input.old) (I.faults input.new) }
@@ -108,6 +113,8 @@ fn feed_stream<T: Serves, I: Source, S: Store>(
         (T.seen server.new).table items.new.items }
     ensures fails { result ≡ Err stop.Store → FailsStore T.rule T.heard (T.stands server.new) (I.left input.old) (I.left input.new)
         (T.seen server.new).table items.new.items }
+    ensures broken { OnErr result (BreaksOff T.heard (T.stands server.new) (I.left input.old) (I.left input.new)
+        (T.seen server.new).table items.new.items) }
     ensures setting { (T.seen server.new).table.setting ≡ (T.seen server.old).table.setting }
     ensures read { ConsumesUpTo INPUT_LIMIT (I.left input.old) (I.left input.new) }
     ensures fault { result ≡ Ok Failed → Rose (I.faults input.old) (I.faults input.new) }
@@ -148,6 +155,7 @@ fn feed_all<T: Serves, S: Store>(
         FillsWithin T.rule T.heard (T.stands server.old) (T.stands server.new) piece.now (T.seen server.new) items.new.items }
     ensures fails { result ≡ Err stop.Store →
         FailsWithin T.rule T.heard (T.stands server.old) (T.stands server.new) piece.now (T.seen server.new) items.new.items }
+    ensures broken { OnErr result (BreaksWithin (T.stands server.old) (T.stands server.new) piece.now (T.seen server.new) items.new.items) }
     ensures setting { (T.seen server.new).table.setting ≡ (T.seen server.old).table.setting }
     ensures store_later { S.faults store.old ≤ S.faults store.new }
     ensures store_rose { result ≡ Err stop.Store → Rose (S.faults store.old) (S.faults store.new) }
@@ -175,6 +183,7 @@ fn close<T: Serves, S: Store>(
     ensures full_items { result ≡ Err stop.Journal → items.new.items ≡ items_flushed (deeds (T.seen server.new)) }
     ensures full_ended { result ≡ Err stop.Journal → input_ended (deeds (T.seen server.new)) ≡ true }
     ensures fails { result ≡ Err stop.Store → IsStoreStopFor T.rule (T.seen server.new) items.new.items }
+    ensures sent { OnErr result (IsPrefix items.new.items (items_sent (deeds (T.seen server.new)))) }
     ensures fails_ended { result ≡ Err stop.Store → input_ended (deeds (T.seen server.new)) ≡ true }
     ensures setting { (T.seen server.new).table.setting ≡ (T.seen server.old).table.setting }
     ensures fed { (s : List ℕ) → T.stands server.old s → T.stands server.new s }

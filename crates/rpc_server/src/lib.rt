@@ -8,6 +8,3 @@ mod serves;
 
 pub use rpc_frames::Counts;
 pub use server::Server;
-
-#[cfg(test)]
-mod tests;

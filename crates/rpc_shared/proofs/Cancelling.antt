@@ -23,7 +23,7 @@ use Rattle.rpc_journal.specs.Effect.{Deed}
 use Rattle.rpc_journal.specs.Entries.{cancel_effect}
 use Rattle.rpc_journal.specs.History.{adding, entry_by, history, deeds_with, deeds_of}
 use Rattle.rpc_journal.specs.Lawful.{IsLawful, IsLegal}
-use Rattle.rpc_journal.specs.Laws.{seat_of}
+use Rattle.rpc_journal.specs.Laws.{StaysQuiet, seat_of}
 use Rattle.rpc_journal.specs.Kinds.{is_empty}
 use Rattle.rpc_journal.specs.Quiet.{is_quiet}
 use Rattle.rpc_journal.proofs.ChangeLemmas.{becomes_quiet}
@@ -31,6 +31,7 @@ use Rattle.rpc_journal.proofs.EndedLemmas.{cancelled_ends}
 use Rattle.rpc_journal.proofs.ItemLemmas.{call_stays}
 use Rattle.rpc_journal.proofs.PlaceLemmas.{get_some}
 use Rattle.rpc_journal.proofs.Push.{history-push}
+use Rattle.rpc_journal.proofs.RunLemmas.{quiet_for_good}
 use Rattle.rpc_shared.specs.Steps.{IsOwn, Step, Steps}
 use Rattle.rpc_shared.specs.Waits.{CancelsAndWaits, IsQuietWith, SeesMore}
 
@@ -95,6 +96,12 @@ status_told set seat c s before after call lawful did = at (is_cancelled ds c) r
         (subst (λ later. end_of later c ≡ Some s) (sym (history-push set before (entry_by seat (Cancel c))))
         (subst (λ o. slice_get (ends_of ds c ++ of_call c (cancel_effect set ds c o).ends) 0 ≡ Some s) (sym row.1) (first_end c (ends_of ds c) s now)))
 
+-- in what a pass sees behind it a quiet call is quiet still
+quiet_behind :
+    (rule : HandlerRule) (set : Setting) (seen later : List Entry) → IsLegal rule set later → (k : ℕ) (more : List Entry) → later ≡ seen ++ more →
+    is_quiet (history set seen) k ≡ true → StaysQuiet set k seen more
+quiet_behind rule set seen later legal k more is quiet = quiet_for_good set seen more k (subst (IsLawful set) is legal.lawful) quiet
+
 module _ (rule : HandlerRule) (r : LockView Setting) (c : ℕ) where
   -- Quiet is told of a quiet call
   pub quiet_told : (p q : PassView Entry Setting) (answer : Cancelled) → Steps rule r p q (λ set seat. CancelDid set seat c answer) → (s : Status) → answer ≡ Quiet s → is_quiet (history r.base q.view.known.seen) c ≡ true
@@ -119,7 +126,14 @@ module _ (rule : HandlerRule) (r : LockView Setting) (c : ℕ) where
   cut_in p q answer steps = cut_is r.base p.view.known.number c answer steps.before q.view.known.seen steps.did
 
   pub sees_itself : (p : PassView Entry Setting) → IsLegal rule r.base p.view.known.seen → IsOwn r p → SeesMore rule r p p
-  sees_itself p legal own = record { same = same_self p; own_still = own; begins = prefix_self p.view.known.seen; legal = legal; mine = refl }
+  sees_itself p legal own = record {
+    same = same_self p;
+    own_still = own;
+    begins = prefix_self p.view.known.seen;
+    legal = legal;
+    mine = refl;
+    quiet = quiet_behind rule r.base p.view.known.seen p.view.known.seen legal;
+  }
 
   -- a cancel of a cancelled call is a look
   pub looks_again :
@@ -134,4 +148,5 @@ module _ (rule : HandlerRule) (r : LockView Setting) (c : ℕ) where
         begins = subst (IsPrefix first.view.known.seen) (sym nothing) (prefix_trans first.view.known.seen p.view.known.seen steps.before more.begins steps.begins);
         legal = steps.legal_after;
         mine = steps.mine [] (nothing ∙ sym (append-nil steps.before)) ∙ append-nil p.view.known.mine ∙ more.mine;
+        quiet = quiet_behind rule r.base first.view.known.seen q.view.known.seen steps.legal_after;
       }

@@ -4,3 +4,4 @@ pub mod Looks
 pub mod OwnRuns
 pub mod Steps
 pub mod Waits
+pub mod session

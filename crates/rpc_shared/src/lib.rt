@@ -6,9 +6,8 @@
 mod desk;
 pub mod laws;
 mod look;
+pub mod session;
 mod shared;
-#[cfg(test)]
-mod tests;
 
 pub use desk::Desk;
 pub use look::Look;

@@ -24,6 +24,3 @@ pub use items::frame_bytes;
 pub use live_report::{LiveLine, live_line, live_text};
 pub use load::load_text;
 pub use report::{last_line, report_text};
-
-#[cfg(test)]
-mod tests;

@@ -4,8 +4,8 @@ use Rattle.std.proofs.lemmas.Bool.{cond-true, cond-false, ne_eqb, or_left, or_ri
 use Rattle.slab.specs.Slab.{get, with_value}
 use Rattle.slab.proofs.SlabLemmas.{Updates-with_value}
 use Rattle.std.proofs.lemmas.List.{get_or_past}
-use Rattle.wake_bells.specs.declared.view.Look.{Look}
-use Rattle.wake_bells.proofs.Closing.{another_word}
+use Rattle.task_core.specs.declared.bells.view.Look.{Look}
+use Rattle.task_core.proofs.bells.Closing.{another_word}
 use Rattle.task_core.specs.Visit.{Visit}
 use Rattle.task_core.specs.Runs.{Turn}
 use Rattle.task_core.specs.declared.place.Place.{Place}

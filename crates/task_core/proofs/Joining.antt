@@ -2,8 +2,8 @@
 use Rattle.std.proofs.Common.{◌≡◌, ◌≢◌, ◌==◌, ◌⊎◌, ℕ, suc, ◌<◌, ◌≤◌, List, [], ◌∷◌, Some, refl, ap, inl, inr, arith}
 use Rattle.std.proofs.lemmas.Bool.{cond_both, eqb-true}
 use Rattle.std.specs.Prelude.{slice_get}
-use Rattle.wake_bells.specs.declared.view.Look.{Look}
-use Rattle.wake_bells.specs.Bells.{Rung, rung_by, NoneLost}
+use Rattle.task_core.specs.declared.bells.view.Look.{Look}
+use Rattle.task_core.specs.bells.Bells.{Rung, rung_by, NoneLost}
 use Rattle.task_core.specs.Log.{Step, added, posted, woken, advanced, heard, polled, took, last_heard, poll_heard, looks_of}
 
 abbrev IsFound : List Look → ℕ → ℕ → Type 0

@@ -42,6 +42,7 @@ module _ {T : Type 0} where
           did = is.did;
           moment = is.moment ∙ sym (stands.moment ∙ now);
           mail = is.mail ∙ sym (tells.living lives).mail;
+          owed = is.owed;
           adds = refl;
         },
         polled_stands polls b log key p q before after visit short stands found lives now said is,

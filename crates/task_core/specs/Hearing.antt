@@ -1,8 +1,8 @@
 -- What a run does that loads the words of other threads' wakes.
 use Rattle.std.specs.Prelude.{◌≡◌, ℕ, zero, suc, ◌<◌, ◌≤◌, Bool, true, false, List, ◌∷◌, Result, Ok, Err}
 use Rattle.std.specs.declared.alloc.AllocError.{AllocError}
-use Rattle.wake_bells.specs.declared.view.Look.{Look}
-use Rattle.wake_bells.specs.Bells.{Heard}
+use Rattle.task_core.specs.declared.bells.view.Look.{Look}
+use Rattle.task_core.specs.bells.Bells.{Heard}
 use Rattle.task_core.specs.declared.stop.Stop.{Stop}
 use Rattle.task_core.specs.Visit.{Visit}
 use Rattle.task_core.specs.Log.{Step, heard, is_added, looks_of}

@@ -7,3 +7,4 @@ pub mod Timers
 pub mod Places
 pub mod Tasks
 pub mod Hearing
+pub mod bells

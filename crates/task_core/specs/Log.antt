@@ -1,7 +1,7 @@
 -- What happened to a dispatcher's tasks: a list of steps, the newest first, and what it tells of each task.
 use Rattle.std.specs.Prelude.{◌==◌, ℕ, ◌+◌, Bool, false, ◌||◌, List, [], ◌∷◌, ◌++◌, drop, Option, Some, None, if◌then◌else◌}
 use Rattle.rpc_handlers.specs.declared.answer.Out.{Out}
-use Rattle.wake_bells.specs.declared.view.Look.{Look}
+use Rattle.task_core.specs.declared.bells.view.Look.{Look}
 use Rattle.task_core.specs.declared.mail.Mail.{Mail}
 use Rattle.task_core.specs.Context.{by_task}
 use Rattle.task_core.specs.Visit.{Visit}

@@ -3,7 +3,7 @@ use Rattle.std.specs.Prelude.{◌≡◌, ℕ, Bool, true, false, ◌||◌, ◌&&
 use Rattle.slab.specs.Slab.{Slab, get, slab_len}
 use Rattle.task_core.specs.declared.place.Place.{Place}
 use Rattle.task_core.specs.Context.{Context, all_outs, by_task}
-use Rattle.task_core.specs.Visit.{Visit}
+use Rattle.task_core.specs.Visit.{is_short_of_memory, Visit}
 use Rattle.task_core.specs.Due.{status_by, has_come, has_mail}
 
 module _ {T : Type 0} where
@@ -47,5 +47,6 @@ module _ {T : Type 0} where
       pub alarm : new.marked ≡ false → visit.alarm ≡ new.alarm
       pub latest : new.latest ≡ old.latest
       pub heard : new.heard ≡ old.latest
+      pub owed : visit.ending ≡ is_short_of_memory → short ≡ true
       pub outs : all_outs after ≡ all_outs before ++ by_task key visit.said
       pub clock : after.moment ≡ before.moment

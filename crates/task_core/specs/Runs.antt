@@ -3,7 +3,7 @@ use Rattle.std.specs.Prelude.{◌≡◌, ℕ, zero, suc, ◌<◌, ◌≤◌, Boo
 use Rattle.std.specs.declared.alloc.AllocError.{AllocError}
 use Rattle.task_core.specs.declared.stop.Stop.{Stop}
 use Rattle.task_core.specs.declared.stop.Stop.TheVariants.{AllDone, Stalled, Budget}
-use Rattle.task_core.specs.Visit.{Visit}
+use Rattle.task_core.specs.Visit.{is_short_of_memory, Visit}
 use Rattle.task_core.specs.Log.{Step, polled, task_of, mail_of, moment_of}
 use Rattle.task_core.specs.Due.{lives, is_due, IsFirstDue}
 use Rattle.task_core.specs.Tasks.{Tasks, StandsFor}
@@ -20,6 +20,8 @@ module _ {T : Type 0} (polls : T → Visit → T → Type 0) where
     pub did : polls before visit after
     pub moment : visit.moment ≡ moment_of log
     pub mail : visit.mail ≡ mail_of log key
+    -- a poll that found too little memory is told as one
+    pub owed : visit.ending ≡ is_short_of_memory → short ≡ true
     pub adds : new ≡ polled key visit short after ∷ log
 
   -- so many turns, none of which found too little memory

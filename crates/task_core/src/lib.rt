@@ -3,19 +3,20 @@
 //! It holds no clock and waits for nothing: moments are handed in. `docs/TASKS.md` has the life of a task as a picture.
 #![tactic(auto)]
 
+pub mod bells;
 pub mod cx;
 pub mod dispatcher;
+mod laws;
 pub mod mail;
 mod place;
 pub mod stop;
 pub mod task;
-#[cfg(test)]
-mod tests;
 mod timers;
 
+pub use crate::bells::{Bell, Bells, Ear};
 pub use cx::Cx;
 pub use dispatcher::{Dispatcher, MAX_TASKS};
+pub use laws::numbers_of_tasks;
 pub use mail::Mail;
 pub use stop::{Stop, TaskRefused};
 pub use task::{Poll, Task};
-pub use wake_bells::{Bell, Bells, Ear};

@@ -7,8 +7,6 @@ mod hexadecimal;
 mod lines;
 mod numbers;
 mod splits;
-#[cfg(test)]
-mod tests;
 
 pub use hexadecimal::hex_bytes;
 pub use lines::{NEWLINE, first_line};

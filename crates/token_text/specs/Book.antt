@@ -1,5 +1,5 @@
 -- A book of formats, and the messages that it can print.
-use Rattle.std.specs.Prelude.{◌≡◌, ℕ, ◌≤◌, ◌==◌, List, ◌++◌, length, take, drop, find, Option, Some}
+use Rattle.std.specs.Prelude.{◌≡◌, ℕ, ◌≤◌, ◌==◌, ◌&&◌, Bool, true, List, [], ◌∷◌, ◌++◌, length, take, drop, find, Option, Some, is_none}
 use Rattle.byteorder.specs.Endian.{little_number, little_bytes}
 use Rattle.token_text.specs.Arguments.{Argument}
 use Rattle.token_text.specs.Spelling.{Spells, arguments_text}
@@ -13,6 +13,11 @@ pub record Entry : Type 0 where
 -- the format with this token, if it is among these
 abbrev pub format_of : List Entry → ℕ → Option Entry
 format_of book token = find (λ e. e.token == token) book
+
+-- each token stands in the book once
+abbrev pub has_own_tokens : List Entry → Bool
+has_own_tokens [] = true
+has_own_tokens (e ∷ book) = is_none (format_of book e.token) && has_own_tokens book
 
 -- the token that a message begins with
 abbrev pub token_of : List ℕ → ℕ

@@ -5,3 +5,4 @@ pub mod Printed
 pub mod Printing
 pub mod Spelling
 pub mod Steps
+pub mod lines

@@ -117,12 +117,14 @@ pub struct TokenBook {
 }
 
 impl Model for TokenBook {
-    ghost use Rattle.std.specs.Prelude.{List};
-    ghost use Rattle.token_text.specs.Book.{Entry};
+    ghost use Rattle.std.specs.Prelude.{IsTrue, List};
+    ghost use Rattle.token_text.specs.Book.{Entry, has_own_tokens};
 
     ghost Value = { List Entry };
 
     ghost view = { λ b. b.formats.items };
+
+    ghost invariant = { λ b. IsTrue (has_own_tokens b.formats.items) };
 }
 
 impl TokenBook {

@@ -7,12 +7,11 @@ mod argument;
 mod book;
 mod format;
 mod laws;
+pub mod lines;
 mod number;
 mod part;
 mod print;
 mod read_argument;
-#[cfg(test)]
-mod tests;
 mod write_argument;
 
 pub use argument::{Arg, Args};

@@ -6,8 +6,6 @@
 mod chunk;
 mod chunk_type;
 mod laws;
-#[cfg(test)]
-mod tests;
 
 pub use chunk::ChunkRef;
 pub use chunk_type::ChunkType;

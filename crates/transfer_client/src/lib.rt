@@ -11,8 +11,6 @@ mod machine;
 mod polling;
 mod read_task;
 mod stages;
-#[cfg(test)]
-mod tests;
 mod upload;
 mod write_task;
 

@@ -7,8 +7,6 @@ mod answers;
 mod laws;
 mod phase;
 mod receiver;
-#[cfg(test)]
-mod tests;
 
 pub use answers::{Received, Ticked};
 pub use laws::{

@@ -5,3 +5,5 @@ pub mod AloneLaws
 pub mod RowLemmas
 pub mod UploadClaims
 pub mod UploadLaws
+pub mod StandingLaws
+pub mod ReadLaws

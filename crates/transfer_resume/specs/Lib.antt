@@ -9,3 +9,4 @@ pub mod Limits
 pub mod Plain
 pub mod Alone
 pub mod Uploads
+pub mod Standing

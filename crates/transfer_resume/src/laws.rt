@@ -3,6 +3,7 @@ ghost use Rattle.transfer_resume.specs.declared.sessions.TheConstants.{MAX_SESSI
 ghost use Rattle.transfer_resume.specs.Alone.{MovesAlone};
 ghost use Rattle.transfer_resume.specs.Limits.{KeepsLimits};
 ghost use Rattle.transfer_resume.specs.Plain.{ReadsBack};
+ghost use Rattle.transfer_resume.specs.Standing.{EndedStaysEnded, EndsEndAll, ReadsStoreNothing, RowsRise};
 ghost use Rattle.transfer_resume.specs.Uploads.{AllAreUploads};
 
 /// The number of a call's sessions.
@@ -29,4 +30,24 @@ pub fn each_moves_alone()
 /// joins, from the offset that it began with, of the pieces that came for it.
 pub fn uploads_join()
     ensures { AllAreUploads }
+{}
+
+/// Whatever comes to a call, its sessions stand by rising id.
+pub fn rows_rise()
+    ensures { RowsRise }
+{}
+
+/// Behind the end of the call each session has ended.
+pub fn ends_end_all()
+    ensures { EndsEndAll }
+{}
+
+/// A session that has ended stays so, with its status, whatever comes: its id is never opened again.
+pub fn ended_stays_ended()
+    ensures { EndedStaysEnded }
+{}
+
+/// Whatever comes to a call of Read, it has no store action: what goes out is said.
+pub fn reads_store_nothing()
+    ensures { ReadsStoreNothing }
 {}

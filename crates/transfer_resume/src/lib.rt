@@ -15,12 +15,11 @@ mod service;
 mod sessions;
 mod side;
 mod stage;
-#[cfg(test)]
-mod tests;
 mod ticks;
 
 pub use laws::{
-    answers_keep_limits, each_moves_alone, numbers_of_a_call, plain_data_tells_all, uploads_join,
+    answers_keep_limits, each_moves_alone, ended_stays_ended, ends_end_all, numbers_of_a_call,
+    plain_data_tells_all, reads_store_nothing, rows_rise, uploads_join,
 };
 pub use sessions::{MAX_SESSIONS, Sessions};
 pub use side::Side;

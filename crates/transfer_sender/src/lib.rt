@@ -7,8 +7,6 @@ mod cut;
 mod laws;
 mod pieces;
 mod sender;
-#[cfg(test)]
-mod tests;
 
 pub use cut::MAX_PIECES;
 pub use laws::{cut_is_exact, numbers_of_a_sender, sends_parts};

@@ -6,8 +6,6 @@
 mod core_answers;
 mod laws;
 mod saying;
-#[cfg(test)]
-mod tests;
 mod word;
 
 pub use core_answers::{act_on_piece, act_on_tick, say_pieces};

@@ -8,8 +8,6 @@ mod held;
 mod logged;
 mod pass;
 mod rule;
-#[cfg(test)]
-mod tests;
 mod turn;
 pub mod view;
 

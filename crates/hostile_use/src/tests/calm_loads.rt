@@ -1,5 +1,6 @@
 //! Twenty loads, whose packets are calm: a crew of any size reports what the history of one thread says.
 
+use super::checks::{row_of, told};
 use super::{run_on, store};
 use demo_services::{DemoMaker, demo_registry};
 use link_io::{Fulls, Lefts, Shelf, Why};
@@ -11,9 +12,12 @@ use rpc_schedule::replay;
 use rpc_server::Server;
 use run_report::crew_text;
 use std::alloc::{AllocError, Global};
+use std::process::Abort;
+use std::sync::Wait;
+use std::thread::Threads;
 use transfer_chunk::Tuning;
 
-const SEEDS: [u64; 20] = [
+const SEEDS: &[u64] = &[
     0x9E37_79B9_7F4A_7C15,
     0x3C6E_F372_FE94_F82A,
     3,
@@ -65,21 +69,30 @@ fn by_one_thread(alloc: Global, seed: u64) -> Result<String, AllocError> {
     crew_text(alloc, server.counts(), server.calls(), &items, Why::Settled)
 }
 
+// A crew reports this of the load from this seed.
+fn reports<R: Threads + Wait + Sync + Abort>(
+    rt: &R,
+    alloc: Global,
+    line: &str,
+    seed: u64,
+    report: &str,
+) -> Result<(), AllocError> {
+    let mut input = LoadSource::new(alloc, CALLS, seed)?;
+    let ran = run_on(rt, alloc, line, &mut input, &Free)?;
+    let row = row_of(alloc, line, seed)?;
+    told(rt, row.as_str(), &ran, 0, report.as_bytes());
+    Ok(())
+}
+
 #[test]
 fn a_crew_of_any_size_reports_as_one_thread(rt: HostRuntime) -> Result<(), AllocError> {
     let alloc = rt.alloc();
-    for seed in SEEDS {
+    for &seed in SEEDS {
         let report = by_one_thread(alloc, seed)?;
-        for line in ["crew 1", "crew 2", "crew 4", "crew 16"] {
-            let mut input = LoadSource::new(alloc, CALLS, seed)?;
-            let ran = run_on(&rt, alloc, line, &mut input, &Free)?;
-            assert_eq!(rt; ran.status, 0, "{line} from {seed}");
-            assert_eq!(rt;
-                ran.output.as_slice(),
-                report.as_bytes(),
-                "{line} from {seed}"
-            );
-        }
+        reports(&rt, alloc, "crew 1", seed, report.as_str())?;
+        reports(&rt, alloc, "crew 2", seed, report.as_str())?;
+        reports(&rt, alloc, "crew 4", seed, report.as_str())?;
+        reports(&rt, alloc, "crew 16", seed, report.as_str())?;
     }
     Ok(())
 }

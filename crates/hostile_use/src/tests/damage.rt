@@ -2,6 +2,7 @@
 //! it is answered.
 
 use self::Damage::{Channel, Chunk, Cut, Sealed, Stream, Zeros};
+use super::checks::{count_is, is_so, row_of, status_is};
 use super::{FIRST, Ran, run_over};
 use bytes::Bytes;
 use demo_services::ids;
@@ -9,6 +10,9 @@ use hdlc_frame::{ESCAPE, ESCAPE_BIT, FLAG, crc32, encode_ui};
 use rpc_frames::write_frame;
 use rpc_packet::{CallName, Packet, PacketType};
 use std::alloc::{AllocError, Global};
+use std::process::Abort;
+use std::sync::Wait;
+use std::thread::Threads;
 
 // What comes of `FIRST`'s payload: its channel, and the fields behind it.
 const FIELDS: &[u8] =
@@ -276,30 +280,62 @@ fn call_lines(report: Vec<u8>) -> Result<usize, AllocError> {
     Ok(count)
 }
 
+// The first line of a report, where one more frame is valid than is counted here.
+fn frames_line(alloc: Global, counted: Counted) -> Result<String, AllocError> {
+    let [valid, bad, other, dropped] = counted;
+    let valid = valid.saturating_add(1);
+    format!(in alloc; "frames {valid} bad {bad} other {other} dropped {dropped}\n")
+}
+
+// The report of a stream begins with this line, and has so many lines of calls.
+fn reports<R: Threads + Wait + Sync + Abort>(
+    rt: &R,
+    alloc: Global,
+    row: &str,
+    line: &str,
+    stream: &[u8],
+    frames: &str,
+    calls: usize,
+) -> Result<(), AllocError> {
+    let Ran { status, output } = run_over(rt, alloc, line, stream)?;
+    status_is(rt, row, status, 0);
+    is_so(rt, row, output.starts_with(frames.as_bytes()));
+    is_so(rt, row, output.ends_with(b"\ndone\n"));
+    count_is(rt, row, call_lines(output)?, calls);
+    Ok(())
+}
+
+// A damaged stream in front of a call is counted so, and the call is answered.
+fn costs_its_segment<R: Threads + Wait + Sync + Abort>(
+    rt: &R,
+    alloc: Global,
+    number: usize,
+    row: &Row,
+) -> Result<(), AllocError> {
+    let (ref damage, counted, calls) = *row;
+    let mut stream = stream_of(alloc, damage)?;
+    stream.extend_from_slice(FIRST)?;
+    let frames = frames_line(alloc, counted)?;
+    let calls = calls.saturating_add(1);
+    for line in ["replay", "crew 2"] {
+        let row = row_of(alloc, line, number as u64)?;
+        reports(
+            rt,
+            alloc,
+            row.as_str(),
+            line,
+            &stream,
+            frames.as_str(),
+            calls,
+        )?;
+    }
+    Ok(())
+}
+
 #[test]
 fn damage_costs_its_segment_alone(rt: HostRuntime) -> Result<(), AllocError> {
-    let alloc = rt.alloc();
-    for (number, &(ref damage, [valid, bad, other, dropped], calls)) in ROWS.iter().enumerate() {
-        let mut stream = stream_of(alloc, damage)?;
-        stream.extend_from_slice(FIRST)?;
-        let valid = valid.saturating_add(1);
-        let frames = format!(in alloc;
-            "frames {valid} bad {bad} other {other} dropped {dropped}\n"
-        )?;
-        for line in ["replay", "crew 2"] {
-            let Ran { status, output } = run_over(&rt, alloc, line, &stream)?;
-            assert_eq!(rt; status, 0, "row {number} by {line}");
-            assert!(rt;
-                output.starts_with(frames.as_bytes()),
-                "row {number} by {line}"
-            );
-            assert!(rt; output.ends_with(b"\ndone\n"), "row {number} by {line}");
-            assert_eq!(rt;
-                call_lines(output)?,
-                calls.saturating_add(1),
-                "row {number} by {line}"
-            );
-        }
+    for (number, row) in ROWS.iter().enumerate() {
+        costs_its_segment(&rt, rt.alloc(), number, row)?;
     }
     Ok(())
 }

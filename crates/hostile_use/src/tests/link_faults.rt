@@ -3,12 +3,14 @@
 ghost use Rattle.std.specs.Prelude.{◌≡◌, IfOk};
 ghost use Rattle.link_io.specs.LinkDevice.{IsUnused};
 
+use super::checks::{count_is, is_so, row_of, status_is, wrote};
 use super::single_faults::{REPORT, stream};
 use super::{FIRST, store, words};
 use link_io::{MemLinker, MemSink, MemSource, Still};
 use pw_run::run;
 use rpc_crew::Free;
 use std::alloc::{AllocError, Global};
+use std::process::Abort;
 use std::sync::Wait;
 use std::thread::Threads;
 
@@ -222,6 +224,25 @@ struct Served {
     output: MemSink,
 }
 
+// The number of the failing call of a device, or 0.
+fn fail(of: Device, device: Device, number: u64) -> u64 {
+    if of == device { number } else { 0 }
+}
+
+// Both links, where the call of this device with this number fails.
+fn both_links(alloc: Global, device: Device, number: u64) -> Result<MemLinker, AllocError> {
+    let mut links = Vec::new(alloc);
+    links.push(ends(
+        alloc,
+        stream(alloc)?,
+        fail(Device::LinkIn, device, number),
+        fail(Device::LinkOut, device, number),
+    )?)?;
+    links.push(ends(alloc, Vec::from_slice(alloc, FIRST)?, 0, 0)?)?;
+    let fails = Vec::from_slice(alloc, &[fail(Device::Linker, device, number)])?;
+    MemLinker::new(alloc, links, fails)
+}
+
 // Serves both links by one worker, where the call of this device with this number fails.
 fn serve<R: Threads + Wait + Sync>(
     rt: &R,
@@ -229,31 +250,17 @@ fn serve<R: Threads + Wait + Sync>(
     device: Device,
     number: u64,
 ) -> Result<Served, AllocError> {
-    let fail = |of: Device| if of == device { number } else { 0 };
-    let mut links = Vec::new(alloc);
-    links.push(ends(
-        alloc,
-        stream(alloc)?,
-        fail(Device::LinkIn),
-        fail(Device::LinkOut),
-    )?)?;
-    links.push(ends(alloc, Vec::from_slice(alloc, FIRST)?, 0, 0)?)?;
-    let mut net = MemLinker::new(
-        alloc,
-        links,
-        Vec::from_slice(alloc, &[fail(Device::Linker)])?,
-    )?;
-    let mut output = MemSink::new(
-        Vec::new(alloc),
-        Vec::from_slice(alloc, &[fail(Device::Output)])?,
-    );
+    let mut net = both_links(alloc, device, number)?;
+    let fails = Vec::from_slice(alloc, &[fail(Device::Output, device, number)])?;
+    let mut output = MemSink::new(Vec::new(alloc), fails);
+    let mut store = store(alloc, fail(Device::Store, device, number))?;
     let status = run(
         rt,
         alloc,
         &words(alloc, "serve p 1 2")?,
         &mut MemSource::new(Vec::new(alloc), Vec::new(alloc)),
         &mut output,
-        &mut store(alloc, fail(Device::Store))?,
+        &mut store,
         &mut net,
         &mut Still::new(),
         &Free,
@@ -291,22 +298,42 @@ fn is_written(alloc: Global, lines: &Lines, output: &[u8]) -> Result<bool, Alloc
     }
 }
 
+// The first link that was handed back, if any was, has got the first so many frames.
+fn has_frames(
+    rt: &impl Abort,
+    alloc: Global,
+    row: &str,
+    net: &MemLinker,
+    count: usize,
+) -> Result<(), AllocError> {
+    if let Some((_, link_out)) = net.gone().first() {
+        let wanted = first_frames(alloc, count)?;
+        wrote(rt, row, link_out.bytes(), &wanted);
+    }
+    Ok(())
+}
+
+fn ends_at_fault<R: Threads + Wait + Sync + Abort>(
+    rt: &R,
+    alloc: Global,
+    number: usize,
+    row: &Row,
+) -> Result<(), AllocError> {
+    let (device, call, status, ref lines, frames, back) = *row;
+    let served = serve(rt, alloc, device, call)?;
+    let row = row_of(alloc, "row", number as u64)?;
+    let row = row.as_str();
+    status_is(rt, row, served.status, status);
+    let is_told = is_written(alloc, lines, served.output.bytes())?;
+    is_so(rt, row, is_told);
+    count_is(rt, row, served.net.gone().len(), back);
+    has_frames(rt, alloc, row, &served.net, frames)
+}
+
 #[test]
 fn a_fault_of_a_device_ends_what_is_served(rt: HostRuntime) -> Result<(), AllocError> {
-    let alloc = rt.alloc();
-    for (number, &(device, call, status, ref lines, frames, back)) in ROWS.iter().enumerate() {
-        let served = serve(&rt, alloc, device, call)?;
-        let gone = served.net.gone();
-        assert_eq!(rt; served.status, status, "row {number}");
-        assert!(rt;
-            is_written(alloc, lines, served.output.bytes())?,
-            "row {number}"
-        );
-        assert_eq!(rt; gone.len(), back, "row {number}");
-        if let Some((_, link_out)) = gone.first() {
-            let wanted = first_frames(alloc, frames)?;
-            assert_eq!(rt; link_out.bytes(), wanted.as_slice(), "row {number}");
-        }
+    for (number, row) in ROWS.iter().enumerate() {
+        ends_at_fault(&rt, rt.alloc(), number, row)?;
     }
     Ok(())
 }

@@ -2,10 +2,16 @@
 //! is what belongs to what came before.
 ghost use Rattle.std.specs.Prelude.{None};
 
-use super::{FIRST, SECOND, run_on, run_over, status_of, store};
-use link_io::{Failed, MemSink, MemSource, Sink, Source};
+use super::checks::{
+    is_not_stored, is_so, is_stored, lines_are, row_of, status_is, stores, told, wrote,
+};
+use super::{FIRST, Ran, SECOND, run_on, run_over, status_of, store};
+use link_io::{Failed, MemSink, MemSource, MemStore, Sink, Source};
 use rpc_crew::Free;
 use std::alloc::{AllocError, Global};
+use std::process::Abort;
+use std::sync::Wait;
+use std::thread::Threads;
 
 // What a client sends that uploads `hello, store` and a newline as resource 7 in two chunks: `examples/upload/recording`.
 const UPLOAD: &[&[u8]] = &[
@@ -109,64 +115,110 @@ fn ended_with(alloc: Global, report: Vec<u8>, last: &str) -> Result<String, Allo
     format!(in alloc; "{front}{last}\n")
 }
 
-#[test]
-fn a_read_that_fails_ends_the_input(rt: HostRuntime) -> Result<(), AllocError> {
-    let alloc = rt.alloc();
+// The command's run over a source of which this read fails.
+fn run_failing<R: Threads + Wait + Sync>(
+    rt: &R,
+    alloc: Global,
+    line: &str,
+    whole: &[u8],
+    fail: usize,
+) -> Result<Ran, AllocError> {
+    let mut input = Pieces {
+        inner: MemSource::new(
+            Vec::from_slice(alloc, whole)?,
+            Vec::from_slice(alloc, &[fail as u64])?,
+        ),
+    };
+    run_on(rt, alloc, line, &mut input, &Free)
+}
+
+// Where this read fails, the report is that of the bytes that came before it, but for its last line.
+fn ends_at_read<R: Threads + Wait + Sync + Abort>(
+    rt: &R,
+    alloc: Global,
+    line: &str,
+    whole: &[u8],
+    fail: usize,
+) -> Result<(), AllocError> {
+    let ran = run_failing(rt, alloc, line, whole, fail)?;
+    let taken = whole
+        .len()
+        .min(fail.saturating_sub(1).saturating_mul(PIECE));
+    let before = run_over(rt, alloc, line, &whole[..taken])?;
+    let wanted = ended_with(alloc, before.output, "source fault")?;
+    let row = row_of(alloc, line, fail as u64)?;
+    told(rt, row.as_str(), &ran, 3, wanted.as_bytes());
+    Ok(())
+}
+
+// Each read fails in turn. Behind the last one nothing does.
+fn ends_at_each_read<R: Threads + Wait + Sync + Abort>(
+    rt: &R,
+    alloc: Global,
+    line: &str,
+    report: &str,
+) -> Result<(), AllocError> {
     let whole = stream(alloc)?;
     let reads = whole.len().div_ceil(PIECE) + 1;
-    for &(line, report) in REPORTS {
-        for fail in 1..=reads + 1 {
-            let mut input = Pieces {
-                inner: MemSource::new(
-                    Vec::from_slice(alloc, &whole)?,
-                    Vec::from_slice(alloc, &[fail as u64])?,
-                ),
-            };
-            let ran = run_on(&rt, alloc, line, &mut input, &Free)?;
-            if fail > reads {
-                assert_eq!(rt; ran.status, 0, "{line}");
-                assert_eq!(rt; ran.output.as_slice(), report.as_bytes(), "{line}");
-            } else {
-                // What the same bytes bring where the input ends behind them.
-                let taken = whole.len().min((fail - 1) * PIECE);
-                let before = run_over(&rt, alloc, line, &whole[..taken])?;
-                let wanted = ended_with(alloc, before.output, "source fault")?;
-                assert_eq!(rt; ran.status, 3, "{line}, read {fail}");
-                assert_eq!(rt;
-                    ran.output.as_slice(),
-                    wanted.as_bytes(),
-                    "{line}, read {fail}"
-                );
-            }
-        }
+    for fail in 1..=reads {
+        ends_at_read(rt, alloc, line, &whole, fail)?;
     }
+    let ran = run_failing(rt, alloc, line, &whole, reads + 1)?;
+    told(rt, line, &ran, 0, report.as_bytes());
     Ok(())
 }
 
 #[test]
-fn a_write_that_fails_leaves_a_beginning(rt: HostRuntime) -> Result<(), AllocError> {
-    let alloc = rt.alloc();
-    let whole = stream(alloc)?;
+fn a_read_that_fails_ends_the_input(rt: HostRuntime) -> Result<(), AllocError> {
     for &(line, report) in REPORTS {
-        // The last call is the flush.
-        let calls = report.len().div_ceil(PIECE) + 1;
-        for fail in 1..=calls + 1 {
-            let mut input = MemSource::new(Vec::from_slice(alloc, &whole)?, Vec::new(alloc));
-            let mut output = Pieces {
-                inner: MemSink::new(Vec::new(alloc), Vec::from_slice(alloc, &[fail as u64])?),
-            };
-            let mut store = store(alloc, 0)?;
-            let status = status_of(&rt, alloc, line, &mut input, &mut output, &mut store, &Free)?;
-            let written = report.len().min((fail - 1) * PIECE);
-            let wanted = if fail > calls { 0 } else { 4 };
-            assert_eq!(rt; status, wanted, "{line}, call {fail}");
-            assert_eq!(rt;
-                output.inner.bytes(),
-                &report.as_bytes()[..written],
-                "{line}, call {fail}"
-            );
-            assert!(rt; store.full(7).is_some(), "{line}, call {fail}");
-        }
+        ends_at_each_read(&rt, rt.alloc(), line, report)?;
+    }
+    Ok(())
+}
+
+// Where this call of the sink fails, the status is this, and a beginning of the report is written. The upload is stored.
+fn leaves_at_call<R: Threads + Wait + Sync + Abort>(
+    rt: &R,
+    alloc: Global,
+    line: &str,
+    report: &[u8],
+    fail: usize,
+    wanted: u8,
+) -> Result<(), AllocError> {
+    let mut input = MemSource::new(stream(alloc)?, Vec::new(alloc));
+    let mut output = Pieces {
+        inner: MemSink::new(Vec::new(alloc), Vec::from_slice(alloc, &[fail as u64])?),
+    };
+    let mut store = store(alloc, 0)?;
+    let status = status_of(rt, alloc, line, &mut input, &mut output, &mut store, &Free)?;
+    let written = report
+        .len()
+        .min(fail.saturating_sub(1).saturating_mul(PIECE));
+    let row = row_of(alloc, line, fail as u64)?;
+    status_is(rt, row.as_str(), status, wanted);
+    wrote(rt, row.as_str(), output.inner.bytes(), &report[..written]);
+    is_stored(rt, row.as_str(), &store);
+    Ok(())
+}
+
+// Each call fails in turn, of which the last is the flush. Behind it nothing does.
+fn leaves_at_each_call<R: Threads + Wait + Sync + Abort>(
+    rt: &R,
+    alloc: Global,
+    line: &str,
+    report: &[u8],
+) -> Result<(), AllocError> {
+    let calls = report.len().div_ceil(PIECE) + 1;
+    for fail in 1..=calls {
+        leaves_at_call(rt, alloc, line, report, fail, 4)?;
+    }
+    leaves_at_call(rt, alloc, line, report, calls + 1, 0)
+}
+
+#[test]
+fn a_write_that_fails_leaves_a_beginning(rt: HostRuntime) -> Result<(), AllocError> {
+    for &(line, report) in REPORTS {
+        leaves_at_each_call(&rt, rt.alloc(), line, report.as_bytes())?;
     }
     Ok(())
 }
@@ -185,42 +237,66 @@ fn said(alloc: Global, report: &[u8]) -> Result<Vec<String>, AllocError> {
 
 // The calls of the store, in order: the list, the upload's begin, its two pieces and its commit; and how many lines tell of what
 // went out before each of them.
-const SAID_BEFORE: [usize; 5] = [0, 1, 3, 3, 3];
+const SAID_BEFORE: &[usize] = &[0, 1, 3, 3, 3];
+
+// The run of a command over a store whose call with this number fails, and the store.
+fn run_storing<R: Threads + Wait + Sync>(
+    rt: &R,
+    alloc: Global,
+    line: &str,
+    fail: u64,
+) -> Result<(Ran, MemStore), AllocError> {
+    let mut input = MemSource::new(stream(alloc)?, Vec::new(alloc));
+    let mut output = MemSink::new(Vec::new(alloc), Vec::new(alloc));
+    let mut store = store(alloc, fail)?;
+    let status = status_of(rt, alloc, line, &mut input, &mut output, &mut store, &Free)?;
+    let output = Vec::from_slice(alloc, output.bytes())?;
+    Ok((Ran { status, output }, store))
+}
+
+// Where the call of the store behind so many calls fails, just this many of these lines are told, and nothing is stored.
+fn ends_behind_calls<R: Threads + Wait + Sync + Abort>(
+    rt: &R,
+    alloc: Global,
+    line: &str,
+    calls: u64,
+    lines: &[String],
+    count: usize,
+) -> Result<(), AllocError> {
+    let (ran, store) = run_storing(rt, alloc, line, calls.saturating_add(1))?;
+    let told = said(alloc, &ran.output)?;
+    let row = row_of(alloc, line, calls)?;
+    status_is(rt, row.as_str(), ran.status, 5);
+    is_so(rt, row.as_str(), ran.output.ends_with(b"\nstore fault\n"));
+    let count = count.min(lines.len());
+    lines_are(rt, row.as_str(), &told, &lines[..count]);
+    is_not_stored(rt, row.as_str(), &store);
+    Ok(())
+}
+
+// Each call of the store fails in turn. Behind the last one nothing does.
+fn ends_behind_each_call<R: Threads + Wait + Sync + Abort>(
+    rt: &R,
+    alloc: Global,
+    line: &str,
+    report: &[u8],
+) -> Result<(), AllocError> {
+    let lines = said(alloc, report)?;
+    let mut calls: u64 = 0;
+    for &count in SAID_BEFORE {
+        ends_behind_calls(rt, alloc, line, calls, &lines, count)?;
+        calls = calls.saturating_add(1);
+    }
+    let (ran, store) = run_storing(rt, alloc, line, calls.saturating_add(1))?;
+    told(rt, line, &ran, 0, report);
+    stores(rt, line, &store, b"hello, store\n");
+    Ok(())
+}
 
 #[test]
 fn a_call_of_the_store_that_fails_is_the_last(rt: HostRuntime) -> Result<(), AllocError> {
-    let alloc = rt.alloc();
     for &(line, report) in REPORTS {
-        let wanted = said(alloc, report.as_bytes())?;
-        for (number, &count) in SAID_BEFORE.iter().enumerate() {
-            let mut input = MemSource::new(stream(alloc)?, Vec::new(alloc));
-            let mut output = MemSink::new(Vec::new(alloc), Vec::new(alloc));
-            let mut store = store(alloc, number as u64 + 1)?;
-            let status = status_of(&rt, alloc, line, &mut input, &mut output, &mut store, &Free)?;
-            let told = said(alloc, output.bytes())?;
-            assert_eq!(rt; status, 5, "{line}, behind {number} calls");
-            assert!(rt;
-                output.bytes().ends_with(b"\nstore fault\n"),
-                "{line}, behind {number} calls"
-            );
-            let count = count.min(wanted.len());
-            assert_eq!(rt;
-                told.as_slice(),
-                &wanted[..count],
-                "{line}, behind {number} calls"
-            );
-            assert!(rt; store.full(7).is_none(), "{line}, behind {number} calls");
-        }
-        let mut input = MemSource::new(stream(alloc)?, Vec::new(alloc));
-        let mut output = MemSink::new(Vec::new(alloc), Vec::new(alloc));
-        let mut store = store(alloc, SAID_BEFORE.len() as u64 + 1)?;
-        let status = status_of(&rt, alloc, line, &mut input, &mut output, &mut store, &Free)?;
-        assert_eq!(rt; status, 0, "{line}");
-        assert_eq!(rt; output.bytes(), report.as_bytes(), "{line}");
-        assert!(rt;
-            matches!(store.full(7), Some(bytes) if bytes.as_slice() == b"hello, store\n".as_slice()),
-            "{line}"
-        );
+        ends_behind_each_call(&rt, rt.alloc(), line, report.as_bytes())?;
     }
     Ok(())
 }

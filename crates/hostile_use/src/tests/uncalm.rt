@@ -1,12 +1,15 @@
 //! A stream that isn't calm, over which a crew may report otherwise than one thread: two REQUESTs of one name. One thread has
 //! answered the first before the second comes. A crew may be in the first's run then, and the second cancels it.
 
+use super::checks::{is_so, status_is, told};
 use super::{FIRST, run_on, run_over};
 use link_io::MemSource;
 use rpc_crew::Gate;
-use std::alloc::AllocError;
+use std::alloc::{AllocError, Global};
+use std::process::Abort;
+use std::sync::Wait;
 use std::sync::atomic::{AtomicU64, Ordering};
-use std::thread;
+use std::thread::{self, Threads};
 use std::time::{Clock, Duration};
 
 /// What a crew reports where each run is over before the next call comes: the same as of the history of one thread.
@@ -62,6 +65,24 @@ impl<'a, R: Clock> Gate for FirstHeld<'a, R> {
     fn after(&self, _call: u32) {}
 }
 
+// A report without the gate is either of the two.
+fn reports_either<R: Threads + Wait + Sync + Abort>(
+    rt: &R,
+    alloc: Global,
+    line: &str,
+    stream: &[u8],
+) -> Result<(), AllocError> {
+    let ran = run_over(rt, alloc, line, stream)?;
+    let output = ran.output.as_slice();
+    status_is(rt, line, ran.status, 0);
+    is_so(
+        rt,
+        line,
+        output == IN_TURN.as_bytes() || output == TOGETHER.as_bytes(),
+    );
+    Ok(())
+}
+
 #[test]
 fn a_second_request_of_a_name_may_come_before_the_first_is_answered(
     rt: HostRuntime,
@@ -75,20 +96,10 @@ fn a_second_request_of_a_name_may_come_before_the_first_is_answered(
     };
     let mut input = MemSource::new(Vec::from_slice(alloc, &stream)?, Vec::new(alloc));
     let held = run_on(&rt, alloc, "crew 2", &mut input, &gate)?;
-    assert_eq!(rt; held.status, 0);
-    assert_eq!(rt; held.output.as_slice(), TOGETHER.as_bytes());
+    told(&rt, "held", &held, 0, TOGETHER.as_bytes());
     let alone = run_over(&rt, alloc, "replay", &stream)?;
-    assert_eq!(rt; alone.status, 0);
-    assert_eq!(rt; alone.output.as_slice(), ONE_THREAD.as_bytes());
-    // Without the gate either may come.
-    for line in ["crew 1", "crew 2", "crew 4"] {
-        let ran = run_over(&rt, alloc, line, &stream)?;
-        let told = ran.output.as_slice();
-        assert_eq!(rt; ran.status, 0, "{line}");
-        assert!(rt;
-            told == IN_TURN.as_bytes() || told == TOGETHER.as_bytes(),
-            "{line}"
-        );
-    }
-    Ok(())
+    told(&rt, "alone", &alone, 0, ONE_THREAD.as_bytes());
+    reports_either(&rt, alloc, "crew 1", &stream)?;
+    reports_either(&rt, alloc, "crew 2", &stream)?;
+    reports_either(&rt, alloc, "crew 4", &stream)
 }

@@ -1,46 +1,50 @@
-use super::names::{id_in, resource_file, work_file};
-use crate::{Fulls, Lefts, Shelf, StoreKey, StoreRefused};
+//! The uploads of a store in a folder.
+ghost use Rattle.std.specs.Prelude.{IfOk};
+ghost use Rattle.link_io.specs.Stored.{Rises};
+
+use super::place::Place;
+use crate::{Shelf, StoreKey, StoreRefused};
 use bytes::Bytes;
 use std::alloc::{AllocError, Global};
 use std::collections::BTreeMap;
-use std::fs::{Files, OpenFile, OpenOptions};
+use std::fs::{File, Files};
 use std::io::Write;
-use std::{fs, io};
 
-/// The kind of a file that holds a whole resource.
-const FULL: &str = "full";
-
-/// The kind of a file that holds what is left of a resource.
-const LEFT: &str = "left";
-
-// An upload whose bytes stand in a file.
+// An upload under way.
 #[derive(Clone, Copy)]
 struct Upload {
     resource: u32,
+    // How many bytes it has, with those of what was left.
     length: u64,
+    // Its file stands in the folder, with these bytes. Before the first append it has none.
+    is_made: bool,
     is_appended: bool,
 }
 
-/// A folder of resources, and the uploads under way there.
-#[derive(Drop)]
-pub(crate) struct Folder<'a, F: Files> {
-    alloc: Global,
-    files: &'a F,
-    path: String,
+/// A folder of resources, and the uploads under way there. Those are left when it is let go.
+pub(crate) struct Folder<'a, F: Files<File = File>> {
+    place: Place<'a, F>,
     uploads: BTreeMap<StoreKey, Upload>,
+    // How long what is left of resources was when it was listed, without those of which uploads ended since.
+    listed: BTreeMap<u32, u64>,
+    // The folder, locked from the first upload on.
+    lock: Option<File>,
+    // The file of the upload that was appended to last.
+    open: Option<(StoreKey, File)>,
 }
 
-impl<'a, F: Files> Folder<'a, F> {
+impl<'a, F: Files<File = File>> Folder<'a, F> {
     pub(crate) fn new(
         alloc: Global,
         files: &'a F,
         path: &str,
     ) -> Result<Folder<'a, F>, AllocError> {
         Ok(Folder {
-            alloc,
-            files,
-            path: String::from_str(alloc, path)?,
+            place: Place::new(alloc, files, path)?,
             uploads: BTreeMap::new(alloc),
+            listed: BTreeMap::new(alloc),
+            lock: None,
+            open: None,
         })
     }
 
@@ -50,15 +54,13 @@ impl<'a, F: Files> Folder<'a, F> {
         resource: u32,
         offset: u64,
     ) -> Result<(), StoreRefused> {
-        let mut bytes = self.left_over(resource)?;
-        if offset < bytes.len() as u64 {
-            bytes.truncate(offset as usize);
-        }
-        let file = work_file(self.alloc, &self.path, key)?;
-        fs::write(self.files, &file, bytes.as_slice())?;
+        self.hold()?;
+        let length = self.left_before(resource, offset)?;
+        self.remove_file_of(key)?;
         let upload = Upload {
             resource,
-            length: bytes.len() as u64,
+            length,
+            is_made: false,
             is_appended: false,
         };
         self.uploads.insert(key, upload)?;
@@ -69,19 +71,20 @@ impl<'a, F: Files> Folder<'a, F> {
         let Some(upload) = self.uploads.get(&key).copied() else {
             return Ok(());
         };
-        let name = work_file(self.alloc, &self.path, key)?;
-        let mut file = OpenOptions::new().append(true).open(self.files, &name)?;
+        if bytes.is_empty() {
+            return Ok(());
+        }
+        let mut file = self.file_of(key, upload)?;
         if let Err(error) = file.write_all(bytes.as_slice()) {
             // What was written of the piece goes again, as far as the device allows.
             let _ = file.set_len(upload.length);
             return Err(StoreRefused::from(error));
         }
-        let longer = Upload {
-            resource: upload.resource,
-            length: upload.length.saturating_add(bytes.len() as u64),
-            is_appended: upload.is_appended || !bytes.is_empty(),
-        };
-        self.uploads.insert(key, longer)?;
+        self.open = Some((key, file));
+        if let Some(upload) = self.uploads.get_mut(&key) {
+            upload.length = upload.length.saturating_add(bytes.len() as u64);
+            upload.is_appended = true;
+        }
         Ok(())
     }
 
@@ -89,27 +92,28 @@ impl<'a, F: Files> Folder<'a, F> {
         let Some(upload) = self.uploads.get(&key).copied() else {
             return Ok(());
         };
-        self.rename_work(key, FULL, upload.resource)?;
-        self.uploads.remove(&key);
-        let left = resource_file(self.alloc, &self.path, LEFT, upload.resource)?;
-        if fs::exists(self.files, &left)? {
-            fs::remove_file(self.files, &left)?;
-        }
-        Ok(())
+        self.close(key, upload)?;
+        self.keep_left(key, upload.resource)?;
+        self.place.remove_left(upload.resource)?;
+        self.place.make_full(key, upload.resource)?;
+        self.forget(key, upload.resource);
+        self.sync()
     }
 
     pub(crate) fn leave(&mut self, key: StoreKey) -> Result<(), StoreRefused> {
         let Some(upload) = self.uploads.get(&key).copied() else {
             return Ok(());
         };
-        if upload.is_appended {
-            self.rename_work(key, LEFT, upload.resource)?;
-        } else {
-            let name = work_file(self.alloc, &self.path, key)?;
-            fs::remove_file(self.files, &name)?;
+        if !upload.is_appended {
+            self.remove_file_of(key)?;
+            self.uploads.remove(&key);
+            return Ok(());
         }
-        self.uploads.remove(&key);
-        Ok(())
+        self.close(key, upload)?;
+        self.keep_left(key, upload.resource)?;
+        self.place.make_left(key, upload.resource)?;
+        self.forget(key, upload.resource);
+        self.sync()
     }
 
     pub(crate) fn leave_call(&mut self, call: u32) -> Result<(), StoreRefused> {
@@ -119,32 +123,118 @@ impl<'a, F: Files> Folder<'a, F> {
         Ok(())
     }
 
-    pub(crate) fn list(&self) -> Result<Shelf, StoreRefused> {
-        Ok(Shelf {
-            full: self.listed()?,
-            left: self.lengths()?,
-        })
-    }
-
-    fn left_over(&self, resource: u32) -> Result<Vec<u8>, StoreRefused> {
-        let name = resource_file(self.alloc, &self.path, LEFT, resource)?;
-        match fs::read(&(self.files, self.alloc), &name) {
-            Ok(bytes) => Ok(bytes),
-            Err(error) if error.kind() == io::ErrorKind::NotFound => Ok(Vec::new(self.alloc)),
-            Err(error) => Err(StoreRefused::from(error)),
+    pub(crate) fn list(&mut self) -> Result<Shelf, StoreRefused>
+        ensures { IfOk result Rises }
+    {
+        let mut found = self.place.found()?;
+        if self.lock.is_none() && self.place.take_up_where_free(found.works())? {
+            found = self.place.found()?;
         }
+        let shelf = Shelf {
+            full: found.fulls(&self.place)?,
+            left: found.lefts(self.place.alloc())?,
+        };
+        self.listed = found.into_left();
+        Ok(shelf)
     }
 
-    fn rename_work(&self, key: StoreKey, kind: &str, resource: u32) -> Result<(), StoreRefused> {
-        let from = work_file(self.alloc, &self.path, key)?;
-        let to = resource_file(self.alloc, &self.path, kind, resource)?;
-        fs::rename(self.files, &from, &to)?;
+    // Locks the folder for the rest of the run, and takes up what runs that were killed have left there.
+    fn hold(&mut self) -> Result<(), StoreRefused> {
+        if self.lock.is_some() {
+            return Ok(());
+        }
+        let Some(lock) = self.place.locked()? else {
+            return Err(StoreRefused::Failed);
+        };
+        let found = self.place.found()?;
+        self.place.take_up(&lock, found.works())?;
+        self.lock = Some(lock);
+        Ok(())
+    }
+
+    // How many bytes before an offset are left of a resource. Where they are fewer than was listed, another run has ended
+    // an upload of it before this one held the folder, and the new upload would lack them.
+    fn left_before(&self, resource: u32, offset: u64) -> Result<u64, StoreRefused> {
+        let left = self.place.left(resource)?;
+        let length = self.place.length(&left)?.unwrap_or(0).min(offset);
+        let listed = self.listed.get(&resource).copied().unwrap_or(0);
+        if length < listed.min(offset) {
+            return Err(StoreRefused::Failed);
+        }
+        Ok(length)
+    }
+
+    // An upload of a resource has ended.
+    fn forget(&mut self, key: StoreKey, resource: u32) {
+        self.uploads.remove(&key);
+        self.listed.remove(&resource);
+    }
+
+    // The file of an upload, open behind its bytes. It is made where it isn't there yet.
+    fn file_of(&mut self, key: StoreKey, upload: Upload) -> Result<File, StoreRefused> {
+        if let Some((last, file)) = self.open.take() {
+            if last == key {
+                return Ok(file);
+            }
+        }
+        if upload.is_made {
+            return self.place.open_work(key, upload.resource, upload.length);
+        }
+        self.make(key, upload)
+    }
+
+    // Makes the file of an upload, with the bytes that it has of what was left.
+    fn make(&mut self, key: StoreKey, upload: Upload) -> Result<File, StoreRefused> {
+        let file = self.place.make_work(key, upload.resource, upload.length)?;
+        if let Some(upload) = self.uploads.get_mut(&key) {
+            upload.is_made = true;
+        }
+        Ok(file)
+    }
+
+    // Closes the file of an upload with just its bytes in it, on the device.
+    fn close(&mut self, key: StoreKey, upload: Upload) -> Result<(), StoreRefused> {
+        let file = self.file_of(key, upload)?;
+        file.set_len(upload.length)?;
+        file.sync_all()?;
+        Ok(())
+    }
+
+    // Makes the files of other uploads of a resource, before what is left of it changes.
+    fn keep_left(&mut self, key: StoreKey, resource: u32) -> Result<(), StoreRefused> {
+        for other in self.waiting(key, resource)? {
+            if let Some(upload) = self.uploads.get(&other).copied() {
+                self.make(other, upload)?;
+            }
+        }
+        Ok(())
+    }
+
+    // The file of an upload goes, if it was made.
+    fn remove_file_of(&mut self, key: StoreKey) -> Result<(), StoreRefused> {
+        let Some(upload) = self.uploads.get(&key).copied() else {
+            return Ok(());
+        };
+        if matches!(&self.open, Some((last, _)) if *last == key) {
+            self.open = None;
+        }
+        if upload.is_made {
+            self.place.remove_work(key, upload.resource)?;
+        }
+        Ok(())
+    }
+
+    // What was renamed is so on the device, too.
+    fn sync(&self) -> Result<(), StoreRefused> {
+        if let Some(folder) = &self.lock {
+            folder.sync_all()?;
+        }
         Ok(())
     }
 
     // The uploads of a call, by rising session.
-    fn uploads_of(&self, call: u32) -> Result<Vec<StoreKey>, StoreRefused> {
-        let mut keys = Vec::new(self.alloc);
+    fn uploads_of(&self, call: u32) -> Result<Vec<StoreKey>, AllocError> {
+        let mut keys = Vec::new(self.place.alloc());
         for key in self.uploads.keys() {
             if key.call == call {
                 keys.push(*key)?;
@@ -153,41 +243,40 @@ impl<'a, F: Files> Folder<'a, F> {
         Ok(keys)
     }
 
-    // The resources of which the folder has a file of this kind, by rising id.
-    fn resources(&self, kind: &str) -> Result<Vec<u32>, StoreRefused> {
-        let mut ids = Vec::new(self.alloc);
-        for entry in fs::read_dir(&(self.files, self.alloc), self.path.as_str())? {
-            match entry {
-                Ok(entry) => {
-                    if let Some(id) = id_in(entry.file_name(), kind) {
-                        ids.push(id)?;
-                    }
-                }
-                // A name that isn't text is no file of a store.
-                Err(error) if error.kind() == io::ErrorKind::InvalidFilename => {}
-                Err(error) => return Err(StoreRefused::from(error)),
+    // The uploads of a resource, but this one, that have bytes of what was left and no file yet.
+    fn waiting(&self, key: StoreKey, resource: u32) -> Result<Vec<StoreKey>, AllocError> {
+        let mut keys = Vec::new(self.place.alloc());
+        for (other, upload) in &self.uploads {
+            let waits = upload.resource == resource && upload.length > 0 && !upload.is_made;
+            if waits && *other != key {
+                keys.push(*other)?;
             }
         }
-        ids.sort()?;
-        Ok(ids)
+        Ok(keys)
     }
 
-    fn listed(&self) -> Result<Fulls, StoreRefused> {
-        let mut rows = Fulls::new(self.alloc);
-        for id in self.resources(FULL)? {
-            let name = resource_file(self.alloc, &self.path, FULL, id)?;
-            let bytes = fs::read(&(self.files, self.alloc), &name)?;
-            rows.push((id, Bytes::from_vec(bytes)?))?;
+    // Leaves what is still under way, as far as the device allows.
+    fn leave_all(&mut self) -> Result<(), AllocError> {
+        let mut keys = Vec::new(self.place.alloc());
+        for key in self.uploads.keys() {
+            keys.push(*key)?;
         }
-        Ok(rows)
+        for key in keys {
+            let _ = self.leave(key);
+        }
+        Ok(())
     }
+}
 
-    fn lengths(&self) -> Result<Lefts, StoreRefused> {
-        let mut rows = Lefts::new(self.alloc);
-        for id in self.resources(LEFT)? {
-            let name = resource_file(self.alloc, &self.path, LEFT, id)?;
-            rows.push((id, fs::metadata(self.files, &name)?.len()))?;
-        }
-        Ok(rows)
+impl<'a, F: Files<File = File>> Drop for Folder<'a, F> {
+    fn drop(mut self) {
+        let _ = self.leave_all();
+        let Folder {
+            place: _place,
+            uploads: _uploads,
+            listed: _listed,
+            lock: _lock,
+            open: _open,
+        } = self;
     }
 }

@@ -1,32 +1,42 @@
 //! The names of a store's files.
 
 use crate::StoreKey;
-use std::alloc::{AllocError, Global};
 
-/// The file of a resource, of one of the kinds.
-pub(crate) fn resource_file(
-    alloc: Global,
-    folder: &String,
-    kind: &str,
-    resource: u32,
-) -> Result<String, AllocError> {
-    format!(in alloc; "{folder}/{kind}-{resource}")
+/// What a file of a store is, by its name.
+#[derive(Clone, Copy)]
+pub(crate) enum Name {
+    /// A whole resource.
+    Full(u32),
+    /// What is left of a resource.
+    Left(u32),
+    /// An upload, and the resource that it is of.
+    Work(StoreKey, u32),
 }
 
-/// The file of an upload under way.
-pub(crate) fn work_file(
-    alloc: Global,
-    folder: &String,
-    key: StoreKey,
-) -> Result<String, AllocError> {
-    let call = key.call;
-    let session = key.session;
-    format!(in alloc; "{folder}/work-{call}-{session}")
+impl Name {
+    /// What a file name says, each number in the one way that it is written. Other files are none of a store's.
+    pub(crate) fn read(text: &str) -> Option<Name> {
+        let (kind, numbers) = text.split_once('-')?;
+        match kind {
+            "full" => Some(Name::Full(number(numbers)?)),
+            "left" => Some(Name::Left(number(numbers)?)),
+            "work" => work(numbers),
+            _ => None,
+        }
+    }
 }
 
-/// The resource that a file name of this kind names, in the one way that it is written.
-pub(crate) fn id_in(name: &str, kind: &str) -> Option<u32> {
-    let digits = name.strip_prefix(kind)?.strip_prefix("-")?;
+fn work(numbers: &str) -> Option<Name> {
+    let (call, rest) = numbers.split_once('-')?;
+    let (session, resource) = rest.split_once('-')?;
+    let key = StoreKey {
+        call: number(call)?,
+        session: number(session)?,
+    };
+    Some(Name::Work(key, number(resource)?))
+}
+
+fn number(digits: &str) -> Option<u32> {
     if digits.starts_with('+') || (digits.len() > 1 && digits.starts_with('0')) {
         return None;
     }

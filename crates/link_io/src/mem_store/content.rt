@@ -1,7 +1,7 @@
 ghost use Rattle.std.specs.Prelude.{◌≡◌, ℕ, [], take, OnOk, OnErr, IfOk};
 ghost use Rattle.std.specs.Option.{option_copied};
-ghost use Rattle.link_io.specs.Resources.{found, with_resources, lengths_of};
-ghost use Rattle.link_io.specs.Stored.{Stored, begun, appended, committed, abandoned, all_abandoned, left_by, shelf_of};
+ghost use Rattle.link_io.specs.Resources.{found, with_resources, lengths_of, RiseById};
+ghost use Rattle.link_io.specs.Stored.{Stored, begun, appended, committed, abandoned, all_abandoned, left_by, shelf_of, Rises};
 
 use super::work::Work;
 use crate::{Fulls, Lefts, Shelf, StoreKey};
@@ -136,7 +136,8 @@ impl Content {
     }
 
     pub(crate) fn list(&self) -> Result<Shelf, AllocError>
-        ensures { IfOk result (λ shelf. shelf ≡ shelf_of self.now) }
+        ensures shelf { IfOk result (λ shelf. shelf ≡ shelf_of self.now) }
+        ensures rises { IfOk result Rises }
     {
         Ok(Shelf {
             full: listed(self.alloc, &self.full)?,
@@ -180,7 +181,8 @@ fn leave_in(alloc: Global, left: &mut BTreeMap<u32, Bytes>, work: &Work) -> Resu
 }
 
 fn listed(alloc: Global, map: &BTreeMap<u32, Bytes>) -> Result<Fulls, AllocError>
-    ensures { IfOk result (λ rows. rows ≡ map.now.entries) }
+    ensures rows { IfOk result (λ rows. rows ≡ map.now.entries) }
+    ensures rises { IfOk result RiseById }
 {
     let mut rows = Fulls::new(alloc);
     'resources: for (resource, bytes) in map {
@@ -190,7 +192,8 @@ fn listed(alloc: Global, map: &BTreeMap<u32, Bytes>) -> Result<Fulls, AllocError
 }
 
 fn lengths(alloc: Global, map: &BTreeMap<u32, Bytes>) -> Result<Lefts, AllocError>
-    ensures { IfOk result (λ rows. rows ≡ lengths_of map.now.entries) }
+    ensures rows { IfOk result (λ rows. rows ≡ lengths_of map.now.entries) }
+    ensures rises { IfOk result RiseById }
 {
     let mut rows = Lefts::new(alloc);
     'resources: for (resource, bytes) in map {

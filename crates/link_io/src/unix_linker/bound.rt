@@ -1,6 +1,8 @@
+use super::probe::is_deserted;
 use std::alloc::Global;
 use std::fs::Files;
 use std::net::Net;
+use std::os::unix::fs::{FileTypeExt, MetadataExt};
 use std::os::unix::net::{UnixListener, UnixStream};
 use std::{fs, io};
 
@@ -9,16 +11,25 @@ pub(crate) struct Bound<'a, R: Net + Files> {
     rt: &'a R,
     path: String,
     listener: UnixListener,
+    made: Option<Place>,
 }
 
+// Where a file stands: the device and its number there.
+type Place = (u64, u64);
+
 impl<'a, R: Net + Files> Bound<'a, R> {
-    /// Listens at a path.
+    /// Listens at a path. A socket that nobody listens at makes way for the new one.
     pub(crate) fn new(alloc: Global, rt: &'a R, path: &str) -> io::Result<Bound<'a, R>> {
         let copy = String::from_str(alloc, path)?;
+        if is_left_over(rt, path) {
+            fs::remove_file(rt, path)?;
+        }
+        let listener = UnixListener::bind(rt, path)?;
         Ok(Bound {
             rt,
             path: copy,
-            listener: UnixListener::bind(rt, path)?,
+            listener,
+            made: place_of(rt, path),
         })
     }
 
@@ -31,8 +42,29 @@ impl<'a, R: Net + Files> Bound<'a, R> {
 
 impl<'a, R: Net + Files> Drop for Bound<'a, R> {
     fn drop(self) {
-        let Self { rt, path, listener } = self;
+        let Self {
+            rt,
+            path,
+            listener,
+            made,
+        } = self;
         drop(listener);
-        let _ = fs::remove_file(rt, &path);
+        // Another file that stands there by now is left alone.
+        if made.is_some() && place_of(rt, path.as_str()) == made {
+            let _ = fs::remove_file(rt, &path);
+        }
     }
+}
+
+// A socket stands at the path that nobody listens at.
+fn is_left_over(rt: &(impl Net + Files), path: &str) -> bool {
+    match fs::symlink_metadata(rt, path) {
+        Ok(data) => data.file_type().is_socket() && is_deserted(rt, path).unwrap_or(false),
+        Err(_) => false,
+    }
+}
+
+fn place_of(rt: &impl Files, path: &str) -> Option<Place> {
+    let data = fs::symlink_metadata(rt, path).ok()?;
+    Some((data.dev(), data.ino()))
 }

@@ -1,7 +1,8 @@
 //! Up to three chunk frames of a short transfer are lost, and it ends OK.
 
-use super::ends_whole;
+use super::ends_well;
 use std::alloc::{AllocError, Global};
+use std::process::Abort;
 use std::test::Fail;
 
 /// The resource has three chunks, of which the last is short.
@@ -21,7 +22,7 @@ fn a_read_ends_well_without_any_one_chunk(rt: HostRuntime) -> Result<(), Fail> {
     let alloc = rt.alloc();
     for lost in (FIRST..=LAST).filter(|lost| *lost != 4) {
         let script = format!(in alloc; "server 7 {SIZE} 1\ndrop {lost}\nread 7 0\n")?;
-        assert!(rt; ends_whole(alloc, script.as_str(), SIZE)?, "{script}");
+        ends_well(&rt, alloc, script.as_str(), SIZE)?;
     }
     Ok(())
 }
@@ -31,35 +32,55 @@ fn a_write_ends_well_without_any_one_chunk(rt: HostRuntime) -> Result<(), Fail> 
     let alloc = rt.alloc();
     for lost in FIRST..=LAST {
         let script = format!(in alloc; "client 7 {SIZE} 1\ndrop {lost}\nwrite 7 0\n")?;
-        assert!(rt; ends_whole(alloc, script.as_str(), SIZE)?, "{script}");
+        ends_well(&rt, alloc, script.as_str(), SIZE)?;
     }
     Ok(())
 }
 
+// The read without these pieces.
+fn read_ends_well(
+    rt: &impl Abort,
+    alloc: Global,
+    first: u32,
+    second: u32,
+    third: u32,
+) -> Result<(), AllocError> {
+    let drops = drops(alloc, first, second, third)?;
+    let script = format!(in alloc; "server 7 {SIZE} 1\n{drops}read 7 0\n")?;
+    ends_well(rt, alloc, script.as_str(), SIZE)
+}
+
 #[test]
 fn a_read_ends_well_without_any_pieces(rt: HostRuntime) -> Result<(), Fail> {
-    let alloc = rt.alloc();
     for first in FIRST_PIECE..=LAST {
         for second in first..=LAST {
             for third in second..=LAST {
-                let drops = drops(alloc, first, second, third)?;
-                let script = format!(in alloc; "server 7 {SIZE} 1\n{drops}read 7 0\n")?;
-                assert!(rt; ends_whole(alloc, script.as_str(), SIZE)?, "{script}");
+                read_ends_well(&rt, rt.alloc(), first, second, third)?;
             }
         }
     }
     Ok(())
 }
 
+// The write without these chunks.
+fn write_ends_well(
+    rt: &impl Abort,
+    alloc: Global,
+    first: u32,
+    second: u32,
+    third: u32,
+) -> Result<(), AllocError> {
+    let drops = drops(alloc, first, second, third)?;
+    let script = format!(in alloc; "client 7 {SIZE} 1\n{drops}write 7 0\n")?;
+    ends_well(rt, alloc, script.as_str(), SIZE)
+}
+
 #[test]
 fn a_write_ends_well_without_any_three_chunks(rt: HostRuntime) -> Result<(), Fail> {
-    let alloc = rt.alloc();
     for first in FIRST..=LAST {
         for second in first..=LAST {
             for third in second..=LAST {
-                let drops = drops(alloc, first, second, third)?;
-                let script = format!(in alloc; "client 7 {SIZE} 1\n{drops}write 7 0\n")?;
-                assert!(rt; ends_whole(alloc, script.as_str(), SIZE)?, "{script}");
+                write_ends_well(&rt, rt.alloc(), first, second, third)?;
             }
         }
     }

@@ -39,7 +39,7 @@ impl IndexedStates {
     pub fn none_waiting(&self) -> bool
         ensures { (ds : List Deed) → Agrees ds self.now → result ≡ all_below (call_count ds) (λ c. is_empty (waiting_of ds c)) }
     {
-        self.index.waiting.calls.is_empty()
+        self.index.owed.queued == 0
     }
 }
 

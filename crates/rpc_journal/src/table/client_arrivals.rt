@@ -1,43 +1,37 @@
 //! What a client makes of a packet, by its type and the state of the call of its name.
-ghost use Rattle.std.specs.Prelude.{◌≡◌, ℕ, List};
+ghost use Rattle.std.specs.Prelude.{◌≡◌, ℕ, List, IfSome};
 ghost use Rattle.rpc_ids.specs.declared.method.MethodRef.{MethodRef};
 ghost use Rattle.rpc_ids.specs.declared.method.Role.TheVariants.{Client};
 ghost use Rattle.rpc_ids.specs.Status.{status_of};
 ghost use Rattle.rpc_packet.specs.declared.owned.Packet.{Packet};
 ghost use Rattle.rpc_journal.specs.declared.table.call_state.CallState.{CallState};
 ghost use Rattle.rpc_journal.specs.declared.setting.Setting.{Setting};
-ghost use Rattle.rpc_journal.specs.Calls.{call_count};
+ghost use Rattle.rpc_channel.specs.Rising.{has_id};
+ghost use Rattle.rpc_journal.specs.Calls.{call_count, live_call};
 ghost use Rattle.rpc_journal.specs.ClientTable.{live_row, no_call_row, response_row, server_stream_row};
 ghost use Rattle.rpc_journal.specs.Effect.{Deed};
 ghost use Rattle.rpc_journal.specs.Entries.{arrive_row};
-ghost use Rattle.rpc_journal.specs.Faults.{IsSettingOf};
+ghost use Rattle.rpc_journal.specs.Rows.{channels_in};
 ghost use Rattle.rpc_journal.specs.table.Moves.{IsOpenMove, row_of};
-ghost use Rattle.rpc_journal.specs.table.Agrees.{IsOpenAt, Agrees};
+ghost use Rattle.rpc_journal.specs.table.Agrees.{IsOpenAt};
 
 use crate::kinds::{is_okay, streams_down};
 use crate::table::arrival_move::Move;
-use crate::table::call_states::CallStates;
-use rpc_channel::Channels;
 use rpc_ids::{Kind, Registry, Status};
 use rpc_packet::{Packet, PacketType};
 
-/// What a client with these channels and methods makes of a packet.
+/// What a client makes of a packet, by whether its channel is in, and which live call has its name.
 #[tactic(auto, unfolding(crate::specs::Entries::arrive_row))]
-pub fn client_move(
-    states: &CallStates,
-    p: &Packet,
-    channels: &Channels,
-    registry: &Registry,
-) -> Move
-    ensures row { (set : Setting) (ds : List Deed) → IsSettingOf set Client channels.now registry.now → Agrees ds states.now → arrive_row set ds p.now ≡ row_of result p.now (call_count ds) }
-    ensures call { IsOpenMove states.now.calls.items result }
+pub fn client_move(is_in: bool, live: Option<usize>, p: &Packet, registry: &Registry) -> Move
+    ensures row { (set : Setting) (ds : List Deed) → set.role ≡ Client → set.registry ≡ registry.now → has_id (channels_in set ds) p.now.name.channel ≡ is_in → live_call ds p.now.name ≡ live → arrive_row set ds p.now ≡ row_of result p.now (call_count ds) }
+    ensures call { (states : List CallState) → IfSome live (λ c. IsOpenAt states c) → IsOpenMove states result }
 {
-    if !states.is_in(channels, p.name.channel) {
+    if !is_in {
         return Move::Drop;
     }
     match registry.find(p.name.service, p.name.method) {
         None => no_call_move(p.ptype),
-        Some(method) => match states.live(p.name) {
+        Some(method) => match live {
             None => no_call_move(p.ptype),
             Some(call) => live_move(p, method.kind, call),
         },

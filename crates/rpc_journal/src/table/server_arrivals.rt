@@ -4,43 +4,40 @@ ghost use Rattle.rpc_ids.specs.declared.method.MethodRef.{MethodRef};
 ghost use Rattle.rpc_ids.specs.declared.method.Role.TheVariants.{Server};
 ghost use Rattle.rpc_journal.specs.declared.table.call_state.CallState.{CallState};
 ghost use Rattle.rpc_journal.specs.declared.setting.Setting.{Setting};
-ghost use Rattle.rpc_journal.specs.Calls.{call_count};
+ghost use Rattle.rpc_channel.specs.Rising.{has_id};
+ghost use Rattle.rpc_journal.specs.Calls.{call_count, live_call};
 ghost use Rattle.rpc_journal.specs.Effect.{Deed};
 ghost use Rattle.rpc_journal.specs.Entries.{arrive_row};
-ghost use Rattle.rpc_journal.specs.Faults.{IsSettingOf};
 ghost use Rattle.rpc_journal.specs.table.Moves.{IsOpenMove, row_of};
 ghost use Rattle.rpc_journal.specs.Queues.{is_completed};
+ghost use Rattle.rpc_journal.specs.Rows.{channels_in};
 ghost use Rattle.rpc_journal.specs.ServerTable.{client_error_row, request_row, client_stream_row, completion_row, known_row, unknown_row};
-ghost use Rattle.rpc_journal.specs.table.Agrees.{IsOpenAt, Agrees};
+ghost use Rattle.rpc_journal.specs.table.Agrees.{IsOpenAt};
 
 use crate::kinds::{is_unary, streams_up};
 use crate::table::arrival_move::Move;
-use crate::table::call_states::CallStates;
-use rpc_channel::Channels;
 use rpc_ids::{Kind, MethodRef, Registry, Status};
 use rpc_packet::{Packet, PacketType};
 
-/// What a server with these channels and methods makes of a packet.
+/// What a server makes of a packet, by whether its channel is in, which live call has its name, and whether that one's
+/// input is complete.
 #[tactic(auto, unfolding(crate::specs::Entries::arrive_row))]
 pub fn server_move(
-    states: &CallStates,
+    is_in: bool,
+    live: Option<usize>,
+    completed: bool,
     p: &Packet,
-    channels: &Channels,
     registry: &Registry,
 ) -> Move
-    ensures row { (set : Setting) (ds : List Deed) → IsSettingOf set Server channels.now registry.now → Agrees ds states.now → arrive_row set ds p.now ≡ row_of result p.now (call_count ds) }
-    ensures call { IsOpenMove states.now.calls.items result }
+    ensures row { (set : Setting) (ds : List Deed) → set.role ≡ Server → set.registry ≡ registry.now → has_id (channels_in set ds) p.now.name.channel ≡ is_in → live_call ds p.now.name ≡ live → IfSome live (λ c. is_completed ds c ≡ completed) → arrive_row set ds p.now ≡ row_of result p.now (call_count ds) }
+    ensures call { (states : List CallState) → IfSome live (λ c. IsOpenAt states c) → IsOpenMove states result }
 {
-    if !states.is_in(channels, p.name.channel) {
+    if !is_in {
         return unknown_move(p.ptype, Status::Unavailable);
     }
     match registry.find(p.name.service, p.name.method) {
         None => unknown_move(p.ptype, Status::NotFound),
-        Some(method) => {
-            let live = states.live(p.name);
-            let completed = states.is_completed(live);
-            known_move(p, method, live, completed)
-        }
+        Some(method) => known_move(p, method, live, completed),
     }
 }
 

@@ -1,5 +1,5 @@
 //! What comes in.
-ghost use Rattle.std.specs.Prelude.{◌≡◌, ℕ, ◌<◌, ◌≤◌, true, false, length, Some, Err, IfOk, IfSome, OnErr};
+ghost use Rattle.std.specs.Prelude.{◌≡◌, ℕ, List, ◌<◌, ◌≤◌, true, false, length, Some, Err, IfOk, IfSome, OnErr};
 ghost use Rattle.rpc_journal.specs.declared.answers.StartRefused.{StartRefused};
 ghost use Rattle.rpc_journal.specs.Conditions.{IsHeard};
 ghost use Rattle.rpc_journal.specs.Items.{input_ended};
@@ -83,6 +83,7 @@ impl<M: Maker> Server<M> {
         requires open { input_ended (deeds self.old.serving) ≡ false }
         ensures step { EndsInput self.old.serving self.new.serving }
         ensures listener { self.new.listener ≡ self.old.listener }
+        ensures fed { (bytes : List ℕ) → WasFed server_role self.old bytes → WasFed server_role self.new bytes }
     {
         self.calls.end_in(ARRIVALS);
     }

@@ -1,10 +1,12 @@
 //! The runs of handlers.
-ghost use Rattle.std.specs.Prelude.{◌≡◌, true, Some, is_some, OnOk, OnErr};
+ghost use Rattle.std.specs.Prelude.{◌≡◌, ℕ, List, true, Some, is_some, OnOk, OnErr};
 ghost use Rattle.rpc_journal.specs.declared.entry.EntryKind.TheVariants.{Finish};
 ghost use Rattle.rpc_journal.specs.History.{adding};
 ghost use Rattle.rpc_journal.specs.Lawful.{IsLegal};
 ghost use Rattle.rpc_journal.specs.Runs.{IsRunning};
+ghost use Rattle.rpc_ids.specs.declared.method.Role.TheVariants.{Server as server_role};
 ghost use Rattle.rpc_schedule.specs.Serving.{Ends, Works};
+ghost use Rattle.rpc_schedule.specs.ends.EndState.{WasFed};
 ghost use Rattle.rpc_schedule.specs.ends.Working.{TakesRun};
 
 use super::Server;
@@ -23,6 +25,15 @@ impl<M: Maker> Server<M> {
     /// Where the journal has no room for a run, or memory is wanting. A run that began before memory was wanting is kept,
     /// and the next call goes on with it.
     pub fn work(&mut self) -> Result<bool, StartRefused>
+        ensures step { Works M.H.rule self.old.serving result self.new.serving }
+        ensures listener { self.new.listener ≡ self.old.listener }
+        ensures fed { (bytes : List ℕ) → WasFed server_role self.old bytes → WasFed server_role self.new bytes }
+    {
+        self.work_once()
+    }
+
+    // The same.
+    fn work_once(&mut self) -> Result<bool, StartRefused>
         ensures step { Works M.H.rule self.old.serving result self.new.serving }
         ensures listener { self.new.listener ≡ self.old.listener }
     {

@@ -1,6 +1,8 @@
 //! Time goes on.
+ghost use Rattle.std.specs.Prelude.{ℕ, List};
+ghost use Rattle.rpc_ids.specs.declared.method.Role.TheVariants.{Server as server_role};
 ghost use Rattle.rpc_journal.specs.Changes.{TickDid};
-ghost use Rattle.rpc_schedule.specs.ends.EndState.{KeepsAside};
+ghost use Rattle.rpc_schedule.specs.ends.EndState.{KeepsAside, WasFed};
 
 use super::Server;
 use rpc_handlers::Maker;
@@ -16,6 +18,7 @@ impl<M: Maker> Server<M> {
     pub fn tick(&mut self, now: u64) -> Result<(), StartRefused>
         ensures did { TickDid 1 now result self.old.serving.table.entries self.new.serving.table.entries }
         ensures aside { KeepsAside self.old self.new }
+        ensures fed { (bytes : List ℕ) → WasFed server_role self.old bytes → WasFed server_role self.new bytes }
     {
         self.calls.tick(FLUSHES, now)
     }

@@ -1,18 +1,18 @@
 //! A run that looks for the wakes of other threads.
 ghost use Rattle.std.specs.Prelude.{◌≡◌, ◌≢◌, ℕ, ◌+◌, ◌%◌, ◌^◌, ◌<◌, List, ◌∷◌, true, false, Some, None, slice_get, length, MatchOption};
 ghost use Rattle.slab.specs.Slab.{get};
-ghost use Rattle.wake_bells.specs.Bells.{Rung, rung_by, HasSums, NoneLost};
+ghost use Rattle.task_core.specs.bells.Bells.{Rung, rung_by, HasSums, NoneLost};
 ghost use Rattle.task_core.specs.Log.{Step, heard, looks_of, poll_heard};
 ghost use Rattle.task_core.specs.Due.{lives, is_due};
 ghost use Rattle.task_core.specs.Places.{due_in, lives_in};
 ghost use Rattle.task_core.specs.Hearing.{IsSameEar, HearsOne, Scanned, RanHearing};
 ghost use Rattle.task_core.specs.Tasks.{StandsFor, HasKey, Keeps};
 
+use crate::bells::{Bells, Ear};
 use crate::dispatcher::Dispatcher;
 use crate::stop::Stop;
 use crate::task::Task;
 use std::alloc::AllocError;
-use wake_bells::{Bells, Ear};
 
 impl<T: Task> Dispatcher<T> {
     /// A run as `run_until_stalled`, which loads the words of wakes first: in each turn that of each task that lives, up to

@@ -1,6 +1,6 @@
 use Rattle.std.proofs.Common.{◌∙◌, None, ap, subst, sym}
-use Rattle.world_client.specs.Underway.{under_of, under_seen}
-use Rattle.world_turns.specs.Lines.{command_ended}
+use Rattle.link_world.specs.client.Underway.{under_of, under_seen}
+use Rattle.link_laws.specs.world.Lines.{command_ended}
 use Rattle.link_world.specs.Showing.{Shows}
 use Rattle.link_world.proofs.EndLemmas.{ended_so, unended_so}
 use Rattle.link_world.proofs.ending.end_command.Goals as goal

@@ -1,5 +1,5 @@
-use Rattle.world_ends.proofs.OutLemmas.{on_ok_one}
-use Rattle.world_turns.specs.Lines.{with_released}
+use Rattle.link_world.proofs.server.OutLemmas.{on_ok_one}
+use Rattle.link_laws.specs.world.Lines.{with_released}
 use Rattle.link_world.proofs.EndLemmas.{finished_so, rewired}
 use Rattle.link_world.proofs.ending.finish.Goals as goal
 

@@ -1,7 +1,7 @@
 use Rattle.std.proofs.Common.{subst}
-use Rattle.world_ends.proofs.OutLemmas.{on_ok_one}
-use Rattle.world_turns.specs.Limits.{StopsIn}
-use Rattle.world_turns.specs.Turns.{cancelling, starting, timing, to_client, to_server}
+use Rattle.link_world.proofs.server.OutLemmas.{on_ok_one}
+use Rattle.link_laws.specs.world.Limits.{StopsIn}
+use Rattle.link_laws.specs.world.Turns.{cancelling, starting, timing, to_client, to_server}
 use Rattle.link_world.specs.Making.{ClientTurns, ServerTurns, TakesTurn}
 use Rattle.link_world.proofs.MakeLemmas.{client_turns, next_turns, server_turns}
 use Rattle.link_world.proofs.StopLemmas.{next_stops}

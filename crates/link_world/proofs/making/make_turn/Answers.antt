@@ -1,5 +1,5 @@
 use Rattle.rpc_schedule.proofs.StreamLemmas.{handed_on}
-use Rattle.world_ends.specs.declared.stopped.Stopped.TheVariants.{Journal}
+use Rattle.link_world.specs.declared.server.stopped.Stopped.TheVariants.{Journal}
 use Rattle.link_world.proofs.MakeLemmas.{made_so, timed_so}
 use Rattle.link_world.proofs.making.make_turn.Goals as goal
 

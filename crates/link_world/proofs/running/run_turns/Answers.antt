@@ -1,8 +1,8 @@
 use Rattle.std.proofs.Common.{◌*◌, refl}
-use Rattle.world_turns.specs.declared.limits.TheConstants.{TURN_OF_TIME}
+use Rattle.link_laws.specs.declared.world.limits.TheConstants.{TURN_OF_TIME}
 use Rattle.link_world.specs.Running.{setup_by}
 use Rattle.link_world.proofs.RunLemmas.{can_turn, ends_with, goes_on, past_frames}
-use Rattle.link_world.proofs.StopLemmas.{past_journal, stopped_so}
+use Rattle.link_world.proofs.StopLemmas.{fewer_told, past_journal, stopped_so}
 use Rattle.link_world.proofs.running.run_turns.Goals as goal
 
 pub returns-then-course-ge-MAX_DELIVERIES-clause-frames : goal.returns-then-course-ge-MAX_DELIVERIES-clause-frames
@@ -54,3 +54,4 @@ returns-in_err-make_turn-clause-journal c = λ is.
     (c.make_turn.ensures.journal (stopped_so c.from_residual.result c.make_turn.result c.in_err-make_turn.field-0.0 c.in_err-make_turn.was c.from_residual.ensures is)
     k c.args.commands.now comes.now comes.shows.server comes.shows.client comes.shows.course (record { window = refl; chunk = refl })
     (c.in-Some.ensures.turn k comes.now comes.shows.wires comes.shows.course))
+    (fewer_told k c.args.commands.now c.turns.server c.turns.client c.turns.wires c.turns.course comes c.if-course-ge-MAX_DELIVERIES.false)

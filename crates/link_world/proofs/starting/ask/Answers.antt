@@ -1,8 +1,8 @@
 use Rattle.std.proofs.Common.{refl, subst, sym}
 use Rattle.std.proofs.lemmas.Result.{IfErr-at_err}
 use Rattle.rpc_schedule.proofs.StreamLemmas.{handed_on}
-use Rattle.world_client.specs.Asking.{IsClientOf}
-use Rattle.world_ends.specs.declared.stopped.Stopped.TheVariants.{Journal}
+use Rattle.link_world.specs.client.Asking.{IsClientOf}
+use Rattle.link_world.specs.declared.server.stopped.Stopped.TheVariants.{Journal}
 use Rattle.link_world.proofs.ClientLemmas.{asked_so, client_of}
 use Rattle.link_world.proofs.StopLemmas.{start_stops}
 use Rattle.link_world.proofs.starting.ask.Goals as goal

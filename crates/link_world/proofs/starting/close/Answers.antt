@@ -1,7 +1,7 @@
 use Rattle.std.proofs.Common.{refl}
 use Rattle.std.proofs.lemmas.Result.{IfErr-at_err}
 use Rattle.rpc_schedule.proofs.StreamLemmas.{handed_on}
-use Rattle.world_ends.specs.declared.stopped.Stopped.TheVariants.{Journal}
+use Rattle.link_world.specs.declared.server.stopped.Stopped.TheVariants.{Journal}
 use Rattle.link_world.proofs.ServerLemmas.{closed_so}
 use Rattle.link_world.proofs.StopLemmas.{close_stops}
 use Rattle.link_world.proofs.starting.close.Goals as goal

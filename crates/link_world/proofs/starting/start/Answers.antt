@@ -1,8 +1,8 @@
 use Rattle.std.proofs.Common.{◌+◌, subst, sym}
 use Rattle.link_script.specs.declared.command.Command.TheVariants.{Close}
-use Rattle.world_ends.proofs.OutLemmas.{on_ok_one, on_ok_two}
-use Rattle.world_turns.specs.Limits.{StopsIn}
-use Rattle.world_turns.specs.Turns.{starting}
+use Rattle.link_world.proofs.server.OutLemmas.{on_ok_one, on_ok_two}
+use Rattle.link_laws.specs.world.Limits.{StopsIn}
+use Rattle.link_laws.specs.world.Turns.{starting}
 use Rattle.link_world.specs.Making.{WorldTurns}
 use Rattle.link_world.proofs.MakeLemmas.{client_turns, rest_is, server_turns, stands_after, taken_so}
 use Rattle.link_world.proofs.starting.start.Goals as goal

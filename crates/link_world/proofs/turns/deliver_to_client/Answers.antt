@@ -1,6 +1,6 @@
 use Rattle.std.proofs.Common.{refl, subst}
 use Rattle.std.proofs.lemmas.Result.{IfErr-at_err}
-use Rattle.world_client.specs.ClientSide.{ClientHearingStops, ClientHears}
+use Rattle.link_world.specs.client.ClientSide.{ClientHearingStops, ClientHears}
 use Rattle.link_world.proofs.MakeLemmas.{on_ok_four}
 use Rattle.link_world.proofs.ClientLemmas.{delivered_down}
 use Rattle.link_world.proofs.StopLemmas.{down_stops}

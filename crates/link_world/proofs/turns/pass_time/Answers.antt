@@ -5,11 +5,11 @@ use Rattle.rpc_journal.specs.declared.entry.EntryKind.TheVariants.{Tick}
 use Rattle.rpc_journal.specs.History.{adding}
 use Rattle.rpc_schedule.specs.Schedule.{Settles, flush_seat}
 use Rattle.rpc_schedule.proofs.StreamLemmas.{handed_on}
-use Rattle.world_turns.specs.Limits.{ClientStops, ServerStopsWith}
-use Rattle.world_turns.specs.Setup.{client_setting}
-use Rattle.world_client.specs.ClientSide.{ClientWorks}
-use Rattle.world_client.specs.Underway.{task_seen}
-use Rattle.world_ends.specs.declared.stopped.Stopped.TheVariants.{Journal}
+use Rattle.link_laws.specs.world.Limits.{ClientStops, ServerStopsWith}
+use Rattle.link_laws.specs.world.Setup.{client_setting}
+use Rattle.link_world.specs.client.ClientSide.{ClientWorks}
+use Rattle.link_world.specs.client.Underway.{task_seen}
+use Rattle.link_world.specs.declared.server.stopped.Stopped.TheVariants.{Journal}
 use Rattle.link_world.proofs.MakeLemmas.{on_ok_four}
 use Rattle.link_world.proofs.StopLemmas.{poll_stops, tick_stops}
 use Rattle.link_world.proofs.TimeLemmas.{time_passed}

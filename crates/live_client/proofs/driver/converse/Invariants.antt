@@ -14,6 +14,7 @@ invariant-loop g l = record {
   fits : g.W.Errand.fits l.errand l.wakes.bells;
   past : g.W.Errand.moment l.errand ≤ g.C.Clock.last l.clock;
   uncut : g.W.Errand.cuts l.errand ≡ false;
+  whole : g.W.Errand.short l.errand ≡ false;
   more : g.O.Sink.finished l.output ≡ false;
   later : g.C.Clock.last l.fn.clock ≤ g.C.Clock.last l.clock;
   sink_later : g.O.Sink.faults l.fn.output ≤ g.O.Sink.faults l.output;

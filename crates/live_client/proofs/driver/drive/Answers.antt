@@ -1,6 +1,6 @@
 use Rattle.std.proofs.Common.{true, false, refl, sym, subst, inl, arith, le_refl}
 use Rattle.turn_cell.proofs.Calls.{same_trans}
-use Rattle.live_errand.proofs.TellLemmas.{on_err_map, on_ok_map}
+use Rattle.live_client.proofs.asks.TellLemmas.{on_err_map, on_ok_map}
 use Rattle.live_client.specs.Driving.{Works, is_flushing}
 use Rattle.live_client.proofs.StepsOf.{can_on}
 use Rattle.live_client.proofs.WorkLemmas.{finish_fails, works_failed, works_finished}

@@ -1,4 +1,4 @@
-use Rattle.rpc_crew.proofs.StepLemmas.{look_settled}
+use Rattle.rpc_shared.proofs.session.StepLemmas.{look_settled}
 use Rattle.live_client.specs.Driving.{is_running}
 use Rattle.live_client.specs.Silent.{silent_rule}
 use Rattle.live_client.proofs.StepsOf.{look_calm}

@@ -1,5 +1,5 @@
 use Rattle.std.proofs.Common.{false, ◌∙◌}
-use Rattle.rpc_crew.proofs.PassLemmas.{adds_trans, adds_weaker}
+use Rattle.rpc_shared.proofs.session.PassLemmas.{adds_trans, adds_weaker}
 use Rattle.live_client.specs.Driving.{is_cutting, is_running, is_talking}
 use Rattle.live_client.specs.Silent.{silent_rule}
 use Rattle.live_client.proofs.StepsOf.{can_on}

@@ -1,5 +1,5 @@
 use Rattle.std.proofs.Common.{◌≤◌, true, false, sym, ◌∙◌, subst}
-use Rattle.rpc_crew.proofs.PassLemmas.{adds_trans}
+use Rattle.rpc_shared.proofs.session.PassLemmas.{adds_trans}
 use Rattle.live_client.specs.Driving.{Talks, is_saying}
 use Rattle.live_client.specs.Silent.{silent_rule}
 use Rattle.live_client.proofs.StepsOf.{can_on}

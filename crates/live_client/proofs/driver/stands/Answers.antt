@@ -1,5 +1,5 @@
 use Rattle.std.proofs.Common.{sym, ◌∙◌}
-use Rattle.rpc_crew.proofs.StepLemmas.{look_halted, look_mine}
+use Rattle.rpc_shared.proofs.session.StepLemmas.{look_halted, look_mine}
 use Rattle.live_client.specs.Driving.{is_saying}
 use Rattle.live_client.specs.Silent.{silent_rule}
 use Rattle.live_client.proofs.StepsOf.{look_calm, look_unhalted}

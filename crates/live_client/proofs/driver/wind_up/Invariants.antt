@@ -11,6 +11,7 @@ invariant-loop g l = record {
   same : IsSame l.fn.pass l.pass;
   ready : g.W.Errand.ready l.errand;
   origin : g.W.Errand.origin l.errand ≡ g.W.Errand.origin l.fn.errand;
+  short : g.W.Errand.short l.errand ≡ g.W.Errand.short l.fn.errand;
   done : g.O.Sink.finished l.output ≡ true;
   sink_later : g.O.Sink.faults l.fn.output ≤ g.O.Sink.faults l.output;
   store_later : g.S.Store.faults l.fn.store ≤ g.S.Store.faults l.store;

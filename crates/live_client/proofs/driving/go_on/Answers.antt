@@ -1,6 +1,6 @@
 use Rattle.std.proofs.Common.{refl, sym, subst, true, false, arith, ◌≤◌}
 use Rattle.link_io.specs.declared.why.Why.TheVariants.{Memory}
-use Rattle.rpc_crew.proofs.PassLemmas.{adds_self}
+use Rattle.rpc_shared.proofs.session.PassLemmas.{adds_self}
 use Rattle.live_client.specs.Driving.{Talks, is_saying}
 use Rattle.live_client.specs.Silent.{silent_rule}
 use Rattle.live_client.proofs.StepsOf.{halt_calm}

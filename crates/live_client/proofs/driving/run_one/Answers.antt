@@ -1,5 +1,5 @@
 use Rattle.std.proofs.Common.{true}
-use Rattle.rpc_crew.proofs.PassLemmas.{adds_self, adds_trans}
+use Rattle.rpc_shared.proofs.session.PassLemmas.{adds_self, adds_trans}
 use Rattle.live_client.specs.Driving.{is_running}
 use Rattle.live_client.specs.Silent.{silent_rule}
 use Rattle.live_client.proofs.StepsOf.{can_on}

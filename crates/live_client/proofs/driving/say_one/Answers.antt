@@ -1,5 +1,5 @@
 use Rattle.std.proofs.Common.{true, false}
-use Rattle.rpc_crew.proofs.PassLemmas.{adds_self}
+use Rattle.rpc_shared.proofs.session.PassLemmas.{adds_self}
 use Rattle.live_client.specs.Driving.{is_saying}
 use Rattle.live_client.specs.Silent.{silent_rule}
 use Rattle.live_client.proofs.TalkLemmas.{talks_said, talks_same, talks_unsaid}

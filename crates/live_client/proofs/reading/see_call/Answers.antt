@@ -2,7 +2,7 @@ use Rattle.std.proofs.Common.{ap, sym, ◌∙◌, arith}
 use Rattle.rpc_journal.specs.Calls.{call_count}
 use Rattle.rpc_journal.specs.History.{history}
 use Rattle.live_client.proofs.FeedLemmas.{has_looked_none, looked_on, looked_reader, some_call, some_halt}
-use Rattle.rpc_crew.proofs.StepLemmas.{look_halted}
+use Rattle.rpc_shared.proofs.session.StepLemmas.{look_halted}
 use Rattle.live_client.specs.Silent.{silent_rule}
 use Rattle.live_client.proofs.reading.see_call.Goals as goal
 

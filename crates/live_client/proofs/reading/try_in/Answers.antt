@@ -1,9 +1,9 @@
 use Rattle.std.proofs.Common.{Err, refl, ap, ◌∙◌}
 use Rattle.live_client.specs.Feeding.{is_feeding}
 use Rattle.live_client.specs.Silent.{silent_rule}
-use Rattle.rpc_crew.proofs.PassLemmas.{adds_trans}
+use Rattle.rpc_shared.proofs.session.PassLemmas.{adds_trans}
 use Rattle.live_client.proofs.FeedLemmas.{arrived_more, feeds, halted_arrivals, input_open, on_err_of, reader_on}
-use Rattle.rpc_crew.proofs.StepLemmas.{arrive_full, arrive_mine, look_adds, look_halted, look_mine, refused_mine}
+use Rattle.rpc_shared.proofs.session.StepLemmas.{arrive_full, arrive_mine, look_adds, look_halted, look_mine, refused_mine}
 use Rattle.rpc_journal.specs.Items.{arrivals}
 use Rattle.turn_cell.proofs.Calls.{same_trans}
 use Rattle.live_client.proofs.WakeLemmas.{rang_none, rang_once}

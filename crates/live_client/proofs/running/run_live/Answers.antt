@@ -1,13 +1,14 @@
-use Rattle.std.proofs.Common.{is_none, is_ok, refl, sym, ap, ◌∙◌, subst}
+use Rattle.std.proofs.Common.{◌≡◌, true, false, is_none, is_ok, refl, sym, ap, ◌∙◌, subst}
 use Rattle.turn_cell.specs.Passes.{AllFit, AreAll, IsIdle, IsNew}
 use Rattle.turn_cell.proofs.Calls.{same_trans}
 use Rattle.rpc_journal.specs.Laws.{seat_of}
 use Rattle.rpc_shared.specs.Steps.{base_of, log_of}
-use Rattle.live_client.specs.Asks.{live_name, opens}
+use Rattle.rpc_shared.specs.session.Sessions.{is_halted}
+use Rattle.live_client.specs.Ask.{live_name, live_setting, opens}
 use Rattle.live_client.specs.Ran.{HasRun}
 use Rattle.live_client.specs.Told.{HasTold}
 use Rattle.live_client.proofs.FeedLemmas.{fed_nothing}
-use Rattle.live_client.proofs.RunLemmas.{both_idle, driver_uncut, has_run, run_ends, why_halted, why_told}
+use Rattle.live_client.proofs.RunLemmas.{both_idle, driver_uncut, has_run, run_ends, run_well, why_halted, why_told}
 use Rattle.live_client.proofs.running.run_live.Goals as goal
 
 pub open_call-requires-clause-new : goal.open_call-requires-clause-new
@@ -86,6 +87,34 @@ returns-clause-told g c =
     (c.requires.fresh (last c.args.clock.now) (last c.args.clock.now)) e.reader.0 e.read c.run_both.result.1 e.drove e.settled e.halted c.close-calls.result
     (subst (λ l. AllFit log_of seat_of base_of l c.close-calls.result) c.together.ensures c.close-calls.ensures.fits) c.close-calls.ensures.setting c.close-calls.ensures.legal in
     subst (HasTold (λ all. g.W.Errand.did c.run_both.new.errand all (last c.args.clock.now) (last c.run_both.new.clock))) (sym c.into_journal.ensures.entries) ends.told
+
+pub returns-clause-whole : goal.returns-clause-whole
+returns-clause-whole g c =
+    let r = c.in_ok-table.table in
+    let e = c.run_both.ensures in
+    let last = g.C.Clock.last in
+    let base = c.in_ok-table.ensures.turn.1 in
+    subst (λ h. is_halted live_setting h ≡ false → g.W.Errand.short c.run_both.new.errand ≡ false) (sym c.into_journal.ensures.entries)
+    (run_well r base g.W.Errand.watches c.args.service c.args.method c.args.payload c.in-Some.call c.open_call.new.pass c.run_both.new.reader c.run_both.new.driver c.in-Some.ensures.opens
+    (g.W.Errand.did c.args.errand.now) (g.W.Errand.did c.run_both.new.errand) (g.W.Errand.cuts c.run_both.new.errand) (last c.args.clock.now) (last c.run_both.new.clock)
+    (g.I.Source.left c.args.link_in.now) (g.I.Source.left c.run_both.new.input) (g.O.Sink.written c.args.link_out.now) (g.O.Sink.written c.run_both.new.output) (g.S.Store.holds c.args.store.now) (g.S.Store.holds c.run_both.new.store)
+    (g.O.Sink.faults c.args.link_out.now) (g.O.Sink.faults c.run_both.new.output) (g.S.Store.faults c.args.store.now) (g.S.Store.faults c.run_both.new.store) c.run_both.result.0.ending c.run_both.result.0.read c.run_both.new.listener
+    (c.requires.fresh (last c.args.clock.now) (last c.args.clock.now)) e.reader.0 e.read c.run_both.result.1 e.drove e.whole e.settled e.halted c.close-calls.result
+    (subst (λ l. AllFit log_of seat_of base_of l c.close-calls.result) c.together.ensures c.close-calls.ensures.fits) c.close-calls.ensures.setting c.close-calls.ensures.legal)
+
+pub returns-clause-finished : goal.returns-clause-finished
+returns-clause-finished g c =
+    let r = c.in_ok-table.table in
+    let e = c.run_both.ensures in
+    let last = g.C.Clock.last in
+    let base = c.in_ok-table.ensures.turn.1 in
+    subst (λ h. is_halted live_setting h ≡ false → g.O.Sink.finished c.run_both.new.output ≡ true) (sym c.into_journal.ensures.entries)
+    (run_well r base g.W.Errand.watches c.args.service c.args.method c.args.payload c.in-Some.call c.open_call.new.pass c.run_both.new.reader c.run_both.new.driver c.in-Some.ensures.opens
+    (g.W.Errand.did c.args.errand.now) (g.W.Errand.did c.run_both.new.errand) (g.W.Errand.cuts c.run_both.new.errand) (last c.args.clock.now) (last c.run_both.new.clock)
+    (g.I.Source.left c.args.link_in.now) (g.I.Source.left c.run_both.new.input) (g.O.Sink.written c.args.link_out.now) (g.O.Sink.written c.run_both.new.output) (g.S.Store.holds c.args.store.now) (g.S.Store.holds c.run_both.new.store)
+    (g.O.Sink.faults c.args.link_out.now) (g.O.Sink.faults c.run_both.new.output) (g.S.Store.faults c.args.store.now) (g.S.Store.faults c.run_both.new.store) c.run_both.result.0.ending c.run_both.result.0.read c.run_both.new.listener
+    (c.requires.fresh (last c.args.clock.now) (last c.args.clock.now)) e.reader.0 e.read c.run_both.result.1 e.drove e.finished e.settled e.halted c.close-calls.result
+    (subst (λ l. AllFit log_of seat_of base_of l c.close-calls.result) c.together.ensures c.close-calls.ensures.fits) c.close-calls.ensures.setting c.close-calls.ensures.legal)
 
 pub returns-clause-uncut : goal.returns-clause-uncut
 returns-clause-uncut g c =

@@ -1,6 +1,6 @@
 use Rattle.std.proofs.Common.{refl, Err, ◌∙◌, ap}
 use Rattle.link_io.specs.declared.why.Why.TheVariants.{JournalLimit, Memory}
-use Rattle.rpc_crew.proofs.StepLemmas.{start_of_full}
+use Rattle.rpc_shared.proofs.session.StepLemmas.{start_of_full}
 use Rattle.live_client.specs.Driving.{is_running}
 use Rattle.live_client.specs.Silent.{silent_rule}
 use Rattle.live_client.proofs.StepsOf.{calm_trans, can_on, halt_calm, start_calm}

@@ -1,5 +1,5 @@
 use Rattle.std.proofs.Common.{◌≡◌, Err, Some, None, ap, sym, ◌∙◌}
-use Rattle.rpc_crew.proofs.PassLemmas.{adds_self}
+use Rattle.rpc_shared.proofs.session.PassLemmas.{adds_self}
 use Rattle.live_client.specs.Driving.{is_saying, want_by}
 use Rattle.live_client.specs.Silent.{silent_rule}
 use Rattle.live_client.proofs.StepsOf.{calm_trans, can_on, halt_calm, long_speaks, say_full, say_kept, say_refused, say_speaks, want_full, want_halts, want_may}

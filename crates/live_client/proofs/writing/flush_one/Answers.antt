@@ -1,7 +1,7 @@
 use Rattle.std.proofs.Common.{[], ◌∷◌, subst, inl}
 use Rattle.link_io.specs.declared.why.Why.TheVariants.{Sink as Link, Store as Depot}
-use Rattle.rpc_crew.specs.Ring.{HaltsFor}
-use Rattle.rpc_crew.proofs.PassLemmas.{adds_trans}
+use Rattle.rpc_shared.specs.session.Ring.{HaltsFor}
+use Rattle.rpc_shared.proofs.session.PassLemmas.{adds_trans}
 use Rattle.live_client.specs.Driving.{is_flushing}
 use Rattle.live_client.specs.Silent.{silent_rule}
 use Rattle.live_client.proofs.StepsOf.{can_on, halt_calm, halts_past}

@@ -9,7 +9,7 @@ returns-in-Ok-write_out-clause-writes g c =
     let done = c.args.done.now in
     let old = g.O.Sink.written c.args.output.now in
     let new = g.O.Sink.written c.write_out.new.output in
-    client_wrote c.args.command done old new c.outcome_of.result (search rules)
+    client_wrote c.args.command done old new (g.O.Sink.faults c.args.output.now) (g.O.Sink.faults c.write_out.new.output) c.outcome_of.result (search rules)
     (inl (
       c.outcome_of.ensures,
       subst (λ (text : List ℕ). Appends old new text) (c.as_bytes.ensures.value ∙ (c.in-Ok.ensures ∙ ap (λ told. live_report told done.why) c.told_of.ensures))

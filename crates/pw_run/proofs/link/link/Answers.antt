@@ -1,6 +1,6 @@
 use Rattle.std.proofs.Common.{subst}
 use Rattle.std.specs.Prelude.{IfOk}
-use Rattle.script_text.specs.Reading.{IsScriptText}
+use Rattle.link_script.specs.text.Reading.{IsScriptText}
 use Rattle.link_world.proofs.BoundsLemmas.{bounded}
 use Rattle.pw_run.proofs.link.link.Goals as goal
 

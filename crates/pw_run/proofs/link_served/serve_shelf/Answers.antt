@@ -9,4 +9,5 @@ returns-clause-serves g c =
     shelf_served _ c.args.workers c.args.shelf _ _ s.why s.counts s.read s.done s.calls s.items.items
     (setting_is _ _ _ c.args.shelf c.in_ok-channels.ensures c.in_ok-registry.ensures.methods c.in_ok-maker.ensures)
     (IfOk-at_ok _ is e.setting) (IfOk-at_ok _ is e.history) (IfOk-at_ok _ is e.begins) (IfOk-at_ok _ is e.explains) (IfOk-at_ok _ is e.at_end)
-    (IfOk-at_ok _ is e.at_limit) (IfOk-at_ok _ is e.below) (IfOk-at_ok _ is e.ticks))
+    (IfOk-at_ok _ is e.at_limit) (IfOk-at_ok _ is e.below) (IfOk-at_ok _ is e.ticks)
+    s.began (IfOk-at_ok _ is e.began) (IfOk-at_ok _ is e.due))

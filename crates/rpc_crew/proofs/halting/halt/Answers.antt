@@ -1,4 +1,4 @@
-use Rattle.rpc_crew.proofs.StepLemmas.{can_halt, halt_adds, halt_halted, halt_mine}
+use Rattle.rpc_shared.proofs.session.StepLemmas.{can_halt, halt_adds, halt_halted, halt_mine}
 use Rattle.rpc_crew.proofs.halting.halt.Goals as goal
 
 pub halt-requires-clause-can : goal.halt-requires-clause-can

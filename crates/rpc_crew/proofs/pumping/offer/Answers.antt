@@ -2,12 +2,12 @@ use Rattle.std.proofs.Common.{Some, ap}
 use Rattle.rtrb.specs.Ring.{sent}
 use Rattle.rpc_journal.specs.Items.{flushes}
 use Rattle.turn_cell.proofs.Calls.{same_self}
-use Rattle.rpc_crew.specs.Crew.{is_pumps}
-use Rattle.rpc_crew.specs.Ring.{Pumps}
+use Rattle.rpc_shared.specs.session.Crew.{is_pumps}
+use Rattle.rpc_shared.specs.session.Ring.{Pumps}
 use Rattle.rpc_crew.proofs.PumpLemmas.{pump_halted, pumps_kept, pumps_on, pumps_put}
-use Rattle.rpc_crew.proofs.ReaderLemmas.{on_err_map}
+use Rattle.rpc_shared.proofs.session.ReaderLemmas.{on_err_map}
 use Rattle.rpc_crew.proofs.RingLemmas.{if_ok_map}
-use Rattle.rpc_crew.proofs.StepLemmas.{look_adds, look_halted, look_mine}
+use Rattle.rpc_shared.proofs.session.StepLemmas.{look_adds, look_halted, look_mine}
 use Rattle.rpc_crew.proofs.pumping.offer.Goals as goal
 
 pub returns-in-Ok-clause-pumps : goal.returns-in-Ok-clause-pumps

@@ -1,11 +1,11 @@
 use Rattle.std.proofs.Common.{None, refl, sym, ap, subst, ◌∙◌}
 use Rattle.rtrb.specs.Ring.{sent}
 use Rattle.rpc_journal.specs.Items.{flushes}
-use Rattle.rpc_crew.specs.Crew.{is_pumps}
-use Rattle.rpc_crew.specs.Ring.{Pumps}
+use Rattle.rpc_shared.specs.session.Crew.{is_pumps}
+use Rattle.rpc_shared.specs.session.Ring.{Pumps}
 use Rattle.rpc_crew.proofs.PumpLemmas.{pump_halted, pump_settled, pumps_on}
 use Rattle.rpc_crew.proofs.RingLemmas.{ring_self}
-use Rattle.rpc_crew.proofs.StepLemmas.{look_adds, look_halted, look_mine, look_settled}
+use Rattle.rpc_shared.proofs.session.StepLemmas.{look_adds, look_halted, look_mine, look_settled}
 use Rattle.rpc_crew.proofs.pumping.rest.Goals as goal
 
 pub returns-then-is_some-clause-ended : goal.returns-then-is_some-clause-ended

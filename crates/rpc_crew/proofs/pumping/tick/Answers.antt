@@ -1,8 +1,8 @@
 use Rattle.std.proofs.Common.{Err, refl, ap, ◌∙◌, arith}
-use Rattle.rpc_crew.specs.Crew.{is_pumps}
-use Rattle.rpc_crew.proofs.PassLemmas.{adds_trans}
+use Rattle.rpc_shared.specs.session.Crew.{is_pumps}
+use Rattle.rpc_shared.proofs.session.PassLemmas.{adds_trans}
 use Rattle.rpc_crew.proofs.PumpLemmas.{halt_flushes, halt_moments, tick_flushes, ticked_kept, ticked_more}
-use Rattle.rpc_crew.proofs.StepLemmas.{no_tick_mine, tick_adds, tick_full, tick_mine}
+use Rattle.rpc_shared.proofs.session.StepLemmas.{no_tick_mine, tick_adds, tick_full, tick_mine}
 use Rattle.rpc_journal.specs.Items.{flushes, moments}
 use Rattle.rpc_crew.proofs.pumping.tick.Goals as goal
 

@@ -1,6 +1,6 @@
 use Rattle.std.proofs.Common.{take, refl}
-use Rattle.rpc_crew.specs.Crew.{is_feeding}
-use Rattle.rpc_crew.proofs.ReaderLemmas.{cut_lost, cut_part, fed_part, halted_arrivals, on_err_of, reader_on, take_begins}
+use Rattle.rpc_shared.specs.session.Crew.{is_feeding}
+use Rattle.rpc_shared.proofs.session.ReaderLemmas.{cut_lost, cut_part, fed_part, halted_arrivals, on_err_of, reader_on, take_begins}
 use Rattle.rpc_crew.proofs.reading.feed.Goals as goal
 
 pub returns-in_err-take_heard-in-Ok-clause-cut : goal.returns-in_err-take_heard-in-Ok-clause-cut

@@ -1,8 +1,8 @@
 use Rattle.std.proofs.Common.{ℕ, ◌++◌, take, sym, subst, arith, length-take, length-drop}
 use Rattle.std.proofs.lemmas.List.{append-nil, take_all}
 use Rattle.turn_cell.proofs.Calls.{same_self, same_trans}
-use Rattle.rpc_crew.specs.Crew.{Fed}
-use Rattle.rpc_crew.proofs.ReaderLemmas.{cut_rest, fed_on, on_err_of}
+use Rattle.rpc_shared.specs.session.Crew.{Fed}
+use Rattle.rpc_shared.proofs.session.ReaderLemmas.{cut_rest, fed_on, on_err_of}
 use Rattle.rpc_crew.proofs.reading.feed_all.Goals as goal
 
 pub frames-init : goal.frames-init

@@ -1,7 +1,7 @@
 use Rattle.std.proofs.Common.{◌≡◌, ℕ, ◌-◌, ◌≤◌, List, ◌++◌, length, take}
 use Rattle.turn_cell.specs.Passes.{IsSame}
 use Rattle.rpc_ids.specs.declared.method.Role.TheVariants.{Server}
-use Rattle.rpc_crew.specs.Crew.{Fed, Reader}
+use Rattle.rpc_shared.specs.session.Crew.{Fed, Reader}
 use Rattle.rpc_crew.proofs.reading.feed_all.Given as goal
 
 abbrev pub invariant-frames : goal.invariant-frames

@@ -1,6 +1,6 @@
 use Rattle.std.proofs.Common.{refl}
-use Rattle.rpc_crew.specs.Crew.{is_feeding}
-use Rattle.rpc_crew.proofs.ReaderLemmas.{halted_arrivals, read_none, reader_on}
+use Rattle.rpc_shared.specs.session.Crew.{is_feeding}
+use Rattle.rpc_shared.proofs.session.ReaderLemmas.{halted_arrivals, read_none, reader_on}
 use Rattle.rpc_crew.proofs.reading.feed_source.Goals as goal
 
 pub returns-then-not-have_begun-clause-reader : goal.returns-then-not-have_begun-clause-reader

@@ -2,8 +2,8 @@ use Rattle.std.proofs.Common.{◌≡◌, ◌<◌, ◌++◌, length, take, drop, 
 use Rattle.std.proofs.lemmas.List.{take-append-le}
 use Rattle.std.specs.Io.KnownBytes.{Consumes}
 use Rattle.turn_cell.proofs.Calls.{same_self, same_trans}
-use Rattle.rpc_crew.specs.Crew.{Cut, Fed}
-use Rattle.rpc_crew.proofs.ReaderLemmas.{has_fed_more, has_fed_none, has_read_cut, of_err, of_ok, read_ended, read_failed, read_limit}
+use Rattle.rpc_shared.specs.session.Crew.{Cut, Fed}
+use Rattle.rpc_shared.proofs.session.ReaderLemmas.{has_fed_more, has_fed_none, has_read_cut, of_err, of_ok, read_ended, read_failed, read_limit}
 use Rattle.rpc_crew.proofs.reading.feed_stream.Goals as goal
 
 pub pieces-init : goal.pieces-init

@@ -1,8 +1,8 @@
 use Rattle.std.proofs.Common.{◌-◌, ◌≤◌}
 use Rattle.turn_cell.specs.Passes.{IsSame}
 use Rattle.rpc_schedule.specs.declared.stream.TheConstants.{INPUT_LIMIT}
-use Rattle.rpc_crew.specs.Crew.{Reader}
-use Rattle.rpc_crew.proofs.ReaderLemmas.{HasFed}
+use Rattle.rpc_shared.specs.session.Crew.{Reader}
+use Rattle.rpc_shared.proofs.session.ReaderLemmas.{HasFed}
 use Rattle.rpc_crew.proofs.reading.feed_stream.Given as goal
 
 abbrev pub invariant-pieces : goal.invariant-pieces

@@ -1,8 +1,8 @@
 use Rattle.std.proofs.Common.{Err, refl, ap, ◌∙◌}
-use Rattle.rpc_crew.specs.Crew.{is_workers}
-use Rattle.rpc_crew.proofs.PassLemmas.{adds_trans}
-use Rattle.rpc_crew.proofs.ReaderLemmas.{on_err_map}
-use Rattle.rpc_crew.proofs.StepLemmas.{look_adds, look_halted, start_of_adds, start_of_full}
+use Rattle.rpc_shared.specs.session.Crew.{is_workers}
+use Rattle.rpc_shared.proofs.session.PassLemmas.{adds_trans}
+use Rattle.rpc_shared.proofs.session.ReaderLemmas.{on_err_map}
+use Rattle.rpc_shared.proofs.session.StepLemmas.{look_adds, look_halted, start_of_adds, start_of_full}
 use Rattle.rpc_crew.proofs.reading.make_room.Goals as goal
 
 pub returns-in-Ok-clause-adds : goal.returns-in-Ok-clause-adds

@@ -1,7 +1,7 @@
-use Rattle.rpc_crew.specs.Crew.{is_readers}
+use Rattle.rpc_shared.specs.session.Crew.{is_readers}
 use Rattle.turn_cell.proofs.Calls.{same_trans}
-use Rattle.rpc_crew.proofs.ReaderLemmas.{ended_arrivals, input_open, read_on, reader_ended}
-use Rattle.rpc_crew.proofs.StepLemmas.{end_in_adds}
+use Rattle.rpc_shared.proofs.session.ReaderLemmas.{ended_arrivals, input_open, read_on, reader_ended}
+use Rattle.rpc_shared.proofs.session.StepLemmas.{end_in_adds}
 use Rattle.rpc_crew.proofs.reading.read.Goals as goal
 
 pub end_in-requires-clause-input : goal.end_in-requires-clause-input

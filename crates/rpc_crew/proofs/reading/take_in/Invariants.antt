@@ -1,7 +1,7 @@
 use Rattle.std.proofs.Common.{◌≡◌}
 use Rattle.turn_cell.specs.Passes.{IsSame}
 use Rattle.rpc_journal.specs.Items.{arrivals}
-use Rattle.rpc_crew.specs.Crew.{Reader}
+use Rattle.rpc_shared.specs.session.Crew.{Reader}
 use Rattle.rpc_crew.proofs.reading.take_in.Given as goal
 
 abbrev pub invariant-loop : goal.invariant-loop

@@ -1,8 +1,8 @@
 use Rattle.std.proofs.Common.{Err, refl, ap, ◌∙◌}
-use Rattle.rpc_crew.specs.Crew.{is_feeding}
-use Rattle.rpc_crew.proofs.PassLemmas.{adds_trans}
-use Rattle.rpc_crew.proofs.ReaderLemmas.{arrived_more, halted_arrivals, input_open, on_err_of, reader_on, worked_arrivals, worked_feeding}
-use Rattle.rpc_crew.proofs.StepLemmas.{arrive_adds, arrive_full, arrive_mine, refused_mine}
+use Rattle.rpc_shared.specs.session.Crew.{is_feeding}
+use Rattle.rpc_shared.proofs.session.PassLemmas.{adds_trans}
+use Rattle.rpc_shared.proofs.session.ReaderLemmas.{arrived_more, halted_arrivals, input_open, on_err_of, reader_on, worked_arrivals, worked_feeding}
+use Rattle.rpc_shared.proofs.session.StepLemmas.{arrive_adds, arrive_full, arrive_mine, refused_mine}
 use Rattle.rpc_journal.specs.Items.{arrivals}
 use Rattle.turn_cell.proofs.Calls.{same_trans}
 use Rattle.rpc_crew.proofs.reading.try_in.Goals as goal

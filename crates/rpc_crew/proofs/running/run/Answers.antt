@@ -1,6 +1,6 @@
 use Rattle.std.proofs.Common.{◌≡◌, refl, rules}
-use Rattle.rpc_crew.specs.Crew.{is_workers}
-use Rattle.rpc_crew.proofs.StepLemmas.{finish_adds}
+use Rattle.rpc_shared.specs.session.Crew.{is_workers}
+use Rattle.rpc_shared.proofs.session.StepLemmas.{finish_adds}
 use Rattle.rpc_crew.proofs.running.run.Goals as goal
 
 pub returns-then-is_err-clause-adds : goal.returns-then-is_err-clause-adds

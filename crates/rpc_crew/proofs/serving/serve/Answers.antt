@@ -2,18 +2,18 @@ use Rattle.std.proofs.Common.{◌≡◌, ◌∷◌, ◌++◌, [], List, length, 
 use Rattle.rtrb.specs.Ring.{known_items, received, sent}
 use Rattle.turn_cell.specs.Passes.{AllFit, AreAll, IsIdle, IsNew}
 use Rattle.rpc_journal.specs.History.{history}
-use Rattle.rpc_journal.specs.Items.{halt_reason}
+use Rattle.rpc_journal.specs.Items.{halt_reason, moments}
 use Rattle.rpc_journal.specs.Laws.{seat_of}
 use Rattle.rpc_shared.specs.Steps.{base_of, log_of}
-use Rattle.rpc_crew.specs.Crew.{Seat}
-use Rattle.rpc_crew.specs.Reasons.{reason_of}
-use Rattle.rpc_crew.specs.Sessions.{Begins, Explains, IsSessionHistory, is_halted, session_setting}
+use Rattle.rpc_shared.specs.session.Crew.{Seat}
+use Rattle.rpc_shared.specs.session.Reasons.{reason_of}
+use Rattle.rpc_shared.specs.session.Sessions.{Begins, Explains, IsSessionHistory, LeavesNoneDue, is_halted, session_setting}
 use Rattle.rpc_crew.proofs.PumpLemmas.{pumps_none}
-use Rattle.rpc_crew.proofs.ReaderLemmas.{fed_nothing}
-use Rattle.rpc_crew.proofs.SessionLemmas.{given_out, new_pump, new_reader, new_stands}
-use Rattle.rpc_crew.proofs.WholeSession.{Whole, back_idle, begins, ended_history, explains, is_told, read_all, read_below, read_failed, read_limit, sink_halted, store_halted, ticks_between, whole_of}
+use Rattle.rpc_shared.proofs.session.ReaderLemmas.{fed_nothing}
+use Rattle.rpc_shared.proofs.session.SessionLemmas.{given_out, new_pump, new_reader, new_stands}
+use Rattle.rpc_crew.proofs.WholeSession.{Whole, back_idle, began_before, begins, ended_history, explains, is_told, none_left_due, read_all, read_below, read_failed, read_limit, sink_halted, store_halted, ticks_between, whole_of}
 use Rattle.rpc_crew.proofs.WorkerLists.{worked_length}
-use Rattle.rpc_crew.proofs.WriterLemmas.{writes_none}
+use Rattle.rpc_shared.proofs.session.WriterLemmas.{writes_none}
 use Rattle.rpc_crew.proofs.serving.serve.Given.{Over}
 use Rattle.rpc_crew.proofs.serving.serve.Goals as goal
 
@@ -186,7 +186,20 @@ returns-clause-store g c =
 pub returns-clause-ticks : goal.returns-clause-ticks
 returns-clause-ticks g c =
     ticks_between g.M.H.Handler.rule c.in_ok-shared.shared c.args.workers (g.I.Source.left c.args.link_in.now) (g.I.Source.left c.run_threads-done.new.link_in) (g.O.Sink.written c.args.link_out.now) (g.O.Sink.written c.run_threads-done.new.link_out) (g.S.Store.holds c.args.store.now) (g.S.Store.holds c.run_threads-done.new.store) c.args.log.now c.run_threads-done.new.log c.run_threads-done.new.listener c.counts.result c.run_threads-done.result.1.ending c.run_threads-done.result.1.read c.run_threads-done.result.0 c.close-calls.result
-    c.run_threads-done.new.reader c.run_threads-done.new.pumper c.run_threads-done.new.writer c.run_threads-done.new.workers.passes.items (whole g c) (g.C.Clock.last c.args.clock.now) (g.C.Clock.last c.run_threads-done.new.clock) c.run_threads-done.ensures.spaced c.run_threads-done.ensures.past
+    c.run_threads-done.new.reader c.run_threads-done.new.pumper c.run_threads-done.new.writer c.run_threads-done.new.workers.passes.items (whole g c) (g.C.Clock.last c.args.clock.now) c.now-began.result (g.C.Clock.last c.run_threads-done.new.clock) c.now-began.ensures.later c.run_threads-done.ensures.spaced c.run_threads-done.ensures.past
+
+pub returns-clause-began : goal.returns-clause-began
+returns-clause-began g c = (
+  c.now-began.ensures.later,
+  began_before g.M.H.Handler.rule c.in_ok-shared.shared c.args.workers (g.I.Source.left c.args.link_in.now) (g.I.Source.left c.run_threads-done.new.link_in) (g.O.Sink.written c.args.link_out.now) (g.O.Sink.written c.run_threads-done.new.link_out) (g.S.Store.holds c.args.store.now) (g.S.Store.holds c.run_threads-done.new.store) c.args.log.now c.run_threads-done.new.log c.run_threads-done.new.listener c.counts.result c.run_threads-done.result.1.ending c.run_threads-done.result.1.read c.run_threads-done.result.0 c.close-calls.result
+      c.run_threads-done.new.reader c.run_threads-done.new.pumper c.run_threads-done.new.writer c.run_threads-done.new.workers.passes.items (whole g c) c.now-began.result (g.C.Clock.last c.run_threads-done.new.clock) c.run_threads-done.ensures.past c.run_threads-done.ensures.spaced,
+)
+
+pub returns-clause-due : goal.returns-clause-due
+returns-clause-due g c =
+    subst (λ set. is_halted set c.close-calls.result.entries ≡ false → LeavesNoneDue c.now-began.result (g.C.Clock.last c.run_threads-done.new.clock) (moments c.close-calls.result.entries)) (base_is g c)
+    (none_left_due g.M.H.Handler.rule c.in_ok-shared.shared c.args.workers (g.I.Source.left c.args.link_in.now) (g.I.Source.left c.run_threads-done.new.link_in) (g.O.Sink.written c.args.link_out.now) (g.O.Sink.written c.run_threads-done.new.link_out) (g.S.Store.holds c.args.store.now) (g.S.Store.holds c.run_threads-done.new.store) c.args.log.now c.run_threads-done.new.log c.run_threads-done.new.listener c.counts.result c.run_threads-done.result.1.ending c.run_threads-done.result.1.read c.run_threads-done.result.0 c.close-calls.result
+    c.run_threads-done.new.reader c.run_threads-done.new.pumper c.run_threads-done.new.writer c.run_threads-done.new.workers.passes.items (whole g c) c.now-began.result (g.C.Clock.last c.run_threads-done.new.clock) c.run_threads-done.ensures.due.due)
 
 pub returns-clause-setting : goal.returns-clause-setting
 returns-clause-setting g c =

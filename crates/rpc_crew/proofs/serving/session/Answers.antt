@@ -1,5 +1,6 @@
 use Rattle.std.proofs.Common.{◌≡◌, false, sym, subst}
-use Rattle.rpc_crew.specs.Sessions.{Begins, Explains, IsSessionHistory, TicksBetween, is_halted, session_setting}
+use Rattle.rpc_journal.specs.Items.{moments}
+use Rattle.rpc_shared.specs.session.Sessions.{Begins, Explains, IsSessionHistory, LeavesNoneDue, TicksBetween, is_halted, session_setting}
 use Rattle.rpc_crew.proofs.serving.session.Goals as goal
 
 pub returns-clause-history : goal.returns-clause-history
@@ -18,3 +19,7 @@ returns-clause-explains g c =
 pub returns-clause-ticks : goal.returns-clause-ticks
 returns-clause-ticks g c =
     subst (TicksBetween (g.C.Clock.last c.args.clock.now) (g.C.Clock.last c.serve.new.clock)) (sym c.into_journal.ensures.entries) c.in_ok-served.ensures.ticks
+
+pub returns-clause-due : goal.returns-clause-due
+returns-clause-due g c =
+    subst (λ h. is_halted (session_setting c.args.channels c.args.registry (g.M.Maker.seed_memo c.args.maker.now)) h ≡ false → LeavesNoneDue c.in_ok-served.served.began (g.C.Clock.last c.serve.new.clock) (moments h)) (sym c.into_journal.ensures.entries) c.in_ok-served.ensures.due

@@ -1,5 +1,5 @@
 use Rattle.std.proofs.Common.{◌∙◌, sym, ap, subst, ◌++◌}
-use Rattle.rpc_crew.specs.Sessions.{Begins, session_setting}
+use Rattle.rpc_shared.specs.session.Sessions.{Begins, session_setting}
 use Rattle.rpc_crew.proofs.serving.session_with_items.Goals as goal
 
 pub returns-clause-begins : goal.returns-clause-begins

@@ -1,5 +1,5 @@
 use Rattle.std.proofs.Common.{rules, length, List, [], ◌∷◌, ◌++◌, ap, sym, subst, arith, length-append}
-use Rattle.rpc_crew.specs.Crew.{AllWorked, AreWorkers, Seat}
+use Rattle.rpc_shared.specs.session.Crew.{AllWorked, AreWorkers, Seat}
 use Rattle.rpc_crew.proofs.WorkerLists.{are_front, is_last, worked_length, worked_more}
 use Rattle.rpc_crew.proofs.working.+fn-work_all-join+arg2+work_all.Goals as goal
 

@@ -1,5 +1,5 @@
 use Rattle.turn_cell.proofs.Calls.{same_self, same_trans}
-use Rattle.rpc_crew.proofs.PassLemmas.{worker_after}
+use Rattle.rpc_shared.proofs.session.PassLemmas.{worker_after}
 use Rattle.rpc_crew.proofs.working.work.Goals as goal
 
 pub loop-init : goal.loop-init

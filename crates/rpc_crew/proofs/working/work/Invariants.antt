@@ -1,5 +1,5 @@
 use Rattle.turn_cell.specs.Passes.{IsSame}
-use Rattle.rpc_crew.specs.Crew.{Worker}
+use Rattle.rpc_shared.specs.session.Crew.{Worker}
 use Rattle.rpc_crew.proofs.working.work.Given as goal
 
 abbrev pub invariant-loop : goal.invariant-loop

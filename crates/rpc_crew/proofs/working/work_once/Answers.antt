@@ -1,7 +1,7 @@
 use Rattle.std.proofs.Common.{Err, refl, ap, ◌∙◌}
-use Rattle.rpc_crew.specs.Crew.{is_workers}
-use Rattle.rpc_crew.proofs.PassLemmas.{adds_trans}
-use Rattle.rpc_crew.proofs.StepLemmas.{look_adds, start_adds, start_full}
+use Rattle.rpc_shared.specs.session.Crew.{is_workers}
+use Rattle.rpc_shared.proofs.session.PassLemmas.{adds_trans}
+use Rattle.rpc_shared.proofs.session.StepLemmas.{look_adds, start_adds, start_full}
 use Rattle.rpc_crew.proofs.working.work_once.Goals as goal
 
 pub returns-in-Ok-Some : goal.returns-in-Ok-Some

@@ -2,11 +2,11 @@ use Rattle.std.proofs.Common.{◌∷◌, [], ◌++◌, sym, ap, ◌∙◌, subst
 use Rattle.link_io.specs.declared.why.Why.TheVariants.{Sink as Link, Store as Depot}
 use Rattle.rtrb.specs.Ring.{received}
 use Rattle.turn_cell.proofs.Calls.{same_self, same_trans}
-use Rattle.rpc_crew.specs.Crew.{is_stop}
-use Rattle.rpc_crew.specs.Ring.{Writes}
+use Rattle.rpc_shared.specs.session.Crew.{is_stop}
+use Rattle.rpc_shared.specs.session.Ring.{Writes}
 use Rattle.rpc_crew.proofs.RingLemmas.{end_self, end_trans}
-use Rattle.rpc_crew.proofs.StepLemmas.{look_adds, look_halted, look_mine}
-use Rattle.rpc_crew.proofs.WriterLemmas.{no_halt, writer_closed, writer_failed, writer_halted, writes_looked, writes_more}
+use Rattle.rpc_shared.proofs.session.StepLemmas.{look_adds, look_halted, look_mine}
+use Rattle.rpc_shared.proofs.session.WriterLemmas.{no_halt, writer_closed, writer_failed, writer_halted, writes_looked, writes_more}
 use Rattle.rpc_crew.proofs.writing.write.Goals as goal
 
 pub loop-init : goal.loop-init

@@ -1,7 +1,7 @@
 use Rattle.std.proofs.Common.{◌≡◌, ◌≤◌, false}
 use Rattle.rtrb.specs.Ring.{SameConsumer, received}
 use Rattle.turn_cell.specs.Passes.{IsSame}
-use Rattle.rpc_crew.specs.Ring.{Writes}
+use Rattle.rpc_shared.specs.session.Ring.{Writes}
 use Rattle.rpc_crew.proofs.writing.write.Given as goal
 
 abbrev pub invariant-loop : goal.invariant-loop

@@ -3,9 +3,12 @@ use Rattle.rpc_journal.specs.declared.answers.StartRefused.TheVariants.{JournalF
 use Rattle.rpc_schedule.specs.declared.stop.Stop.TheVariants as stop
 use Rattle.rpc_schedule.specs.Serving.{Feeds, TakesPacket, deeds}
 use Rattle.rpc_journal.specs.Items.{input_ended}
+use Rattle.rpc_schedule.proofs.BreakLemmas.{breaks_in}
 use Rattle.rpc_schedule.proofs.InputLemmas.{calm_fed, came_more, feed_full, feed_steps, full_came, open_after, refused_more, settle_full, settle_store, store_came}
 use Rattle.rpc_schedule.proofs.LoopLemmas.{feeds_setting}
+use Rattle.rpc_schedule.proofs.SentLemmas.{sends_refused, sent_since}
 use Rattle.rpc_schedule.proofs.StreamLemmas.{handed_on, journal_full, not_store, piece_parts, stops_in}
+use Rattle.rpc_schedule.proofs.ends.FedLemmas.{on_err}
 use Rattle.rpc_schedule.proofs.stream.feed_all.Goals as goal
 
 pub returns-in_err-done-clause-full : goal.returns-in_err-done-clause-full
@@ -96,3 +99,21 @@ returns-in_err-settle-clause-fails g c = λ failed.
           (open_after (seen c.frames.server) (seen c.feed.new.self) (seen c.settle.new.server) calm.unended takes stops.stays);
       stop = settle_store rule (seen c.frames.server) (seen c.feed.new.self) (seen c.settle.new.server) c.settle.new.items.items calm takes stops;
     }
+
+pub returns-in_err-done-clause-broken : goal.returns-in_err-done-clause-broken
+returns-in_err-done-clause-broken g c =
+    let seen = g.T.Serves.seen in
+    let part = c.in_err-done.ensures.refused_fed in
+    on_err _ c.from_residual.result
+    (breaks_in g.T.Serves.heard (g.T.Serves.stands c.args.server.now) (g.T.Serves.stands c.frames.server) (g.T.Serves.stands c.feed.new.self) (g.T.Serves.stands c.feed.new.self)
+    c.args.piece.now c.frames.done part.0 (seen c.feed.new.self) c.frames.items.items c.frames.invariant.within c.frames.invariant.fed part.1 (λ bytes fed. fed)
+    (sent_since (seen c.frames.server) (seen c.feed.new.self) c.frames.items.items c.frames.invariant.items
+    (sends_refused (seen c.frames.server) (seen c.feed.new.self) c.in_err-done.field-0.0 c.in_err-done.ensures.step)))
+
+pub returns-in_err-settle-clause-broken : goal.returns-in_err-settle-clause-broken
+returns-in_err-settle-clause-broken g c =
+    let seen = g.T.Serves.seen in
+    on_err _ c.from_residual-in_err-settle.result
+    (breaks_in g.T.Serves.heard (g.T.Serves.stands c.args.server.now) (g.T.Serves.stands c.frames.server) (g.T.Serves.stands c.feed.new.self) (g.T.Serves.stands c.settle.new.server)
+    c.args.piece.now c.frames.done c.in_ok-done.field-0 (seen c.settle.new.server) c.settle.new.items.items c.frames.invariant.within c.frames.invariant.fed
+    c.in_ok-done.ensures.fed c.settle.ensures.fed c.in_err-settle.ensures.sent)

@@ -3,7 +3,9 @@ use Rattle.std.proofs.lemmas.List.{take-append-le, length-take-le}
 use Rattle.std.proofs.KnownBytes.{Consumes-trans}
 use Rattle.rpc_schedule.specs.declared.stop.Stop.TheVariants as stop
 use Rattle.rpc_schedule.specs.declared.stream.TheConstants.{INPUT_LIMIT}
+use Rattle.rpc_schedule.proofs.BreakLemmas.{breaks_behind}
 use Rattle.rpc_schedule.proofs.StreamLemmas.{full_there, handed_on, reads_more, stops_behind_piece, store_there}
+use Rattle.rpc_schedule.proofs.ends.FedLemmas.{on_err}
 use Rattle.rpc_schedule.proofs.stream.feed_stream.Goals as goal
 
 pub returns-in_err-feed_all-in-Ok-clause-read : goal.returns-in_err-feed_all-in-Ok-clause-read
@@ -82,3 +84,20 @@ pieces-preserved g c =
         subst (λ part. g.T.Serves.stands c.feed_all.new.server (before.0 ++ part)) piece (fed.fed before.0 before.3),
       );
     }
+
+pub returns-in_err-feed_all-in-Ok-clause-broken : goal.returns-in_err-feed_all-in-Ok-clause-broken
+returns-in_err-feed_all-in-Ok-clause-broken g c =
+    let left = g.I.Source.left in
+    let seen = g.T.Serves.seen in
+    let count = c.in-Ok.count in
+    let room : length c.read.new.buf ≡ length (take c.min-room.result c.pieces.buffer) = c.read.auto.buf in
+    let bound : count ≤ length c.read.new.buf = c.in-Ok.ensures.bound.0 in
+    let rest = drop c.min-room.result c.pieces.buffer in
+    let before = c.pieces.invariant.read in
+    on_err _ c.from_residual.result
+    (breaks_behind g.T.Serves.heard (g.T.Serves.stands c.pieces.server) (g.T.Serves.stands c.feed_all.new.server)
+    (left c.args.input.now) (left c.pieces.input) (left c.read.new.self) before.0 c.read.new.buf (take count (c.read.new.buf ++ rest))
+    c.pieces.total c.min-room.result count (seen c.feed_all.new.server) c.feed_all.new.items.items
+    before.3 before.1 before.2 (take-append-le count c.read.new.buf rest bound) c.in-Ok.ensures.bytes.0
+    (omega (arith, room, length-take c.min-room.result c.pieces.buffer)) (omega arith) c.in_err-feed_all-in-Ok.ensures.broken
+    (g.met.T.Serves.arrived c.feed_all.new.server))

@@ -3,12 +3,12 @@ use Rattle.std.specs.Prelude.{IfOk}
 use Rattle.demo_services.specs.DemoRule.{demo_rule}
 use Rattle.rpc_journal.specs.Lawful.{IsLegal}
 use Rattle.rpc_schedule.proofs.StreamLemmas.{handed_on}
-use Rattle.world_turns.specs.Limits.{IsPastJournal}
-use Rattle.world_turns.specs.Setup.{quiet_rule, setup_of}
+use Rattle.link_laws.specs.world.Limits.{IsPastJournal}
+use Rattle.link_laws.specs.world.Setup.{quiet_rule, setup_of}
 use Rattle.link_world.specs.declared.outcome.WorldRefused.TheVariants.{Journal}
 use Rattle.link_world.specs.Outcomes.{IsRunOf}
 use Rattle.link_world.specs.Running.{EndsWith, setup_by}
-use Rattle.link_world.proofs.PromiseLemmas.{Runs, all_arrive, all_end_well, all_mean, all_run, losses_end_well}
+use Rattle.link_world.proofs.PromiseLemmas.{Runs, all_arrive, all_end_well, all_mean, all_mean_soundly, all_run, all_sound, losses_end_well}
 use Rattle.link_world.proofs.NewLemmas.{end_stopped, if_ok_more, run_is, setup_is}
 use Rattle.link_world.proofs.world.World.run.Goals as goal
 
@@ -39,6 +39,12 @@ runs c =
 
 pub returns-clause-bytes : goal.returns-clause-bytes
 returns-clause-bytes c = λ is calm. all_mean c.args.self c.end.result is calm (runs c)
+
+pub returns-clause-sound : goal.returns-clause-sound
+returns-clause-sound c = λ is calm. all_sound c.args.self c.end.result is calm (runs c)
+
+pub returns-clause-sound_bytes : goal.returns-clause-sound_bytes
+returns-clause-sound_bytes c = λ is. all_mean_soundly c.args.self c.end.result is (runs c)
 
 pub returns-clause-lossless : goal.returns-clause-lossless
 returns-clause-lossless c = λ is. all_end_well c.args.self c.end.result is (runs c)

@@ -1,5 +1,5 @@
 use Rattle.std.proofs.Common.{refl, sym, ap, ◌∙◌}
-use Rattle.load_stream.specs.Generator.{number_after, number_behind}
+use Rattle.link_script.specs.Generator.{number_after, number_behind}
 use Rattle.load_stream.specs.Load.{load_packets}
 use Rattle.load_stream.proofs.FrameSteps.{load_more, number_more}
 use Rattle.load_stream.proofs.source.LoadSource.new.Goals as goal

@@ -1,5 +1,5 @@
 use Rattle.std.proofs.Common.{◌≡◌}
-use Rattle.load_stream.specs.Generator.{number_after}
+use Rattle.link_script.specs.Generator.{number_after}
 use Rattle.load_stream.specs.Load.{load_stream}
 use Rattle.load_stream.proofs.source.LoadSource.new.Given as goal
 

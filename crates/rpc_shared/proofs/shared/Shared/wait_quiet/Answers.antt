@@ -1,8 +1,18 @@
 use Rattle.std.proofs.Common.{subst}
 use Rattle.rpc_journal.specs.Changes.{CancelDid}
 use Rattle.rpc_shared.specs.Steps.{Steps}
-use Rattle.rpc_shared.proofs.Cancelling.{call_after, cut_in, ends_quiet, looks_again}
+use Rattle.rpc_shared.proofs.Cancelling.{call_after, cut_in, ends_quiet, looks_again, sees_itself}
 use Rattle.rpc_shared.proofs.shared.Shared.wait_quiet.Goals as goal
+
+pub looks-init : goal.looks-init
+looks-init g c = record {
+  can = tt;
+  ends = tt;
+  own = c.requires.own;
+  there = c.requires.call;
+  cancelled = c.requires.cancelled;
+  more = sees_itself g.H.Handler.rule c.args.self.now c.args.call c.args.pass.now c.requires.legal c.requires.own;
+}
 
 pub returns-in-Quiet-clause-waits : goal.returns-in-Quiet-clause-waits
 returns-in-Quiet-clause-waits g c =

@@ -1,8 +1,8 @@
 use Rattle.std.proofs.Common.{◌≡◌, ℕ, Some, get_or, subst, ap, ◌∙◌}
 use Rattle.std.specs.Prelude.{slice_get}
 use Rattle.slab.specs.Slab.{get}
-use Rattle.wake_bells.specs.Bells.{rung_by}
-use Rattle.wake_bells.proofs.Closing.{value_at, value_there}
+use Rattle.task_core.specs.bells.Bells.{rung_by}
+use Rattle.task_core.proofs.bells.Closing.{value_at, value_there}
 use Rattle.task_core.specs.Places.{due_with}
 use Rattle.task_core.proofs.HeardLemmas.{due_heard, due_rung}
 use Rattle.task_core.proofs.Joining.{rung_since}

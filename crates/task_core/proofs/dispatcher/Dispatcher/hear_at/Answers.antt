@@ -1,6 +1,6 @@
 use Rattle.std.proofs.Common.{◌≡◌, true, sym, subst, ap}
 use Rattle.slab.specs.Slab.{get}
-use Rattle.wake_bells.specs.Bells.{Heard}
+use Rattle.task_core.specs.bells.Bells.{Heard}
 use Rattle.task_core.specs.Context.{all_outs}
 use Rattle.task_core.specs.Places.{lives_in}
 use Rattle.task_core.specs.Tasks.{Tasks, StandsFor}

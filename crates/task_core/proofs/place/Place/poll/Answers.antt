@@ -19,6 +19,7 @@ returns-in-Pending-clause-polled g c =
         alarm = λ h. sym (c.sleep.ensures.alarm h ∙ alarm_is);
         latest = search rules;
         heard = search rules;
+        owed = λ h. absurd (cc);
         outs = search rules;
         clock = search rules;
       },

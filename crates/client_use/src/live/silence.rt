@@ -1,0 +1,100 @@
+//! A board that never answers.
+ghost use Rattle.std.specs.Prelude.{None};
+
+use super::{does_over, end_is, fetch, offset_is, why_is};
+use link_io::{Failed, MemSink, MemSource, Sink, Source, StepClock, Why};
+use rpc_ids::Status;
+use std::sync::atomic::{AtomicU64, Ordering};
+use std::test::Fail;
+use std::time::Duration;
+use std::{thread, time};
+
+// A turn is a millisecond.
+const TURNS: u32 = 10_000;
+
+// Turns until the sink is finished, or for ten seconds.
+fn turn_until_finished<R: time::Clock>(rt: &R, finished: &AtomicU64) {
+    for _ in 0..TURNS {
+        if finished.load(Ordering::SeqCst) > 0 {
+            return;
+        }
+        thread::sleep(rt, Duration::from_millis(1));
+    }
+}
+
+// A source that meets its end once the sink of the same link is finished.
+#[derive(Drop)]
+struct Mute<'a, R> {
+    rt: &'a R,
+    inner: MemSource,
+    finished: &'a AtomicU64,
+}
+
+impl<'a, R: time::Clock> Source for Mute<'a, R> {
+    ghost left = { λ _. None };
+
+    ghost faults = { λ s. s.inner.faults };
+
+    fn read(&mut self, buf: &mut [u8]) -> Result<usize, Failed> {
+        turn_until_finished(self.rt, self.finished);
+        self.inner.read(buf)
+    }
+}
+
+// A sink that tells when it is finished.
+#[derive(Drop)]
+struct Telling<'a> {
+    inner: MemSink,
+    finished: &'a AtomicU64,
+}
+
+impl<'a> Sink for Telling<'a> {
+    ghost written = { λ _. None };
+
+    ghost faults = { λ s. s.inner.faults };
+
+    ghost finished = { λ s. s.inner.finished };
+
+    fn write(&mut self, bytes: &[u8]) -> Result<usize, Failed> {
+        self.inner.write(bytes)
+    }
+
+    fn flush(&mut self) -> Result<(), Failed> {
+        self.inner.flush()
+    }
+
+    fn finish(&mut self) -> Result<(), Failed> {
+        let done = self.inner.finish();
+        self.finished.store(1, Ordering::SeqCst);
+        done
+    }
+}
+
+#[test]
+fn a_board_that_never_answers_meets_the_deadline(rt: HostRuntime) -> Result<(), Fail> {
+    let alloc = rt.alloc();
+    let finished = AtomicU64::new(0);
+    let mut link_in = Mute {
+        rt: &rt,
+        inner: MemSource::new(Vec::new(alloc), Vec::new(alloc)),
+        finished: &finished,
+    };
+    let mut link_out = Telling {
+        inner: MemSink::new(Vec::new(alloc), Vec::new(alloc)),
+        finished: &finished,
+    };
+    let moments = [0, 2_000, 4_000, 6_000, 8_000, 10_000];
+    let mut clock = StepClock::new(Vec::from_slice(alloc, &moments)?);
+    let did = does_over(
+        &rt,
+        alloc,
+        &mut link_in,
+        &mut link_out,
+        &mut clock,
+        fetch(0),
+    )?;
+    why_is(&rt, did.why, Why::Settled);
+    end_is(&rt, did.ended, Some(Status::DeadlineExceeded));
+    offset_is(&rt, did.length, 0);
+    Ok(())
+}

@@ -1,8 +1,0 @@
-use Rattle.crew_law.proofs.SessionLemmas as lemmas
-use Rattle.crew_law.proofs.laws.calm_sessions_report_alike.Goals as goal
-
-pub returns-clause-one_thread : goal.returns-clause-one_thread
-returns-clause-one_thread c = lemmas.sessions_report_alike
-
-pub returns-clause-any_workers : goal.returns-clause-any_workers
-returns-clause-any_workers c = lemmas.no_workers_matter

@@ -1,0 +1,300 @@
+//! Sessions over links in memory, with handlers and gates of their own.
+ghost use mathlib.Core.Bool.{false≢true};
+ghost use Rattle.std.specs.Prelude.{◌≡◌, ◌<◌, ◌≤◌, [], Some, false};
+ghost use Rattle.rpc_handlers.specs.HandlerRule.{empty_memo};
+ghost use Rattle.rpc_ids.specs.declared.status.Status.TheVariants.{Okay};
+
+use bytes::Bytes;
+use link_io::{Clock, Fulls, MemSink, MemSource, MemStore, Sink, Source, Still, Why};
+use rpc_channel::Channels;
+use rpc_crew::{Free, Gate, Session, session};
+use rpc_frames::write_frame;
+use rpc_handlers::{Acts, Answer, End, Event, Handler, Maker, Memo, Outs, Parts, Words};
+use rpc_ids::{Kind, MethodRef, Registry, Status, hash_name};
+use rpc_packet::{CallName, Packet, PacketType};
+use std::alloc::{AllocError, Global};
+use std::process::Abort;
+use std::sync::Wait;
+use std::sync::atomic::{AtomicU64, Ordering};
+use std::test::Fail;
+use std::thread::Threads;
+use std::time::Duration;
+use std::{thread, time};
+
+mod clocks;
+mod gates;
+mod moments;
+mod queues;
+
+// A gate or a device turns at most so often, a millisecond each time.
+const TURNS: u32 = 10_000;
+
+// Turns until the word is as large, and counts as late where it never was.
+fn turn_until<R: time::Clock>(rt: &R, word: &AtomicU64, least: u64, late: &AtomicU64) {
+    for _ in 0..TURNS {
+        if word.load(Ordering::SeqCst) >= least {
+            return;
+        }
+        thread::sleep(rt, Duration::from_millis(1));
+    }
+    late.fetch_add(1, Ordering::SeqCst);
+}
+
+// Ends its call at the first event.
+#[derive(Drop)]
+struct Echo {
+    alloc: Global,
+}
+
+fn no_memo(alloc: Global) -> Memo
+    ensures { result ≡ empty_memo }
+{
+    Memo {
+        words: Words::new(alloc),
+        parts: Parts::new(alloc),
+    }
+}
+
+impl Acts for Echo {
+    ghost can_act = { λ _. Unit {0} };
+
+    ghost now = { λ _. empty_memo };
+
+    ghost gives = { λ _ _. record { items = []; end = Some (record { status = Okay; payload = [] }) } };
+
+    ghost moves = { λ _ _. empty_memo };
+
+    fn on(&mut self, ev: &Event) -> Result<Answer, AllocError> {
+        let _ = ev;
+        Ok(Answer {
+            items: Outs::new(self.alloc),
+            end: Some(End {
+                status: Status::Okay,
+                payload: Bytes::new(),
+            }),
+        })
+    }
+
+    fn memo(&self) -> Result<Memo, AllocError> {
+        Ok(no_memo(self.alloc))
+    }
+}
+
+impl Handler for Echo {
+    ghost rule = { record { ruled = false; answer = λ _ _. record { items = []; end = Some (record { status = Okay; payload = [] }) }; next = λ _ _. empty_memo; first = λ _ _. empty_memo } };
+
+    ghost answers_by_rule = { λ ruled. absurd (false≢true ruled) };
+
+    ghost moves_by_rule = { λ ruled. absurd (false≢true ruled) };
+}
+
+// Makes them.
+#[derive(Drop)]
+struct Echoes {
+    alloc: Global,
+}
+
+impl Maker for Echoes {
+    type H = Echo;
+
+    ghost seed_memo = { λ _. empty_memo };
+
+    fn seed(&self) -> Result<Memo, AllocError> {
+        Ok(no_memo(self.alloc))
+    }
+
+    fn make(&self, m: MethodRef) -> Result<Echo, AllocError> {
+        let _ = m;
+        Ok(Echo { alloc: self.alloc })
+    }
+}
+
+fn channel_one(alloc: Global) -> Result<Channels, Fail> {
+    let mut channels = Channels::new(alloc);
+    channels.add(1)?;
+    Ok(channels)
+}
+
+fn echo_alone(alloc: Global) -> Result<Registry, Fail> {
+    let mut registry = Registry::new(alloc);
+    registry.add(b"demo.Demo", b"Echo", Kind::Unary, false)?;
+    Ok(registry)
+}
+
+// So many Echo calls, each with a call id of its own, from 1.
+fn echo_calls(alloc: Global, count: u32) -> Result<Vec<u8>, AllocError> {
+    let mut stream = Vec::new(alloc);
+    for call in 0..count {
+        let request = Packet {
+            ptype: PacketType::Request,
+            name: CallName {
+                channel: 1,
+                service: hash_name(b"demo.Demo"),
+                method: hash_name(b"Echo"),
+                call: call + 1,
+            },
+            payload: Bytes::new(),
+            status: 0,
+        };
+        write_frame(alloc, &request, &mut stream)?;
+    }
+    Ok(stream)
+}
+
+// How many frames stand one after another: each has two flags, and no other octet of it is one.
+fn frames(written: &[u8]) -> u32 {
+    let mut flags: u32 = 0;
+    for octet in written {
+        if *octet == 0x7E {
+            flags = flags.saturating_add(1);
+        }
+    }
+    flags / 2
+}
+
+// Serves a link by handlers that end each call at once, on channel 1, with an empty store.
+fn serve_echoes<
+    R: Threads + Wait + Sync,
+    I: Source + Send,
+    O: Sink + Send,
+    C: Clock + Send,
+    G: Gate + Sync,
+>(
+    rt: &R,
+    alloc: Global,
+    link_in: &mut I,
+    link_out: &mut O,
+    workers: u32,
+    clock: &mut C,
+    gate: &G,
+) -> Result<Session, Fail>
+    requires workers { (0 < workers) × (workers ≤ 16) }
+    requires open { O.finished link_out.old ≡ false }
+{
+    let registry = echo_alone(alloc)?;
+    serve_by(
+        rt,
+        alloc,
+        link_in,
+        link_out,
+        registry,
+        &Echoes { alloc },
+        workers,
+        clock,
+        gate,
+    )
+}
+
+// Serves a link on channel 1, with an empty store.
+fn serve_by<
+    R: Threads + Wait + Sync,
+    I: Source + Send,
+    O: Sink + Send,
+    M: Maker + Sync,
+    C: Clock + Send,
+    G: Gate + Sync,
+>(
+    rt: &R,
+    alloc: Global,
+    link_in: &mut I,
+    link_out: &mut O,
+    registry: Registry,
+    maker: &M,
+    workers: u32,
+    clock: &mut C,
+    gate: &G,
+) -> Result<Session, Fail>
+where
+    M::H: Send,
+    requires workers { (0 < workers) × (workers ≤ 16) }
+    requires open { O.finished link_out.old ≡ false }
+{
+    let mut store = MemStore::new(alloc, Fulls::new(alloc), Fulls::new(alloc), Vec::new(alloc))?;
+    let channels = channel_one(alloc)?;
+    let did = session(
+        rt, alloc, link_in, link_out, &mut store, channels, registry, maker, workers, clock, gate,
+    )?;
+    Ok(did)
+}
+
+// The session ended so, and so many items were written.
+fn ended(rt: &impl Abort, did: &Session, why: Why, done: u64) {
+    assert_eq!(rt; did.why, why);
+    number_is(rt, did.done, done);
+}
+
+// So many frames came.
+fn heard(rt: &impl Abort, did: &Session, frames: u64) {
+    number_is(rt, did.counts.valid, frames);
+}
+
+// So many frames were written.
+fn wrote(rt: &impl Abort, link_out: &MemSink, count: u32) {
+    assert_eq!(rt; frames(link_out.bytes()), count);
+}
+
+fn number_is(rt: &impl Abort, number: u64, want: u64) {
+    assert_eq!(rt; number, want);
+}
+
+fn word_is(rt: &impl Abort, word: &AtomicU64, want: u64) {
+    number_is(rt, word.load(Ordering::SeqCst), want);
+}
+
+#[test]
+fn four_hundred_calls_settle(rt: HostRuntime) -> Result<(), Fail> {
+    let alloc = rt.alloc();
+    let mut link_in = MemSource::new(echo_calls(alloc, 400)?, Vec::new(alloc));
+    let mut link_out = MemSink::new(Vec::new(alloc), Vec::new(alloc));
+    let did = serve_echoes(
+        &rt,
+        alloc,
+        &mut link_in,
+        &mut link_out,
+        1,
+        &mut Still::new(),
+        &Free,
+    )?;
+    ended(&rt, &did, Why::Settled, 400);
+    heard(&rt, &did, 400);
+    wrote(&rt, &link_out, 400);
+    Ok(())
+}
+
+#[test]
+fn the_third_write_fails(rt: HostRuntime) -> Result<(), Fail> {
+    let alloc = rt.alloc();
+    let mut link_in = MemSource::new(echo_calls(alloc, 400)?, Vec::new(alloc));
+    let mut link_out = MemSink::new(Vec::new(alloc), Vec::from_slice(alloc, &[3])?);
+    let did = serve_echoes(
+        &rt,
+        alloc,
+        &mut link_in,
+        &mut link_out,
+        1,
+        &mut Still::new(),
+        &Free,
+    )?;
+    ended(&rt, &did, Why::Sink, 2);
+    wrote(&rt, &link_out, 2);
+    Ok(())
+}
+
+#[test]
+fn what_came_before_a_fault_of_the_source_is_served(rt: HostRuntime) -> Result<(), Fail> {
+    let alloc = rt.alloc();
+    let mut link_in = MemSource::new(echo_calls(alloc, 1)?, Vec::from_slice(alloc, &[2])?);
+    let mut link_out = MemSink::new(Vec::new(alloc), Vec::new(alloc));
+    let did = serve_echoes(
+        &rt,
+        alloc,
+        &mut link_in,
+        &mut link_out,
+        4,
+        &mut Still::new(),
+        &Free,
+    )?;
+    ended(&rt, &did, Why::Source, 1);
+    wrote(&rt, &link_out, 1);
+    Ok(())
+}

@@ -1,0 +1,109 @@
+//! Runs in a chosen order, and many at a time.
+
+use super::{echo_calls, ended, serve_echoes, turn_until, word_is};
+use link_io::{MemSink, MemSource, Still, Why};
+use rpc_crew::Gate;
+use std::sync::atomic::{AtomicU64, Ordering};
+use std::test::Fail;
+use std::time::Clock;
+
+// Holds the run of call 0 until that of call 1 is over.
+#[derive(Drop)]
+struct SecondFirst<'a, R> {
+    rt: &'a R,
+    over: AtomicU64,
+    before: AtomicU64,
+    after: AtomicU64,
+    late: AtomicU64,
+}
+
+impl<'a, R: Clock> Gate for SecondFirst<'a, R> {
+    fn before(&self, call: u32) {
+        self.before.fetch_add(1, Ordering::SeqCst);
+        if call == 0 {
+            turn_until(self.rt, &self.over, 1, &self.late);
+        }
+    }
+
+    fn after(&self, call: u32) {
+        self.after.fetch_add(1, Ordering::SeqCst);
+        if call == 1 {
+            self.over.store(1, Ordering::SeqCst);
+        }
+    }
+}
+
+#[test]
+fn a_second_call_is_over_while_the_first_runs(rt: HostRuntime) -> Result<(), Fail> {
+    let alloc = rt.alloc();
+    let gate = SecondFirst {
+        rt: &rt,
+        over: AtomicU64::new(0),
+        before: AtomicU64::new(0),
+        after: AtomicU64::new(0),
+        late: AtomicU64::new(0),
+    };
+    let mut link_in = MemSource::new(echo_calls(alloc, 2)?, Vec::new(alloc));
+    let mut link_out = MemSink::new(Vec::new(alloc), Vec::new(alloc));
+    let did = serve_echoes(
+        &rt,
+        alloc,
+        &mut link_in,
+        &mut link_out,
+        2,
+        &mut Still::new(),
+        &gate,
+    )?;
+    ended(&rt, &did, Why::Settled, 2);
+    word_is(&rt, &gate.before, 2);
+    word_is(&rt, &gate.after, 2);
+    word_is(&rt, &gate.late, 0);
+    Ok(())
+}
+
+// Holds each run until all sixteen have begun.
+#[derive(Drop)]
+struct AllAtOnce<'a, R> {
+    rt: &'a R,
+    before: AtomicU64,
+    after: AtomicU64,
+    late: AtomicU64,
+}
+
+impl<'a, R: Clock> Gate for AllAtOnce<'a, R> {
+    fn before(&self, _call: u32) {
+        self.before.fetch_add(1, Ordering::SeqCst);
+        turn_until(self.rt, &self.before, 16, &self.late);
+    }
+
+    fn after(&self, _call: u32) {
+        self.after.fetch_add(1, Ordering::SeqCst);
+    }
+}
+
+#[test]
+fn sixteen_handlers_run_at_a_time(rt: HostRuntime) -> Result<(), Fail> {
+    let alloc = rt.alloc();
+    let gate = AllAtOnce {
+        rt: &rt,
+        before: AtomicU64::new(0),
+        after: AtomicU64::new(0),
+        late: AtomicU64::new(0),
+    };
+    let mut link_in = MemSource::new(echo_calls(alloc, 16)?, Vec::new(alloc));
+    let mut link_out = MemSink::new(Vec::new(alloc), Vec::new(alloc));
+    let did = serve_echoes(
+        &rt,
+        alloc,
+        &mut link_in,
+        &mut link_out,
+        16,
+        &mut Still::new(),
+        &gate,
+    )?;
+    ended(&rt, &did, Why::Settled, 16);
+    word_is(&rt, &gate.before, 16);
+    word_is(&rt, &gate.after, 16);
+    word_is(&rt, &gate.late, 0);
+    Ok(())
+}

@@ -1,0 +1,24 @@
+//! The moment from which a session counts.
+
+use super::serve_echoes;
+use link_io::{MemSink, MemSource, StepClock, Why};
+use rpc_crew::Free;
+use std::test::Fail;
+
+// What a clock gave before a session isn't asked for: its first moment in the session counts.
+#[test]
+fn a_session_counts_from_its_first_moment(rt: HostRuntime) -> Result<(), Fail> {
+    let alloc = rt.alloc();
+    let did = serve_echoes(
+        &rt,
+        alloc,
+        &mut MemSource::new(Vec::new(alloc), Vec::new(alloc)),
+        &mut MemSink::new(Vec::new(alloc), Vec::new(alloc)),
+        1,
+        &mut StepClock::new(Vec::from_slice(alloc, &[1_000])?),
+        &Free,
+    )?;
+    assert_eq!(rt; did.why, Why::Settled);
+    assert_eq!(rt; did.began, 1_000);
+    Ok(())
+}

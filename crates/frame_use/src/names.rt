@@ -1,0 +1,69 @@
+use rpc_ids::{AddRefused, Kind, MethodRef, Registry, Status, hash_name};
+use std::process::Abort;
+
+const HASHES: &[(&[u8], u32)] = &[
+    (b"", 0),
+    (b"a", 6_363_104),
+    (b"ab", 815_990_595),
+    (b"Echo", 2_336_689_897),
+    (b"demo.Demo", 1_895_062_779),
+    (b"Read", 1_534_617_306),
+];
+
+fn has_hash(rt: &impl Abort, name: &[u8], id: u32) {
+    assert_eq!(rt; hash_name(name), id);
+}
+
+#[test]
+fn hashes_as_pw_rpc_does(rt: HostRuntime) {
+    for (name, id) in HASHES {
+        has_hash(&rt, name, *id);
+    }
+}
+
+const NAMES: &[(u32, &str)] = &[
+    (0, "OK"),
+    (1, "CANCELLED"),
+    (9, "FAILED_PRECONDITION"),
+    (16, "UNAUTHENTICATED"),
+    (17, "UNKNOWN"),
+];
+
+fn has_name(rt: &impl Abort, number: u32, name: &str) {
+    assert_eq!(rt; Status::of(number).name(), name);
+}
+
+#[test]
+fn statuses_have_their_usual_names(rt: HostRuntime) {
+    for (number, name) in NAMES {
+        has_name(&rt, *number, name);
+    }
+    assert_eq!(rt; Status::of(16).number(), 16);
+}
+
+const ECHO: MethodRef = MethodRef {
+    service: 1_895_062_779,
+    method: 2_336_689_897,
+    kind: Kind::Unary,
+    ticks: false,
+};
+
+fn adds(rt: &impl Abort, registry: &mut Registry, kind: Kind, want: Result<MethodRef, AddRefused>) {
+    let ticks = kind == Kind::Bidi;
+    assert_eq!(rt; registry.add(b"demo.Demo", b"Echo", kind, ticks), want);
+}
+
+fn finds(rt: &impl Abort, registry: &Registry, method: u32, want: Option<MethodRef>) {
+    assert_eq!(rt; registry.find(1_895_062_779, method), want);
+}
+
+#[test]
+fn a_method_is_added_once(rt: HostRuntime) {
+    let mut registry = Registry::new(rt.alloc());
+    adds(&rt, &mut registry, Kind::Unary, Ok(ECHO));
+    adds(&rt, &mut registry, Kind::Bidi, Err(AddRefused::Clash));
+    let read = registry.add(b"pw.transfer.Transfer", b"Read", Kind::Bidi, true);
+    assert!(rt; read.is_ok());
+    finds(&rt, &registry, 2_336_689_897, Some(ECHO));
+    finds(&rt, &registry, 1_534_617_306, None);
+}

@@ -1,0 +1,145 @@
+-- A transfer leads from one world between two commands to another, over links that drop frames.
+use Rattle.std.proofs.Common.{◌≡◌, ◌⊎◌, ℕ, ◌+◌, ◌*◌, ◌<◌, ◌≤◌, ◌^◌, min, true, List, [], ◌∷◌, codes, length, Some, refl, ap, sym, ◌∙◌, subst, inl, inr, arith}
+use Rattle.std.specs.Prelude.{count_by}
+use Rattle.link_io.specs.Resources.{first_of, found}
+use Rattle.link_io.specs.Stored.{shelf_of}
+use Rattle.link_script.specs.declared.command.Command.{Command}
+use Rattle.link_script.specs.declared.command.Command.TheVariants.{Read as ReadIt, Write as WriteIt}
+use Rattle.link_script.specs.declared.report.ReportLine.TheVariants as line
+use Rattle.rpc_ids.specs.Names.{name_id}
+use Rattle.rpc_ids.specs.declared.Status.{Status}
+use Rattle.rpc_ids.specs.declared.Status.TheVariants.{Okay}
+use Rattle.rpc_journal.specs.Calls.{call_count}
+use Rattle.rpc_journal.proofs.PlaceLemmas.{some_same}
+use Rattle.transfer_base.specs.declared.limits.TheConstants.{MAX_RESOURCE, TIMEOUT}
+use Rattle.transfer_resume.specs.declared.side.Side.{Side}
+use Rattle.transfer_resume.specs.declared.side.Side.TheVariants.{Read, Write}
+use Rattle.transfer_resume.specs.Opening.{agreed_offset}
+use Rattle.transfer_client.specs.Read.{new_download}
+use Rattle.transfer_client.specs.Write.{new_upload}
+use Rattle.demo_services.specs.Methods.{transfer_id}
+use Rattle.transfer_laws.specs.pairs.EndsWell.{write_ended}
+use Rattle.link_laws.specs.declared.world.limits.TheConstants.{TURN_OF_TIME}
+use Rattle.link_laws.specs.world.Starts.{left_length, live_transfers, opens_with, starts, starts_write, transfer_by}
+use Rattle.link_laws.specs.world.World.{Setup, Transfer, World, client_deeds, client_store, reads, server_deeds, writes}
+use Rattle.link_laws.specs.plain_calls.Between.{IsClean, MayTransfer, asks_for}
+use Rattle.link_laws.specs.plain_calls.Commands.{HasGoneWell, IsLineOf, PassesOn, RunsOn}
+use Rattle.link_laws.specs.plain_calls.Ended.{EndsOkay}
+use Rattle.link_laws.proofs.plain_calls.Numbers.{numbered_grow}
+use Rattle.link_laws.specs.lossless_transfer.Begins.{AsksClient}
+use Rattle.link_laws.specs.lossless_transfer.Finishes.{Passes, line_telling}
+use Rattle.link_laws.specs.lossless_transfer.Shows.{Places}
+use Rattle.link_laws.specs.dropped_transfer.Dropped.{DropsFew}
+use Rattle.link_laws.specs.dropped_transfer.Survives.{HasSurvived, ReadsSurviveDrops, RefusalsSurviveDrops, Starts, WritesSurviveDrops}
+use Rattle.link_laws.proofs.lossless_scripts.Offers.{IsRefused, IsServed, served_or_refused}
+use Rattle.link_laws.proofs.lossless_scripts.Passing.{runs_out}
+use Rattle.link_laws.proofs.lossless_scripts.Starting.{IsSetup, method_id}
+use Rattle.link_laws.proofs.dropped_scripts.Finishing.{clean_again}
+use Rattle.link_laws.proofs.dropped_scripts.Starting.{FitsLater, NoneLater, older_of, own_method, starts_so, x_of}
+
+-- THE COMMAND PASSES, and comes to such an end. At most one session was begun, and at most three turns of time have passed.
+pub record CommandPasses (k : Setup) (w end : World) (command : Command) (rest : List Command) : Type 0 where
+  pub sessions : ℕ
+  pub times : ℕ
+  pub passes : PassesOn k (FitsLater k sessions times rest) w end sessions command rest
+  pub times_are : passes.mid.times ≡ times
+  pub soon : times ≤ w.times + 3
+  pub few : sessions ≤ w.sessions + 1
+  pub none_later : NoneLater sessions passes.mid.numbered
+  pub ends : EndsOkay k w command passes.told
+
+-- what a world between two commands has, in a run that drops few frames, where these are to come
+pub record IsBetween (k : Setup) (w end : World) (command : Command) (rest : List Command) : Type 0 where
+  pub clean : IsClean k (FitsLater k w.sessions w.times (command ∷ rest)) w
+  pub coming : w.coming ≡ command ∷ rest
+  pub run : RunsOn k w end
+  pub good : HasGoneWell k w
+  pub drops : DropsFew k end
+  pub sessions : w.sessions + 1 < 2 ^ 32
+  pub early : TURN_OF_TIME * w.times + 4 * TIMEOUT < 2 ^ 63
+  pub none_later : NoneLater w.sessions w.numbered
+  pub room : (side : Side) → count_by (asks_for side) (command ∷ rest) ≤ 256
+
+module _ (k : Setup) (setup : IsSetup k) (w end : World) (side : Side) (command : Command) (rest : List Command) (asks : asks_for side command ≡ true) (b : IsBetween k w end command rest) where
+  abbrev may : MayTransfer k (server_deeds k w) (client_deeds k w) (FitsLater k w.sessions w.times (command ∷ rest) side) side
+  may = b.clean.transfers side
+
+  abbrev x : Places
+  x = x_of k setup w end side command rest asks b.clean may
+
+  -- where the transfer has survived
+  survived : (t : Transfer) (status : Status) (p : Passes k w end (HasSurvived k x t status)) → IsLineOf command (line_telling t status p.holds.bytes) → EndsOkay k w command (line_telling t status p.holds.bytes)
+      → CommandPasses k w end command rest
+  survived t status p is_of ends =
+      let h : HasSurvived k x t status p.mid = p.holds in
+      let more = numbered_grow k p.many w p.mid p.way in
+      record {
+        sessions = w.sessions + 1;
+        times = h.times;
+        passes = record {
+          mid = p.mid;
+          count = p.many;
+          way = p.way;
+          more = record { count = p.rest.total; turns = p.rest.turns; is_last = p.rest.is_last; well = b.run.well };
+          clean = clean_again k setup w end side command rest asks b.clean may (b.room side) t status p.mid h;
+          sessions_are = h.left.stands.kept.sessions;
+          coming = h.left.stands.kept.coming;
+          told = line_telling t status h.bytes;
+          lines = h.left.told;
+          is_of = is_of;
+          said = more.0;
+          numbered = more.1;
+        };
+        times_are = h.left.stands.kept.times;
+        soon = h.few;
+        few = omega arith;
+        none_later = h.left.stands.said_are.none_later;
+        ends = ends;
+      }
+
+  starts_here : (t : Transfer) → AsksClient command
+      → starts k w command ≡ transfer_by w (live_transfers (method_id side) (client_deeds k w)) (opens_with transfer_id (method_id side) [] (client_deeds k w)) (call_count (client_deeds k w)) t
+      → Starts k x (older_of k setup w end side command rest asks b.clean may) w end t
+  starts_here t asking so =
+      starts_so k setup w end side command rest asks b.clean t asking b.coming b.good b.none_later so (runs_out k w end b.run) b.drops b.sessions b.early may
+
+-- A READ
+module _ (survive : ReadsSurviveDrops) (refuse : RefusalsSurviveDrops) (k : Setup) (setup : IsSetup k) (w end : World) (rest : List Command) (resource offset : ℕ) (b : IsBetween k w end (ReadIt resource offset) rest) where
+  abbrev asked : ℕ
+  asked = min offset (left_length k w resource)
+
+  abbrev read_x : Places
+  read_x = x k setup w end Read (ReadIt resource offset) rest refl b
+
+  starting_read : Starts k read_x (older_of k setup w end Read (ReadIt resource offset) rest refl b.clean (b.clean.transfers Read)) w end (reads (new_download resource asked k.window k.chunk))
+  starting_read = starts_here k setup w end Read (ReadIt resource offset) rest refl b (reads (new_download resource asked k.window k.chunk)) tt refl
+
+  pub read_passes : resource < 2 ^ 32 → offset ≤ MAX_RESOURCE → ((bytes : List ℕ) → first_of resource k.server_store.full ≡ Some bytes → length bytes ≤ MAX_RESOURCE)
+      → CommandPasses k w end (ReadIt resource offset) rest
+  read_passes small low sizes = at (served_or_refused k resource asked)
+    where
+      at : IsServed k resource asked ⊎ IsRefused k resource asked → CommandPasses k w end (ReadIt resource offset) rest
+      at (inl s) =
+          let p = survive k read_x _ w end resource asked k.window k.chunk s.bytes starting_read refl (own_method k setup w end Read (ReadIt resource offset) rest refl b.clean (b.clean.transfers Read)) s.has small
+          (record { window_low = setup.window; window_high = setup.demo.window; chunk_low = setup.chunk; chunk_high = setup.demo.chunk }) (sizes s.bytes s.has) s.within in
+          survived k setup w end Read (ReadIt resource offset) rest refl b _ Okay p refl (λ bytes has within. (p.holds.bytes, refl))
+      at (inr r) =
+          let p = refuse k read_x _ w end resource asked k.window k.chunk r.status starting_read
+          (record { resource = small; asked = omega (arith, low); window = setup.demo.window; chunk = setup.demo.chunk }) refl r.offers in
+          survived k setup w end Read (ReadIt resource offset) rest refl b _ r.status p refl (λ bytes has within. absurd (r.never bytes has within))
+
+-- A WRITE
+module _ (survive : WritesSurviveDrops) (k : Setup) (setup : IsSetup k) (w end : World) (rest : List Command) (resource offset : ℕ) (b : IsBetween k w end (WriteIt resource offset) rest) where
+  pub write_passes : (bytes : List ℕ) → found resource (client_store k w).full ≡ Some bytes → resource < 2 ^ 32 → length bytes ≤ MAX_RESOURCE → CommandPasses k w end (WriteIt resource offset) rest
+  write_passes bytes has small size =
+      let from : ℕ = min offset (length bytes) in
+      let t : Transfer = writes (new_upload resource bytes from) in
+      let starts_it : starts k w (WriteIt resource offset)
+      ≡ transfer_by w (live_transfers (name_id (codes "Write")) (client_deeds k w)) (opens_with transfer_id (name_id (codes "Write")) [] (client_deeds k w)) (call_count (client_deeds k w)) t
+      = ap (starts_write k w resource offset) has in
+      let p = survive k (x k setup w end Write (WriteIt resource offset) rest refl b) _ w end resource from bytes (starts_here k setup w end Write (WriteIt resource offset) rest refl b t tt starts_it) refl small
+      (record { window_low = setup.window; window_high = setup.demo.window; chunk_low = setup.chunk; chunk_high = setup.demo.chunk }) size (omega arith) in
+      survived k setup w end Write (WriteIt resource offset) rest refl b _ Okay p refl (λ other found_too.
+      let same : bytes ≡ other = some_same bytes other (sym has ∙ found_too) in
+      subst (λ bs. (n : ℕ) × (line_telling (writes (write_ended (new_upload resource bytes from) (agreed_offset (shelf_of k.server_store) resource from))) Okay p.holds.bytes
+      ≡ line.Write resource (agreed_offset (shelf_of k.server_store) resource (min offset (length bs))) Okay n)) same (p.holds.bytes, refl))

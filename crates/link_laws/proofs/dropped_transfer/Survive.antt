@@ -1,0 +1,184 @@
+-- Reads and writes survive three dropped frames, and so do refusals.
+use Rattle.std.proofs.Common.{◌≡◌, ℕ, zero, suc, ◌+◌, ◌*◌, ◌<◌, ◌≤◌, ◌==◌, ◌&&◌, ◌^◌, Bool, true, false, List, [], ◌∷◌, ◌++◌, codes, length, Option, Some, None, Result, refl, ap, sym, ◌∙◌, subst, arith}
+use Rattle.std.proofs.lemmas.Bool.{eq-eqb}
+use Rattle.link_script.specs.declared.report.ReportLine.{ReportLine}
+use Rattle.history_laws.proofs.messages.Members.{all_weaken}
+use Rattle.rpc_ids.specs.Names.{name_id}
+use Rattle.rpc_ids.specs.declared.Status.{Status}
+use Rattle.rpc_ids.specs.declared.Status.TheVariants.{Okay}
+use Rattle.transfer_base.specs.declared.limits.TheConstants.{TIMEOUT}
+use Rattle.transfer_chunk.specs.Chunk.{Chunk}
+use Rattle.transfer_words.specs.Word.{Word, start, start_ack, confirmation, parameters, data_comes, completion, completion_ack}
+use Rattle.transfer_words.proofs.SpokenLaws.{words_are_heard}
+use Rattle.transfer_client.specs.Machine.{Rules}
+use Rattle.transfer_client.specs.Read.{Download, new_download, read_rules}
+use Rattle.transfer_client.specs.Write.{Upload, new_upload, write_rules}
+use Rattle.transfer_resume.specs.declared.stage.Stage.{Stage}
+use Rattle.transfer_resume.specs.declared.stage.Stage.TheVariants as stage
+use Rattle.transfer_resume.specs.Opening.{agreed_offset}
+use Rattle.transfer_resume.specs.Session.{Row, Service}
+use Rattle.transfer_laws.specs.pairs.EndsWell.{read_ended, read_refused, write_ended}
+use Rattle.transfer_laws.specs.losses.Drops.{LeadsTo, LossyPair, begun, step, steps}
+use Rattle.transfer_laws.specs.losses.Survives.{Ends, HasEndedWell, IsNoConfirmation, IsSettled, LosesFew, SparesConfirmations}
+use Rattle.transfer_laws.proofs.losses.Numbers.{numbers_lose_few}
+use Rattle.transfer_laws.proofs.losses.ReadSurvival.{reads_survive}
+use Rattle.transfer_laws.proofs.losses.RefusalSurvival.{refusals_survive}
+use Rattle.transfer_laws.proofs.losses.WriteSurvival.{writes_survive}
+use Rattle.link_laws.specs.world.World.{Setup, Transfer, World, reads, writes}
+use Rattle.link_laws.specs.lossless_transfer.Finishes.{Passes, ReadFits, WriteFits, line_telling}
+use Rattle.link_laws.specs.lossless_transfer.Shows.{Places, moment_at}
+use Rattle.link_laws.proofs.lossless_transfer.Beginning.{CanBegin}
+use Rattle.link_laws.proofs.lossless_transfer.Chain.{here, then_passes}
+use Rattle.link_laws.proofs.lossless_transfer.Finishing.{read_begins, write_begins}
+use Rattle.link_laws.proofs.lossless_transfer.Machines.{IsWrapped}
+use Rattle.link_laws.proofs.lossless_transfer.ReadSteps.{reads_wrapped}
+use Rattle.link_laws.proofs.lossless_transfer.WriteSteps.{writes_wrapped}
+use Rattle.link_laws.proofs.plain_calls.Numbers.{numbered_grow}
+use Rattle.link_laws.specs.dropped_transfer.Dropped.{DropsFew, is_confirmation, loses, lost_numbers}
+use Rattle.link_laws.specs.dropped_transfer.Sessions.{at_turn}
+use Rattle.link_laws.specs.dropped_transfer.Shows.{IsLostIn, LeftDropping, ShowsLossy}
+use Rattle.link_laws.specs.dropped_transfer.Survives.{HasSurvived, ReadsSurviveDrops, RefusalsSurviveDrops, Starts, WritesSurviveDrops}
+use Rattle.link_laws.proofs.dropped_transfer.Begin.{begins_so}
+use Rattle.link_laws.proofs.dropped_transfer.Chain.{Come, follows, leads_past}
+use Rattle.link_laws.proofs.dropped_transfer.Late.{ReadAt, WriteAt, reads_keep_time, writes_keep_time}
+use Rattle.link_laws.proofs.dropped_transfer.Numbers.{all_still_lost, lost_few}
+use Rattle.link_laws.proofs.dropped_transfer.Tail.{drains}
+use Rattle.link_laws.proofs.dropped_transfer.TimeStep.{KeepsTime}
+
+-- the steps that lead there
+leads_steps : {A : Type 0} (rules : Rules A) (service : Service) (lost : ℕ → Bool) (n : ℕ) (w last : LossyPair A) → LeadsTo service rules lost n w last → steps service rules lost n w ≡ last
+leads_steps rules service lost zero w last same = same
+leads_steps rules service lost (suc n) w last leads = leads_steps rules service lost n (step service rules lost w) last leads.1
+
+well_settled : (o : Option Stage) → HasEndedWell o → IsSettled o
+well_settled None well = absurd well
+well_settled (Some (stage.Opening o)) well = absurd well
+well_settled (Some (stage.Sending s)) well = absurd well
+well_settled (Some (stage.Receiving r)) well = well
+well_settled (Some (stage.Ended status)) well = tt
+
+-- what was lost in a read is no confirmation
+spared_word : (k : Setup) (x : Places) (far : World) → DropsFew k far → x.client_opening.name.method ≡ name_id (codes "Read") → x.session < 2 ^ 32 → (w : Word) → IsLostIn k x far w → IsNoConfirmation w
+spared_word k x far drops named small (confirmation ask) lost =
+    absurd (both (x.client_opening.name.method == name_id (codes "Read")) (eq-eqb x.client_opening.name.method (name_id (codes "Read")) named)
+    (sym (ap (λ (r : Result Chunk ℕ). (x.client_opening.name.method == name_id (codes "Read")) && is_confirmation r) (words_are_heard x.session (confirmation ask) small lost.fits).read)
+    ∙ drops.spares lost.place _ lost.there lost.dropped))
+  where
+    both : (b : Bool) → b ≡ true → (b && true) ≡ false → ⊥
+    both true is none = cc
+    both false is none = cc
+spared_word k x far drops named small (start resource offset) lost = tt
+spared_word k x far drops named small (start_ack offset) lost = tt
+spared_word k x far drops named small (parameters ask) lost = tt
+spared_word k x far drops named small (data_comes p) lost = tt
+spared_word k x far drops named small (completion status) lost = tt
+spared_word k x far drops named small completion_ack lost = tt
+
+module _ {A : Type 0} (rules : Rules A) (wrap : A → Transfer) (P : ℕ → A → Type 0) (wrapped : IsWrapped rules wrap) (keeps : KeepsTime rules P) (k : Setup) (x : Places) (older : List Row) (big far : World) (t : A)
+    (starts : Starts k x older big far (wrap t)) (can : CanBegin rules (P (moment_at x)) (moment_at x) t) where
+  abbrev lost : ℕ → Bool
+  lost = loses k x.session far
+
+  -- the pair that has begun
+  abbrev w : LossyPair A
+  w = begun x.service rules lost (moment_at x) x.service.time t
+
+  -- no more words are lost than frames are dropped
+  pub loses_few : LosesFew x.service rules lost w
+  loses_few count =
+      omega (arith, starts.drops.few, lost_few k x.session far, numbers_lose_few rules x.service (lost_numbers k x.session far) (moment_at x) x.service.time t count)
+
+  -- so it is over in time
+  in_time : (n : ℕ) (last : LossyPair A) → LeadsTo x.service rules lost n w last → last.now ≤ moment_at x + TIMEOUT * length last.lost → last.now ≤ moment_at x + TIMEOUT * 3
+  in_time n last leads soon =
+      let many : length last.lost ≤ 3 = subst (λ (v : LossyPair A). length v.lost ≤ 3) (leads_steps rules x.service lost n w last leads) (loses_few n) in
+      omega (arith, soon, many)
+
+  -- THE RUN COMES TO EACH PAIR that it leads to in time
+  comes : (n : ℕ) (last : LossyPair A) → LeadsTo x.service rules lost n w last → last.now ≤ moment_at x + TIMEOUT * length last.lost → Passes k big far (Come rules wrap k x last)
+  comes n last leads soon =
+      then_passes k big far (λ next. ShowsLossy wrap k x older [] next w) (Come rules wrap k x last)
+      (begins_so rules wrap (P (moment_at x)) k x older starts.set wrapped (keeps.keeps (moment_at x)) t can big far starts.drops starts.begins starts.run)
+      (λ next shows run.
+      follows rules wrap P k x starts.set.only wrapped keeps far last (omega (arith, in_time n last leads soon, starts.early)) n next older w.pair.server w.pair.client w.pair.to_server [] w.lost w.pair.said x.service.time x.times x.server
+      can.going leads
+      (record { set = starts.set; stands = shows.stands; task = shows.task; fits = tt; holds = can.holds; lost_are = shows.lost })
+      run)
+
+  -- what is lost in a read is no confirmation
+  pub spared : x.client_opening.name.method ≡ name_id (codes "Read") → SparesConfirmations x.service rules lost (moment_at x) w
+  spared named n last leads soon =
+      let there : Passes k big far (Come rules wrap k x last) = comes n last leads soon in
+      let grown = numbered_grow k there.rest.total there.mid far there.rest.turns in
+      all_weaken (IsLostIn k x far) IsNoConfirmation last.lost (spared_word k x far starts.drops named starts.set.places.session)
+      (all_still_lost k x there.mid far grown.0 grown.1 last.lost there.holds.lost_are)
+
+  -- ITS LINE IS TOLD, and what is still on its way comes to nothing
+  pub survives : (end : A) (status : Status) (Stood : Option Stage → Type 0) → ((o : Option Stage) → Stood o → IsSettled o) → Ends x.service rules lost Stood (moment_at x) w end → rules.end_of end ≡ Some status
+      → Passes k big far (HasSurvived k x (wrap end) status)
+  survives end status Stood settled e over =
+      then_passes k big far (Come rules wrap k x e.last) (HasSurvived k x (wrap end) status) (comes e.many e.last e.way e.soon)
+      (λ mid came run.
+      let soon : e.last.now ≤ moment_at x + TIMEOUT * 3 = in_time e.many e.last e.way e.soon in
+      let y : Places = at_turn x e.last.time came.times came.server in
+      let told : (bytes : ℕ) × LeftDropping k y came.older (x.lines ++ line_telling (wrap e.last.pair.client) status bytes ∷ []) mid e.last.pair.server e.last.pair.to_server came.downs e.last.pair.said =
+      came.left status (ap rules.end_of e.client ∙ over) in
+      let lines : List ReportLine = x.lines ++ line_telling (wrap e.last.pair.client) status told.0 ∷ [] in
+      then_passes k mid far (λ next. LeftDropping k y came.older lines next e.session [] [] e.last.pair.said) (HasSurvived k x (wrap end) status)
+      (drains k y came.older came.set (omega (arith, soon, starts.early, came.now)) lines far e.last.pair.to_server came.downs mid e.last.pair.server e.session e.last.pair.said e.server
+      (came.own_are ∙ e.to_client) came.fits told.1 run)
+      (λ next left rest.
+      here k next far (HasSurvived k x (wrap end) status) rest
+      (record {
+        bytes = told.0;
+        times = came.times;
+        few = omega (arith, soon, came.now);
+        time = e.last.time;
+        past = omega (arith, leads_past x.service rules lost e.many w e.last e.way starts.past, came.now);
+        server = came.server;
+        older = came.older;
+        set = came.set;
+        session = e.session;
+        settled = settled e.session e.stood;
+        said = e.last.pair.said;
+        left = subst (λ u. LeftDropping k y came.older (x.lines ++ line_telling (wrap u) status told.0 ∷ []) next e.session [] [] e.last.pair.said) e.client left;
+      })))
+
+-- how a read begins, and how a write does
+read_can : (now resource offset window chunk : ℕ) → now + TIMEOUT < 2 ^ 63 → ReadFits (new_download resource offset window chunk) → CanBegin read_rules (ReadAt now) now (new_download resource offset window chunk)
+read_can now resource offset window chunk early fits =
+    let can = read_begins now resource offset window chunk early fits in record { holds = (early, can.holds); fits = can.fits; going = can.going }
+
+write_can : (now resource offset : ℕ) (bytes : List ℕ) → now + TIMEOUT < 2 ^ 63 → WriteFits (new_upload resource bytes offset) → CanBegin write_rules (WriteAt now) now (new_upload resource bytes offset)
+write_can now resource offset bytes early fits =
+    let can = write_begins now resource offset bytes early fits in record { holds = (early, can.holds); fits = can.fits; going = can.going }
+
+pub reads_survive_drops : ReadsSurviveDrops
+reads_survive_drops k x older big far resource offset window chunk bytes starts side named there small tuning size within =
+    let d : Download = new_download resource offset window chunk in
+    let can : CanBegin read_rules (ReadAt (moment_at x)) (moment_at x) d =
+    read_can (moment_at x) resource offset window chunk (omega (arith, starts.early)) (record { resource = small; asked = omega (arith, size, within); window = tuning.window_high; chunk = tuning.chunk_high }) in
+    survives read_rules reads ReadAt reads_wrapped reads_keep_time k x older big far d starts can (read_ended d offset) Okay HasEndedWell well_settled
+    (reads_survive x.service (loses k x.session far) (moment_at x) x.service.time resource offset window chunk bytes side there tuning size within
+    (loses_few read_rules reads ReadAt reads_wrapped reads_keep_time k x older big far d starts can)
+    (spared read_rules reads ReadAt reads_wrapped reads_keep_time k x older big far d starts can named))
+    refl
+
+pub writes_survive_drops : WritesSurviveDrops
+writes_survive_drops k x older big far resource offset bytes starts side small tuning size within =
+    let u : Upload = new_upload resource bytes offset in
+    let can : CanBegin write_rules (WriteAt (moment_at x)) (moment_at x) u =
+    write_can (moment_at x) resource offset bytes (omega (arith, starts.early)) (record { resource = small; size = size; within = within }) in
+    survives write_rules writes WriteAt writes_wrapped writes_keep_time k x older big far u starts can (write_ended u (agreed_offset x.service.shelf resource offset)) Okay HasEndedWell well_settled
+    (writes_survive x.service (loses k x.session far) (moment_at x) x.service.time resource offset bytes side tuning size within starts.past
+    (loses_few write_rules writes WriteAt writes_wrapped writes_keep_time k x older big far u starts can))
+    refl
+
+pub refusals_survive_drops : RefusalsSurviveDrops
+refusals_survive_drops k x older big far resource offset window chunk status starts fits side refused =
+    let d : Download = new_download resource offset window chunk in
+    let can : CanBegin read_rules (ReadAt (moment_at x)) (moment_at x) d = read_can (moment_at x) resource offset window chunk (omega (arith, starts.early)) fits in
+    survives read_rules reads ReadAt reads_wrapped reads_keep_time k x older big far d starts can (read_refused d status) status IsSettled (λ o settled. settled)
+    (refusals_survive x.service (loses k x.session far) (moment_at x) x.service.time resource offset window chunk status side refused
+    (loses_few read_rules reads ReadAt reads_wrapped reads_keep_time k x older big far d starts can))
+    refl

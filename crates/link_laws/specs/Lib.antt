@@ -1,0 +1,12 @@
+pub mod uploads
+pub mod transfer_calls
+pub mod world
+pub mod one_run
+pub mod rounds
+pub mod plain_calls
+pub mod okay_means_bytes
+pub mod transfers_fit
+pub mod lossless_transfer
+pub mod lossless_scripts
+pub mod dropped_transfer
+pub mod dropped_scripts

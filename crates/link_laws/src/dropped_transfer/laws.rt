@@ -1,0 +1,18 @@
+//! What follows from the definitions. Each function does nothing: what counts is its contract.
+ghost use Rattle.link_laws.specs.dropped_transfer.Survives.{ReadsSurviveDrops, RefusalsSurviveDrops, WritesSurviveDrops};
+
+/// A read of a resource that the server has is told with OK, in a run whose link drops three chunk frames at most and no
+/// confirmation of a read. At most three turns of time pass on the way.
+pub fn reads_survive_drops()
+    ensures { ReadsSurviveDrops }
+{}
+
+/// So is a write, whichever three chunk frames are dropped.
+pub fn writes_survive_drops()
+    ensures { WritesSurviveDrops }
+{}
+
+/// A read that the service can't serve is told with the service's reason.
+pub fn refusals_survive_drops()
+    ensures { RefusalsSurviveDrops }
+{}

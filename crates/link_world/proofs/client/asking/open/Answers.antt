@@ -1,0 +1,38 @@
+use Rattle.std.proofs.Common.{◌≡◌, ◌<◌, ◌∙◌, ◌+◌, refl, ap, sym, subst}
+use Rattle.rpc_packet.specs.declared.call_name.CallName.{CallName}
+use Rattle.rpc_handlers.specs.HandlerRule.{empty_memo}
+use Rattle.rpc_journal.specs.declared.entry.EntryKind.TheVariants.{Invoke}
+use Rattle.rpc_journal.specs.Calls.{call_count}
+use Rattle.rpc_journal.specs.CallTable.{Table, past}
+use Rattle.rpc_journal.specs.History.{adding}
+use Rattle.rpc_schedule.specs.Schedule.{run_seat}
+use Rattle.rpc_schedule.specs.Serving.{Serving, deeds}
+use Rattle.link_laws.specs.world.Starts.{request}
+use Rattle.link_world.proofs.server.RestLemmas.{entered_is}
+use Rattle.link_world.specs.client.Asking.{ClientAdds}
+use Rattle.link_world.proofs.client.AskLemmas.{adds_one, invoke_full, invoked_there}
+use Rattle.link_world.proofs.client.asking.open.Goals as goal
+
+pub returns-in-Ok-clause-there : goal.returns-in-Ok-clause-there
+returns-in-Ok-clause-there c =
+    let old = c.args.client.now in
+    let name : CallName = record { channel = 1; service = c.args.service; method = c.args.method; call = c.in-Some.id } in
+    let is = entered_is old c.invoke.new.self run_seat (Invoke (request name c.args.payload) empty_memo) c.in-Ok.ensures.aside c.in-Ok.ensures.did.adds in
+    subst (λ n. n < call_count (deeds c.invoke.new.self.serving)) (sym c.in-Ok.ensures.did.answer)
+    (subst (λ (s : Serving). call_count (deeds old.serving) < call_count (deeds s)) (sym is)
+    (invoked_there old.serving.table.setting old.serving.table.entries (request name c.args.payload) empty_memo c.in-Ok.ensures.did.unrefused))
+
+pub returns-in-Ok-clause-adds : goal.returns-in-Ok-clause-adds
+returns-in-Ok-clause-adds c =
+    let old = c.args.client.now in
+    let id : c.in-Some.id ≡ call_count (deeds old.serving) + 1 =
+    c.in-Some.ensures.1 ∙ ap (λ n. n + 1) (c.count.ensures ∙ ap (λ (t : Table). call_count (past t)) c.calls.ensures.table) in
+    subst (λ n. ClientAdds old.serving (adding old.serving.table.entries run_seat (Invoke (request (record { channel = 1; service = c.args.service; method = c.args.method; call = n }) c.args.payload) empty_memo)) c.invoke.new.self.serving) id
+    (adds_one old c.invoke.new.self (Invoke (request (record { channel = 1; service = c.args.service; method = c.args.method; call = c.in-Some.id }) c.args.payload) empty_memo)
+    c.in-Ok.ensures.aside c.in-Ok.ensures.did.adds c.requires.orderly (λ k. refl) (λ k. refl) (λ k. refl) refl refl refl)
+
+pub returns-in-Err-default-JournalFull-clause-full : goal.returns-in-Err-default-JournalFull-clause-full
+returns-in-Err-default-JournalFull-clause-full c = λ same.
+    invoke_full c.args.client.now.serving.table.setting c.args.client.now.serving.table.entries
+    (record { channel = 1; service = c.args.service; method = c.args.method; call = c.in-Some.id }) c.in-Err-default-JournalFull.field-0-1
+    c.in-Err-default-JournalFull.field-0-1-is c.in-Err-default-JournalFull.ensures.did.cause

@@ -1,0 +1,22 @@
+use Rattle.std.proofs.Common.{◌≡◌, ℕ, ◌-◌, List, length, Option}
+use Rattle.rpc_journal.specs.declared.entry.TheConstants.{MAX_ENTRIES}
+use Rattle.link_io.specs.Stored.{Stored}
+use Rattle.rpc_ids.specs.declared.method.Role.TheVariants.{Server as server_role}
+use Rattle.rpc_schedule.specs.Kept.{Holds}
+use Rattle.rpc_journal.specs.Items.{items_flushed}
+use Rattle.rpc_schedule.specs.Serving.{deeds}
+use Rattle.rpc_schedule.specs.Settling.{RunsAndFlushes}
+use Rattle.link_world.specs.server.Wiring.{GoesOut}
+use Rattle.link_world.proofs.server.serving.settle.Given as goal
+
+abbrev pub invariant-rounds : goal.invariant-rounds
+invariant-rounds g l = record {
+  on : RunsAndFlushes g.T.Serves.rule (g.T.Serves.seen l.fn.server) (g.T.Serves.seen l.server);
+  items : l.items.items ≡ items_flushed (deeds (g.T.Serves.seen l.server));
+  out : GoesOut server_role l.fn.items.items l.fn.wires l.items.items l.wires;
+  holds : (st : Option Stored) → Holds l.fn.items.items st (g.S.Store.holds l.fn.store) → Holds l.items.items st (g.S.Store.holds l.store);
+  fed : (s : List ℕ) → g.T.Serves.stands l.fn.server s → g.T.Serves.stands l.server s;
+}
+
+abbrev pub decreases-rounds : goal.decreases-rounds
+decreases-rounds g l = MAX_ENTRIES - length (g.T.Serves.seen l.server).table.entries

@@ -1,0 +1,234 @@
+//! What the client does with what comes to it, until it is idle.
+ghost use Rattle.std.specs.Prelude.{◌≡◌, ℕ, ◌<◌, ◌≤◌, true, false, List, ◌++◌, Option, Some, None, IfSome, IfErr, OnOk};
+ghost use Rattle.link_io.specs.Stored.{Stored};
+ghost use Rattle.rpc_handlers.specs.Limits.{is_long_out};
+ghost use Rattle.rpc_ids.specs.declared.method.Role.TheVariants.{Client as client_role};
+ghost use Rattle.rpc_journal.specs.Calls.{call_count};
+ghost use Rattle.rpc_journal.specs.Items.{items_flushed};
+ghost use Rattle.rpc_journal.specs.Refusals.{is_full};
+ghost use Rattle.rpc_schedule.specs.Kept.{Holds};
+ghost use Rattle.rpc_schedule.specs.Serving.{deeds};
+ghost use Rattle.rpc_schedule.specs.Settling.{IsOrderly};
+ghost use Rattle.rpc_schedule.specs.ends.EndState.{WasFed};
+ghost use Rattle.link_laws.specs.world.Client.{all_said_in, said_in};
+ghost use Rattle.link_laws.specs.world.Limits.{ClientStops, saying_stops};
+ghost use Rattle.link_laws.specs.world.Setup.{client_setting};
+ghost use Rattle.link_laws.specs.world.Turns.{under_with};
+ghost use Rattle.link_world.specs.server.Resting.{IsResting};
+ghost use Rattle.link_world.specs.server.Wiring.{GoesOut};
+ghost use Rattle.link_world.specs.client.ClientSide.{ClientHearingStops};
+ghost use Rattle.link_world.specs.client.Speaking.{SayingStops, polled_with, said_with};
+ghost use Rattle.link_world.specs.client.Underway.{call_seen, last_poll, task_seen, under_seen};
+ghost use Rattle.link_world.specs.client.Working.{ClientFlushes, ClientRuns, ClientRunsFull, ClientSays, IsKept, Settled, TakesMore, stop_of};
+
+use crate::client::quiet::Quiet;
+use crate::client::under::Under;
+use crate::server::{Stopped, Wires, take_out};
+use link_io::Store;
+use rpc_calls::SayRefused;
+use rpc_client::{Client, work_until_idle};
+use rpc_handlers::{Event, MAX_PAYLOAD, Out};
+use rpc_ids::Role;
+use rpc_journal::{Item, StartRefused};
+use std::alloc::AllocError;
+
+/// Feeds a frame, and does the client's work behind each packet that is heard in it.
+pub(crate) fn feed_all<S: Store>(
+    client: &mut Client<Quiet>,
+    frame: &[u8],
+    store: &mut S,
+    items: &mut Vec<Item>,
+    events: &mut Vec<(u32, Event)>,
+    under: &mut Option<Under>,
+    now: u64,
+    wires: &mut Wires,
+) -> Result<(), Stopped>
+    requires rest { IsResting client.old.serving }
+    requires kept { IsKept client.old.serving items.old.items events.old.items }
+    requires there { IfSome (call_seen under.old) (λ c. c < call_count (deeds client.old.serving)) }
+    requires past { last_poll under.old ≤ now }
+    ensures rest { OnOk result (IsResting client.new.serving) }
+    ensures kept { OnOk result (IsKept client.new.serving items.new.items events.new.items) }
+    ensures takes { OnOk result (TakesMore now client.old.serving under.old client.new.serving under.new) }
+    ensures there { OnOk result (IfSome (call_seen under.new) (λ c. c < call_count (deeds client.new.serving))) }
+    ensures past { OnOk result (last_poll under.new ≤ now) }
+    ensures out { OnOk result (GoesOut client_role items.old.items wires.old items.new.items wires.new) }
+    ensures holds { OnOk result ((st : Option Stored) → Holds items.old.items st (S.holds store.old) → Holds items.new.items st (S.holds store.new)) }
+    ensures fed { OnOk result ((bytes : List ℕ) → WasFed client_role client.old bytes → WasFed client_role client.new (bytes ++ frame.now)) }
+    ensures full { IfErr result (λ why. why ≡ Stopped.Journal → (bytes : List ℕ) → WasFed client_role client.old bytes → ClientHearingStops now client.old.serving under.old bytes frame.now) }
+{
+    let mut done = 0;
+    'frames: while done < frame.len() {
+        let count = client.calls().journal().len();
+        done += client.feed(&frame[done..])?;
+        if count < client.calls().journal().len() {
+            settle(client, store, items, events, under, now, wires)?;
+        }
+    }
+    Ok(())
+}
+
+/// Does the client's work once: its calls run, the task that speaks is polled, and all goes out.
+pub(crate) fn settle<S: Store>(
+    client: &mut Client<Quiet>,
+    store: &mut S,
+    items: &mut Vec<Item>,
+    events: &mut Vec<(u32, Event)>,
+    under: &mut Option<Under>,
+    now: u64,
+    wires: &mut Wires,
+) -> Result<(), Stopped>
+    requires kept { IsKept client.old.serving items.old.items events.old.items }
+    requires there { IfSome (call_seen under.old) (λ c. c < call_count (deeds client.old.serving)) }
+    requires past { last_poll under.old ≤ now }
+    ensures settled { OnOk result (Settled now client.old.serving under.old client.new.serving under.new) }
+    ensures kept { OnOk result (IsKept client.new.serving items.new.items events.new.items) }
+    ensures past { OnOk result (last_poll under.new ≤ now) }
+    ensures out { OnOk result (GoesOut client_role items.old.items wires.old items.new.items wires.new) }
+    ensures holds { OnOk result ((st : Option Stored) → Holds items.old.items st (S.holds store.old) → Holds items.new.items st (S.holds store.new)) }
+    ensures full { IfErr result (λ why. why ≡ Stopped.Journal → ClientStops client_setting now client.old.serving.table.entries (task_seen under.old)) }
+    ensures fed { (bytes : List ℕ) → WasFed client_role client.old bytes → WasFed client_role client.new bytes }
+{
+    let from = events.len();
+    match run_all(client, events) {
+        Ok(()) => {}
+        Err(refused) => return Err(Stopped::from(refused)),
+    }
+    if !client.idle() {
+        return Err(Stopped::Memory);
+    }
+    match speak(client, &events.as_slice()[from..], under, now) {
+        Ok(()) => {}
+        Err(stopped) => return Err(stopped),
+    }
+    flush_all(client, store, items, wires)?;
+    Ok(())
+}
+
+// Runs calls until none is ready. The events that they take come behind the list.
+fn run_all(client: &mut Client<Quiet>, events: &mut Vec<(u32, Event)>) -> Result<(), StartRefused>
+    requires { IsOrderly client.old.serving }
+    ensures ran { OnOk result (ClientRuns client.old.serving events.old.items client.new.serving events.new.items) }
+    ensures full { IfErr result (λ why. why ≡ StartRefused.JournalFull → ClientRunsFull client.old.serving client.new.serving) }
+    ensures fed { (bytes : List ℕ) → WasFed client_role client.old bytes → WasFed client_role client.new bytes }
+{
+    work_until_idle(client, events)
+}
+
+// Polls the task that speaks with what came to its call among these events, and says what it says.
+fn speak(
+    client: &mut Client<Quiet>,
+    events: &[(u32, Event)],
+    under: &mut Option<Under>,
+    now: u64,
+) -> Result<(), Stopped>
+    requires orderly { IsOrderly client.old.serving }
+    requires there { IfSome (call_seen under.old) (λ c. c < call_count (deeds client.old.serving)) }
+    requires past { last_poll under.old ≤ now }
+    ensures says { OnOk result (ClientSays client.old.serving (said_with client.old.serving.table.setting now events.now (task_seen under.old) client.old.serving.table.entries) client.new.serving) }
+    ensures under { OnOk result (under_seen under.new ≡ under_with (polled_with now events.now (task_seen under.old)) (under_seen under.old)) }
+    ensures past { OnOk result (last_poll under.new ≤ now) }
+    ensures full { IfErr result (λ why. why ≡ Stopped.Journal → SayingStops client.old.serving.table.setting now events.now (task_seen under.old) client.old.serving.table.entries) }
+    ensures fed { (bytes : List ℕ) → WasFed client_role client.old bytes → WasFed client_role client.new bytes }
+{
+    match under.take() {
+        None => Ok(()),
+        Some(Under::Transferring(speaker)) => {
+            let call = speaker.call();
+            let (speaker, outs) = speaker.poll(events, now)?;
+            *under = Some(Under::Transferring(speaker));
+            say_all(client, call, outs.as_slice())
+        }
+        Some(Under::Lacking(resource)) => {
+            *under = Some(Under::Lacking(resource));
+            Ok(())
+        }
+        Some(Under::Calling(plain, call)) => {
+            *under = Some(Under::Calling(plain, call));
+            Ok(())
+        }
+        Some(Under::Closing(channel, ended)) => {
+            *under = Some(Under::Closing(channel, ended));
+            Ok(())
+        }
+    }
+}
+
+// Says these in a call, each unless the call doesn't take it.
+fn say_all(client: &mut Client<Quiet>, call: u32, outs: &[Out]) -> Result<(), Stopped>
+    requires orderly { IsOrderly client.old.serving }
+    requires there { call < call_count (deeds client.old.serving) }
+    ensures says { OnOk result (ClientSays client.old.serving (all_said_in client.old.serving.table.setting call outs.now client.old.serving.table.entries) client.new.serving) }
+    ensures full { IfErr result (λ why. why ≡ Stopped.Journal → saying_stops client.old.serving.table.setting call outs.now client.old.serving.table.entries ≡ true) }
+    ensures fed { (bytes : List ℕ) → WasFed client_role client.old bytes → WasFed client_role client.new bytes }
+{
+    'outs: for out in outs {
+        match say(client, call, out.clone()?) {
+            Ok(()) => {}
+            Err(stopped) => return Err(stopped),
+        }
+    }
+    Ok(())
+}
+
+// Says this in a call, unless the call doesn't take it.
+fn say(client: &mut Client<Quiet>, call: u32, out: Out) -> Result<(), Stopped>
+    requires orderly { IsOrderly client.old.serving }
+    requires there { call < call_count (deeds client.old.serving) }
+    ensures says { OnOk result (ClientSays client.old.serving (said_in client.old.serving.table.setting call client.old.serving.table.entries out) client.new.serving) }
+    ensures full { IfErr result (λ why. why ≡ Stopped.Journal → is_full client.old.serving.table.entries ≡ true) }
+    ensures fed { (bytes : List ℕ) → WasFed client_role client.old bytes → WasFed client_role client.new bytes }
+{
+    if is_long(&out) {
+        return Err(Stopped::Memory);
+    }
+    match client.say(call, out) {
+        Ok(()) => Ok(()),
+        Err(refused) => match stop_of(refused) {
+            None => Ok(()),
+            Some(stopped) => Err(stopped),
+        },
+    }
+}
+
+// Why the client stops where a call doesn't take something, if it does.
+fn stop_of(refused: SayRefused) -> Option<Stopped>
+    ensures { result ≡ stop_of refused }
+{
+    match refused {
+        SayRefused::JournalFull => Some(Stopped::Journal),
+        SayRefused::Memory => Some(Stopped::Memory),
+        SayRefused::Closed(_) | SayRefused::NoStream | SayRefused::Completed => None,
+    }
+}
+
+// Whether a message is longer than a call takes it.
+fn is_long(out: &Out) -> bool
+    ensures { result ≡ is_long_out out.now }
+{
+    match out {
+        Out::Say(payload) => payload.len() > MAX_PAYLOAD,
+        Out::Begin { .. } | Out::Append { .. } | Out::Commit { .. } | Out::Leave { .. } => false,
+    }
+}
+
+// Flushes each item that waits.
+fn flush_all<S: Store>(
+    client: &mut Client<Quiet>,
+    store: &mut S,
+    items: &mut Vec<Item>,
+    wires: &mut Wires,
+) -> Result<(), AllocError>
+    requires orderly { IsOrderly client.old.serving }
+    requires items { items.old.items ≡ items_flushed (deeds client.old.serving) }
+    ensures flushes { OnOk result (ClientFlushes client.old.serving client.new.serving) }
+    ensures items { OnOk result (items.new.items ≡ items_flushed (deeds client.new.serving)) }
+    ensures out { OnOk result (GoesOut client_role items.old.items wires.old items.new.items wires.new) }
+    ensures holds { OnOk result ((st : Option Stored) → Holds items.old.items st (S.holds store.old) → Holds items.new.items st (S.holds store.new)) }
+    ensures fed { (bytes : List ℕ) → WasFed client_role client.old bytes → WasFed client_role client.new bytes }
+{
+    'items: while let Some(item) = client.next_out() {
+        take_out(Role::Client, item, store, items, wires)?;
+    }
+    Ok(())
+}

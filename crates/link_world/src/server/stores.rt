@@ -1,0 +1,69 @@
+//! The stores of a world.
+ghost use Rattle.std.specs.Prelude.{◌≡◌, IfOk, OnOk, Some};
+ghost use Rattle.link_io.specs.Resources.{IsOnce, lengths_of};
+ghost use Rattle.link_io.specs.Stored.{shelf_of};
+ghost use Rattle.link_laws.specs.world.Setup.{made_bytes, made_resources, stocked};
+
+use bytes::Bytes;
+use link_io::{Fulls, MemStore, Shelf, Store};
+use link_script::{Resources, Stock, next_number};
+use std::alloc::{AllocError, Global};
+
+/// The bytes of a resource: the highest byte of each number that the generator gives, from the seed on.
+pub fn stock_bytes(alloc: Global, stock: Stock) -> Result<Bytes, AllocError>
+    ensures { IfOk result (λ bytes. bytes ≡ made_bytes stock.length stock.seed) }
+{
+    let mut bytes = Vec::new(alloc);
+    let mut x = stock.seed;
+    for _made in 0..stock.length {
+        x = next_number(x);
+        bytes.push((x >> 56) as u8)?;
+    }
+    Ok(Bytes::from_vec(bytes)?)
+}
+
+// These resources.
+fn resources(alloc: Global, stocks: &[Stock]) -> Result<Fulls, AllocError>
+    ensures { IfOk result (λ fulls. fulls ≡ made_resources stocks.now) }
+{
+    let mut fulls = Fulls::new(alloc);
+    for stock in stocks {
+        fulls.push((stock.id, stock_bytes(alloc, *stock)?))?;
+    }
+    Ok(fulls)
+}
+
+/// A store with these resources and these leftovers, none of whose calls fails.
+pub fn store_of(alloc: Global, full: &[Stock], left: &[Stock]) -> Result<MemStore, AllocError>
+    requires full { IsOnce (made_resources full.now) }
+    requires left { IsOnce (made_resources left.now) }
+    ensures { IfOk result (λ store. store.stored ≡ stocked full.now left.now) }
+{
+    let full = resources(alloc, full)?;
+    let left = resources(alloc, left)?;
+    MemStore::new(alloc, full, left, Vec::new(alloc))
+}
+
+/// What the store lists. No call of a world's store fails, so memory alone can be wanting.
+pub fn shelf_of(store: &mut MemStore) -> Result<Shelf, AllocError>
+    ensures shelf { IfOk result (λ shelf. shelf ≡ shelf_of store.old.stored) }
+    ensures same { store.new.stored ≡ store.old.stored }
+{
+    match store.list() {
+        Ok(shelf) => Ok(shelf),
+        Err(_) => Err(AllocError),
+    }
+}
+
+/// The whole resources with their lengths, by rising id.
+pub fn lengths(alloc: Global, store: &mut MemStore) -> Result<Resources, AllocError>
+    ensures lengths { IfOk result (λ lengths. lengths ≡ lengths_of store.old.stored.full) }
+    ensures same { store.new.stored ≡ store.old.stored }
+{
+    let shelf = shelf_of(store)?;
+    let mut lengths = Resources::new(alloc);
+    for (id, bytes) in shelf.full.as_slice() {
+        lengths.push((*id, bytes.len() as u64))?;
+    }
+    Ok(lengths)
+}

@@ -1,6 +1,0 @@
-//! What is told of the runs of scripts, as texts.
-
-mod desk;
-mod losses;
-mod plain;
-mod transfers;

@@ -1,0 +1,6 @@
+pub mod DeadlineLemmas
+pub mod EndLemmas
+pub mod FetchLemmas
+pub mod TellLemmas
+pub mod WalkLemmas
+pub mod WatchLemmas

@@ -1,0 +1,5 @@
+pub mod Ends
+pub mod Events
+pub mod Tasks
+pub mod Telling
+pub mod Watching

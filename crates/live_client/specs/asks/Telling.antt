@@ -1,0 +1,62 @@
+-- A task that speaks through a call, behind a dispatcher.
+use Rattle.std.specs.Prelude.{◌≡◌, ℕ, ◌<◌, Bool, true, false, List, [], ◌∷◌, ◌++◌, map, flat_map, Option, None}
+use Rattle.rpc_ids.specs.declared.status.Status.{Status}
+use Rattle.rpc_handlers.specs.declared.answer.Out.{Out}
+use Rattle.rpc_handlers.specs.declared.event.Event.{Event}
+use Rattle.task_core.specs.bells.Bells.{Heard, Tower}
+use Rattle.task_core.specs.Visit.{Visit}
+use Rattle.task_core.specs.Log.{Step, looks_of}
+use Rattle.task_core.specs.Due.{result_of}
+use Rattle.task_core.specs.Tasks.{Adds, AddsNothing, HasKey, StandsFor, Tasks}
+use Rattle.live_client.specs.asks.Tasks.{AreBetween, AreTurns, IsAloneIn, WantedIf, mail_in, mail_of, said_in}
+
+-- the ear of these words, of which there is one
+pub record HasWord (ear : Heard) (tower : Tower) : Type 0 where
+  pub own : ear.table ≡ tower.table
+  pub word : 0 < tower.table.words
+
+module _ {T : Type 0} where
+  -- one task is there, with the key 0
+  pub record IsAlone (tasks : Tasks T) : Type 0 where
+    pub there : HasKey tasks 0
+    pub alone : (key : ℕ) → HasKey tasks key → key ≡ 0
+
+  -- what the task said and nobody took yet
+  abbrev pub waiting : Tasks T → List Out
+  waiting tasks = map (λ (said : ℕ × Out). said.1) tasks.outs
+
+  -- whether nothing waits
+  abbrev pub IsAll : Bool → Tasks T → Type 0
+  IsAll true tasks = tasks.outs ≡ []
+  IsAll false tasks = Unit {0}
+
+  -- Its steps: the polls lie between these moments, it was posted these events, and these outs were taken of what it said. No poll
+  -- found too little memory, but for the last where the task fell short of it.
+  pub record Told (polls : T → Visit → T → Type 0) (task : T) (tasks : Tasks T) (ear : Heard) (short : Bool) (start upto : ℕ) (events : List Event) (outs : List Out) (ended : Option Status) : Type 0 where
+    pub log : List (Step T)
+    pub stands : StandsFor tasks log
+    pub looks : looks_of log ≡ ear.looks
+    pub alone : IsAloneIn task log
+    pub turns : AreTurns polls log
+    pub between : AreBetween start upto log
+    pub whole : WantedIf short log
+    pub mail : mail_in log ≡ flat_map mail_of events
+    pub said : said_in log ≡ outs ++ waiting tasks
+    pub result : result_of log 0 ≡ ended
+
+  -- the same of a task that is never cancelled
+  pub record Tells (polls : T → Visit → T → Type 0) (task : T) (tasks : Tasks T) (ear : Heard) (short all : Bool) (start upto : ℕ) (cut : Option Status) (events : List Event) (outs : List Out) (ended : Option Status) : Type 0 where
+    pub told : Told polls task tasks ear short start upto events outs ended
+    pub all_said : IsAll all tasks
+    pub uncut : cut ≡ None
+
+  -- the dispatcher stands for its log with these steps more, the oldest first
+  abbrev pub AllAdd : Tasks T → Tasks T → List (Step T) → Type 0
+  AllAdd old new [] = AddsNothing old new
+  AllAdd old new (step ∷ steps) = Adds old new step
+
+  -- all of it is some of it
+  abbrev pub told_weaker :
+      (polls : T → Visit → T → Type 0) (task : T) (tasks : Tasks T) (ear : Heard) (short : Bool) (start upto : ℕ) (cut : Option Status) (events : List Event) (outs : List Out) (ended : Option Status)
+      → Tells polls task tasks ear short true start upto cut events outs ended → Tells polls task tasks ear short false start upto cut events outs ended
+  told_weaker polls task tasks ear short start upto cut events outs ended so = record { told = so.told; all_said = tt; uncut = so.uncut }

@@ -1,4 +1,0 @@
-pub mod Events
-pub mod Tasks
-pub mod Telling
-pub mod Watching

@@ -1,5 +1,0 @@
-//! Both ends of a transfer, over links that lose a few words. It has laws, which are functions that do nothing and promise
-//! something of the definitions. Enter at [`laws::reads_survive`].
-#![tactic(auto)]
-
-pub mod laws;

@@ -1,0 +1,5 @@
+pub mod PassLemmas
+pub mod ReaderLemmas
+pub mod SessionLemmas
+pub mod StepLemmas
+pub mod WriterLemmas

@@ -1,5 +1,0 @@
-use Rattle.rpc_shared.proofs.Seats.{still_seated}
-use Rattle.rpc_shared.proofs.tests.client.say.Goals as goal
-
-pub returns : goal.returns
-returns g c = record { seat = still_seated c.args.shared.now _ _ _ _ (still_seated c.args.shared.now _ _ _ _ c.requires.seat c.look-look.ensures.did) c.say.ensures.did }

@@ -1,9 +1,0 @@
-use Rattle.std.proofs.Common.{◌∙◌}
-use Rattle.rpc_shared.proofs.Seats.{still_seated}
-use Rattle.rpc_shared.proofs.tests.jobs.cancel.Goals as goal
-
-pub returns-clause-seat : goal.returns-clause-seat
-returns-clause-seat g c = still_seated c.args.shared.now _ _ _ _ (still_seated c.args.shared.now _ _ _ _ c.requires.seat c.look-look.ensures.did) c.cancel.ensures.did
-
-pub returns-clause-number : goal.returns-clause-number
-returns-clause-number g c = c.cancel.ensures.did.same.number ∙ c.look-look.ensures.did.same.number

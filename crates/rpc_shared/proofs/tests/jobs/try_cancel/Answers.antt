@@ -1,5 +1,0 @@
-use Rattle.rpc_shared.proofs.Seats.{still_seated, tried_seated}
-use Rattle.rpc_shared.proofs.tests.jobs.try_cancel.Goals as goal
-
-pub returns : goal.returns
-returns g c = record { seat = tried_seated c.args.shared.now _ _ _ _ c.try_cancel.result (still_seated c.args.shared.now _ _ _ _ c.requires.seat c.look-look.ensures.did) c.try_cancel.ensures.did c.try_cancel.ensures.busy }

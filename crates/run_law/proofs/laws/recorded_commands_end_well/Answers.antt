@@ -1,8 +1,0 @@
-use Rattle.run_law.proofs.StatusLemmas.{recorded_end_well, recorded_had_room}
-use Rattle.run_law.proofs.laws.recorded_commands_end_well.Goals as goal
-
-pub returns-clause-well : goal.returns-clause-well
-returns-clause-well c = recorded_end_well
-
-pub returns-clause-room : goal.returns-clause-room
-returns-clause-room c = recorded_had_room

@@ -1,0 +1,5 @@
+//! Tests of pw_run, through their public names.
+#![tactic(auto)]
+
+#[cfg(test)]
+mod runs;

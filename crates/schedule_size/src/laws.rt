@@ -1,7 +1,0 @@
-//! What follows from the definitions. Each function does nothing: what counts is its contract.
-ghost use Rattle.schedule_size.specs.Size.{EntriesWithin};
-
-/// How many entries the history of one thread has at most, and how many a full beginning of one.
-pub fn entries()
-    ensures { EntriesWithin }
-{}

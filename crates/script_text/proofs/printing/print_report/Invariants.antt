@@ -1,7 +1,0 @@
-use Rattle.std.proofs.Common.{◌≡◌, ◌++◌, string_bytes, drop}
-use Rattle.script_text.specs.Report.{command_lines}
-use Rattle.script_text.proofs.printing.print_report.Given as goal
-
--- what stands there, with the lines to come, is the whole
-abbrev pub invariant-loop-line : goal.invariant-loop-line
-invariant-loop-line l = string_bytes l.text ++ command_lines (drop l.line-index l.line-items) ≡ string_bytes l.initial.text ++ command_lines l.line-items

@@ -1,5 +1,0 @@
-use Rattle.transfer_law.proofs.AskLaws as ask_laws
-use Rattle.transfer_law.proofs.asks_are_few.Goals as goal
-
-pub returns : goal.returns
-returns c = ask_laws.asks_are_few

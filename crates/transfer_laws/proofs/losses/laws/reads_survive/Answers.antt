@@ -1,0 +1,5 @@
+use Rattle.transfer_laws.proofs.losses.ReadSurvival.{reads_survive}
+use Rattle.transfer_laws.proofs.losses.laws.reads_survive.Goals as goal
+
+pub returns : goal.returns
+returns c = reads_survive

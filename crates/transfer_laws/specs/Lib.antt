@@ -1,0 +1,4 @@
+pub mod cores
+pub mod words
+pub mod pairs
+pub mod losses

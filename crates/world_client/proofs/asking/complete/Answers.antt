@@ -1,8 +1,0 @@
-use Rattle.std.proofs.Common.{refl}
-use Rattle.rpc_journal.specs.declared.entry.EntryKind.TheVariants.{Done}
-use Rattle.world_client.proofs.AskLemmas.{adds_one}
-use Rattle.world_client.proofs.asking.complete.Goals as goal
-
-pub returns-in-Ok-clause-adds : goal.returns-in-Ok-clause-adds
-returns-in-Ok-clause-adds c =
-    adds_one c.args.client.now c.done.new.self (Done c.args.call) c.done.ensures.aside c.in-Ok.ensures.did.adds c.requires.orderly (λ k. refl) (λ k. refl) (λ k. refl) refl refl refl

@@ -1,7 +1,0 @@
-use Rattle.std.proofs.Common.{◌≡◌, [], flat_map, take}
-use Rattle.rpc_journal.specs.Calls.{of_call}
-use Rattle.world_turns.specs.Lines.{message_in}
-use Rattle.world_client.proofs.questions.first_message.Given as goal
-
-abbrev pub invariant-events : goal.invariant-events
-invariant-events l = flat_map message_in (of_call l.call (take l.of-index l.events)) ≡ []

@@ -1,8 +1,0 @@
-use Rattle.world_turns.proofs.RowProofs.{channel_closed-runs, idle_channel_closed-runs}
-use Rattle.world_turns.proofs.laws.rows_of_channels.Goals as goal
-
-pub returns-clause-closed : goal.returns-clause-closed
-returns-clause-closed c = channel_closed-runs
-
-pub returns-clause-idle : goal.returns-clause-idle
-returns-clause-idle c = idle_channel_closed-runs

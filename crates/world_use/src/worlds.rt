@@ -1,0 +1,7 @@
+//! What is told of the runs of scripts, as texts.
+
+mod desk;
+mod limits;
+mod losses;
+mod plain;
+mod transfers;
