@@ -2,7 +2,7 @@
 """Decodes 64 MB of frames by this repository's decoder, by two plain decoders and by memcpy, and prints MB/s.
 
 Builds bench/frames/plain_decoder.c with cc, bench/frames/table_decoder with cargo on Debian's librust-memchr-dev and
-librust-crc32fast-dev (left out where they aren't there), and the program crates/frame_speed with rt (proved, by LLVM).
+librust-crc32fast-dev (left out where they aren't there), and the program crates/speed with rt (proved, by LLVM).
 Each is run with a few rounds and with one, and the difference is measured, so reading the file and starting don't count.
 They take turns, and their processor time counts, so that other work on the machine tells less.
 """
@@ -73,9 +73,9 @@ def main():
     table = table_decoder()
     plain = os.path.join(BUILD, "plain_decoder")
     subprocess.run(["cc", "-O2", "-o", plain, os.path.join(HERE, "plain_decoder.c")], check=True)
-    crate = os.path.join(TOP, "crates", "frame_speed")
+    crate = os.path.join(TOP, "crates", "speed")
     subprocess.run(["rt", "run"], cwd=crate, check=True, stdout=subprocess.DEVNULL, stderr=subprocess.DEVNULL)
-    ours = os.path.join(crate, "out", "frame_speed")
+    ours = [os.path.join(crate, "out", "speed"), "frames"]
     print(f"{os.cpu_count()} processors, MB/s of stream, best of 3")
     print("| payload | escapes | this decoder | plain C | ratio | memchr and tables | ratio | memcpy |")
     print("|---|---|---|---|---|---|---|---|")
@@ -85,12 +85,12 @@ def main():
             with open(path, "wb") as file:
                 file.write(stream(length, escapes))
             size = os.path.getsize(path)
-            told = {seconds([ours, path, "1"])[1], seconds([plain, "plain", path, "1"])[1]}
+            told = {seconds([*ours, path, "1"])[1], seconds([plain, "plain", path, "1"])[1]}
             if table:
                 told.add(seconds([table, path, "1"])[1])
             if len(told) != 1:
                 sys.exit(f"the decoders differ: {told}")
-            commands = [[ours, path], [plain, "plain", path], [plain, "memcpy", path]] + ([[table, path]] if table else [])
+            commands = [[*ours, path], [plain, "plain", path], [plain, "memcpy", path]] + ([[table, path]] if table else [])
             a, b, c, *d = speeds(commands, size)
             beside = f"{d[0]:.0f} | {a / d[0]:.2f}" if d else "- | -"
             print(f"| {length} | {'many' if escapes else 'few'} | {a:.0f} | {b:.0f} | {a / b:.2f} | {beside} | {c:.0f} |", flush=True)

@@ -14,7 +14,7 @@ use hdlc_frame::{Bad, Machine, Phase, Place, Segment, Told};
 pub struct KfDecoder {
     /// How many octets of the open segment's content stand in the buffer.
     pub len: usize,
-    /// 0 before the first flag, 1 behind a flag, 2 in a segment's text, 3 behind an escape, 4 behind two of them.
+    /// 0 before the first flag, 1 after a flag, 2 in a segment's text, 3 after an escape, 4 after two of them.
     pub phase: u8,
     /// 1 where the open segment's content is longer than the buffer, else 0.
     pub is_long: u8,

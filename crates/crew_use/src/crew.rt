@@ -23,6 +23,7 @@ use std::{thread, time};
 
 mod clocks;
 mod gates;
+mod hanging;
 mod moments;
 mod queues;
 

@@ -5,7 +5,7 @@ use Rattle.rpc_handlers.specs.Limits.{is_long}
 use Rattle.token_text.specs.Arguments.{Argument}
 use Rattle.token_text.specs.Book.{Entry, IsMessage, format_of}
 use Rattle.token_text.specs.Format.{IsFormat, IsPart}
-use Rattle.token_text.specs.Printed.{text_in}
+use Rattle.token_text.specs.Computed.{text_in}
 use Rattle.token_text.specs.Printing.{text_of}
 use Rattle.token_text.proofs.PrintedLaws.{text_of_message, message_of_text}
 use Rattle.token_text.specs.declared.part.Notation.TheVariants.{Signed, Unsigned, Hexadecimal}

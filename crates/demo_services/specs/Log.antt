@@ -8,7 +8,7 @@ use Rattle.rpc_handlers.specs.declared.event.Event.{Event}
 use Rattle.rpc_handlers.specs.declared.event.Event.TheVariants.{Message, Completion}
 use Rattle.rpc_handlers.specs.Limits.{is_long}
 use Rattle.token_text.specs.Book.{Entry}
-use Rattle.token_text.specs.Printed.{text_in}
+use Rattle.token_text.specs.Computed.{text_in}
 use Rattle.token_text.specs.declared.part.Notation.TheVariants.{Signed, Unsigned, Hexadecimal}
 use Rattle.token_text.specs.declared.part.Padding.TheVariants.{Bare}
 use Rattle.token_text.specs.declared.part.Part.{Part}

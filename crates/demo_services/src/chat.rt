@@ -24,6 +24,7 @@ impl Model for Chat {
 }
 
 impl Chat {
+    /// A new call of Chat.
     pub fn new(alloc: Global) -> Chat {
         Chat { alloc }
     }

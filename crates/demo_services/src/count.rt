@@ -27,6 +27,7 @@ impl Model for Count {
 }
 
 impl Count {
+    /// A new call of Count.
     pub fn new(alloc: Global) -> Count {
         Count { alloc }
     }

@@ -23,6 +23,7 @@ impl Model for Echo {
 }
 
 impl Echo {
+    /// A new call of Echo.
     pub fn new(alloc: Global) -> Echo {
         Echo { alloc }
     }

@@ -27,6 +27,7 @@ impl Model for Sum {
 }
 
 impl Sum {
+    /// A new call of Sum, whose total is 0.
     pub fn new(alloc: Global) -> Sum
         ensures { result ≡ 0 }
     {

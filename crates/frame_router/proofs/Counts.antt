@@ -13,7 +13,7 @@ use Rattle.frame_router.specs.declared.fate.Fate.TheVariants as is
 use Rattle.frame_router.specs.declared.port.Port.{Port}
 use Rattle.frame_router.specs.declared.routes.Route.{Route}
 use Rattle.frame_router.specs.declared.tally.Tally.{Tally}
-use Rattle.frame_router.specs.Counting.{with_fate}
+use Rattle.frame_router.specs.Steps.{with_fate}
 use Rattle.frame_router.specs.Fates.{fate_of, is_passing, passes}
 use Rattle.frame_router.specs.Routed.{Arrival, LaneView, arriving, count_of, is_dropped, is_fate, tally_of}
 

@@ -9,9 +9,9 @@ use Rattle.frame_router.specs.declared.pumping.Stopped.{Stopped}
 use Rattle.frame_router.specs.declared.pumping.Stopped.TheVariants.{Sink, Memory}
 use Rattle.frame_router.specs.declared.routes.Route.{Route}
 use Rattle.frame_router.specs.Pumped.{Pumps, PumpsBy, wire_of}
-use Rattle.frame_router.specs.Pumping.{HasTaken, IsPumped, PumpsOn, StopsIn}
+use Rattle.frame_router.specs.Steps.{HasTaken, IsPumped, PumpsOn, StopsIn}
 use Rattle.frame_router.specs.Routed.{LaneView}
-use Rattle.frame_router.specs.Stops.{stopped_pump, tally_in}
+use Rattle.frame_router.specs.Steps.{stopped_pump, tally_in}
 
 pub take_none : (xs : List ℕ) → take 0 xs ≡ []
 take_none [] = refl

@@ -15,7 +15,7 @@ use Rattle.frame_router.specs.declared.routes.Route.{Route}
 use Rattle.frame_router.specs.declared.tally.Tally.{Tally}
 use Rattle.frame_router.specs.Fates.{frame_bytes, passed, passes}
 use Rattle.frame_router.specs.Pumped.{PumpsPart, all_kept, wire_of}
-use Rattle.frame_router.specs.Pumping.{IsPumped, PumpState, PumpsOn, StopsIn}
+use Rattle.frame_router.specs.Steps.{IsPumped, PumpState, PumpsOn, StopsIn}
 use Rattle.frame_router.specs.Routed.{BringsFrame, HasRouted, LaneView, RoutesMore, arriving}
 use Rattle.frame_router.proofs.Segments.{gives_front, passed_more, passed_none}
 

@@ -15,7 +15,7 @@ use Rattle.frame_router.specs.declared.fate.Fate.{Fate}
 use Rattle.frame_router.specs.declared.fate.Fate.TheVariants as is
 use Rattle.frame_router.specs.declared.port.Port.{Port}
 use Rattle.frame_router.specs.declared.routes.Route.{Route}
-use Rattle.frame_router.specs.Counting.{admitted, with_fate}
+use Rattle.frame_router.specs.Steps.{admitted, with_fate}
 use Rattle.frame_router.specs.Fates.{fate_of, frame_bytes, is_passing, passed, passes}
 use Rattle.frame_router.specs.Routed.{Arrival, BringsFrame, HasRouted, LaneView, RoutesMore, arriving, tally_of}
 use Rattle.frame_router.proofs.Counts.{tally_fault, tally_frame, tally_none, tally_same}

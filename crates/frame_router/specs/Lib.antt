@@ -1,9 +1,7 @@
-pub mod Counting
 pub mod Fates
 pub mod Pumped
-pub mod Pumping
 pub mod Routed
 pub mod Routes
-pub mod Stops
+pub mod Steps
 pub mod text
 pub mod bridge

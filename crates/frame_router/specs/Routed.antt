@@ -103,9 +103,9 @@ pub record StopsAtSegment (old : LaneView) (piece : List ℕ) (taken : ℕ) : Ty
 -- the direction to which a side feeds, and the one from which it is given
 pub record RouterView : Type 0 where
   pub routes : List Route
-  pub left : LaneView
-  pub right : LaneView
+  pub from_left : LaneView
+  pub from_right : LaneView
 
 abbrev pub lane_from : RouterView → Port → LaneView
-lane_from router Left = router.left
-lane_from router Right = router.right
+lane_from router Left = router.from_left
+lane_from router Right = router.from_right

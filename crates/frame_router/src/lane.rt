@@ -7,7 +7,7 @@ ghost use Rattle.hdlc_frame.specs.Found.Found.{frame};
 ghost use Rattle.hdlc_frame.specs.Lent.{found_of, parts_of};
 ghost use Rattle.frame_router.specs.declared.port.Port.{Port};
 ghost use Rattle.frame_router.specs.declared.routes.Route.{Route};
-ghost use Rattle.frame_router.specs.Counting.{admitted};
+ghost use Rattle.frame_router.specs.Steps.{admitted};
 ghost use Rattle.frame_router.specs.Fates.{frame_bytes};
 ghost use Rattle.frame_router.specs.Routed.{BringsFrame, HasRouted, RoutesMore, StopsAtSegment};
 

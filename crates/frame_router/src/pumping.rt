@@ -4,8 +4,8 @@ ghost use Rattle.std.specs.Prelude.{◌⊎◌, ◌≡◌, ◌≢◌, ◌<◌, �
 ghost use Rattle.std.specs.Io.KnownBytes.{Keeps};
 ghost use Rattle.link_io.specs.Causes.{Rose};
 ghost use Rattle.frame_router.specs.Pumped.{Pumps};
-ghost use Rattle.frame_router.specs.Pumping.{IsPumped, PumpsOn, StopsIn};
-ghost use Rattle.frame_router.specs.Stops.{IsSinkStop, stopped_pump, tally_in};
+ghost use Rattle.frame_router.specs.Steps.{IsPumped, PumpsOn, StopsIn};
+ghost use Rattle.frame_router.specs.Steps.{IsSinkStop, stopped_pump, tally_in};
 
 use crate::lane::Lane;
 use crate::{Port, Routes, Tally};

@@ -17,8 +17,8 @@ use std::marker::Model;
 #[derive(Drop)]
 pub struct Router {
     routes: Routes,
-    left: Lane,
-    right: Lane,
+    from_left: Lane,
+    from_right: Lane,
 }
 
 impl Model for Router {
@@ -26,7 +26,7 @@ impl Model for Router {
 
     ghost Value = { RouterView };
 
-    ghost view = { λ r. record { routes = r.routes; left = r.left; right = r.right } };
+    ghost view = { λ r. record { routes = r.routes; from_left = r.from_left; from_right = r.from_right } };
 }
 
 impl Router {
@@ -38,8 +38,8 @@ impl Router {
     {
         Ok(Router {
             routes,
-            left: Lane::new(alloc)?,
-            right: Lane::new(alloc)?,
+            from_left: Lane::new(alloc)?,
+            from_right: Lane::new(alloc)?,
         })
     }
 
@@ -65,8 +65,8 @@ impl Router {
         ensures routes_stay { self.new.routes ≡ self.old.routes }
     {
         match from {
-            Port::Left => self.left.feed(&self.routes, from, piece),
-            Port::Right => self.right.feed(&self.routes, from, piece),
+            Port::Left => self.from_left.feed(&self.routes, from, piece),
+            Port::Right => self.from_right.feed(&self.routes, from, piece),
         }
     }
 
@@ -83,8 +83,8 @@ impl Router {
         ensures routes_stay { self.new.routes ≡ self.old.routes }
     {
         match to {
-            Port::Left => self.right.next(),
-            Port::Right => self.left.next(),
+            Port::Left => self.from_right.next(),
+            Port::Right => self.from_left.next(),
         }
     }
 
@@ -93,8 +93,8 @@ impl Router {
         ensures { result ≡ (lane_from self.now from).tally }
     {
         match from {
-            Port::Left => self.left.tally(),
-            Port::Right => self.right.tally(),
+            Port::Left => self.from_left.tally(),
+            Port::Right => self.from_right.tally(),
         }
     }
 }

@@ -2,7 +2,7 @@
 
 ghost use Rattle.std.specs.Prelude.{◌≡◌};
 ghost use Rattle.hdlc_frame.specs.Counted.{one_more};
-ghost use Rattle.frame_router.specs.Counting.{with_fate};
+ghost use Rattle.frame_router.specs.Steps.{with_fate};
 
 use crate::fate::Fate;
 

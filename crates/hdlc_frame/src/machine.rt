@@ -1,5 +1,5 @@
 //! The machine of a decoder: it reads runs of ordinary octets and the flags and escapes between them, and keeps a
-//! segment's content in a buffer that it is handed at each call.
+//! segment's content in a buffer that it is handed at each push.
 
 ghost use Rattle.std.specs.Prelude.{◌≡◌, ◌+◌, ◌<◌, ◌≤◌, ◌++◌, [], ℕ, List, length, take, slice_range, IsNone, IsTrue, ◌↔◌, false};
 ghost use Rattle.hdlc_frame.specs.Found.{found};
@@ -17,7 +17,7 @@ use crate::text::unescape;
 use crate::told::{Place, Segment, Told};
 
 /// A decoder that has no buffer of its own. What it keeps of the open segment lies in its caller's buffer, whose length
-/// is the limit of a content: hand in the same buffer at each call, and leave it as it is in between.
+/// is the limit of a content: hand in the same buffer at each push, and leave it as it is in between.
 ///
 /// Any values of the fields are safe: a `len` past the buffer counts as the buffer's length. Where no stream leads to them,
 /// what is told is a frame or a fault of no stream.
@@ -46,7 +46,7 @@ impl Machine {
     /// Takes bytes up to and with the first flag that ends a segment, else the whole piece. It takes no memory.
     ///
     /// A segment is the text between two consecutive flags, if it isn't empty. Its frame's payload lies in `piece` where
-    /// the segment lies in it whole with no escape, else in `buffer`, until the next call.
+    /// the segment lies in it whole with no escape, else in `buffer`, until the next push.
     pub fn push(&mut self, buffer: &mut [u8], piece: &[u8]) -> Told
         ensures taken { result.taken ≤ length piece.now }
         ensures whole { IsNone result.segment → result.taken ≡ length piece.now }

@@ -1,4 +1,5 @@
 pub mod Arriving
+pub mod Begun
 pub mod Offers
 pub mod Starting
 pub mod Finishing

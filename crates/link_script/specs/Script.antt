@@ -17,7 +17,7 @@ new_script = record { chunk = None; window = None; server = []; client = []; lef
 -- the numbers of a resource fit
 pub record IsStock (s : Stock) : Type 0 where
   pub id : s.id < 2 ^ 32
-  pub length : s.length ≤ MAX_STOCK
+  pub len : s.len ≤ MAX_STOCK
   pub seed : s.seed < 2 ^ 64
 
 -- the numbers of a loss fit

@@ -5,7 +5,7 @@ pub enum Loss {
     Lose,
     /// It is delivered twice.
     Repeat,
-    /// It is delivered behind the next frame of its direction.
+    /// It is delivered after the next frame of its direction.
     Swap,
     /// One bit of it is turned over: the bit of this number modulo those that the frame has, from the lowest bit of its
     /// first byte on.

@@ -6,7 +6,7 @@ pub const MAX_STOCK: u32 = 65_536;
 pub struct Stock {
     pub id: u32,
     /// In bytes.
-    pub length: u32,
+    pub len: u32,
     /// What its bytes are made from.
     pub seed: u64,
 }

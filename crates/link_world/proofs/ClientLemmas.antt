@@ -17,7 +17,7 @@ use Rattle.link_laws.specs.world.Client.{ClientSettles, ClientTakes}
 use Rattle.link_laws.specs.world.Lines.{finished}
 use Rattle.link_laws.specs.world.Setup.{client_setting}
 use Rattle.link_laws.specs.world.Starts.{starts}
-use Rattle.link_laws.specs.world.Turns.{Asks, Starts, cancelling, starting, task_of, task_under, to_client, under_with, with_command, with_frame_at_client, with_task}
+use Rattle.link_laws.specs.world.Turns.{Asks, StartTurn, cancelling, starting, task_of, task_under, to_client, under_with, with_command, with_frame_at_client, with_task}
 use Rattle.link_laws.specs.world.World.{Setup, Tasked, World, moment, with_client}
 use Rattle.link_world.specs.declared.client.under.Under.{Under}
 use Rattle.link_world.specs.client.Asking.{ClientAsks, IsAsked, IsClientOf}
@@ -93,11 +93,13 @@ module _ (k : Setup) where
       record {
         mid = with_wiring y (record v { client = after });
         turn = record {
-          packets = hears.packets;
-          heard = hears.heard;
           after = after;
           task = hears.next;
-          takes = in_world (λ set at h task. ClientTakes set at hears.packets h task after hears.next) commands w c d w.fed_client shows course hears.takes;
+          hears = record {
+            packets = hears.hears.packets;
+            heard = hears.hears.heard;
+            takes = in_world (λ set at h task. ClientTakes set at hears.hears.packets h task after hears.next) commands w c d w.fed_client shows course hears.hears.takes;
+          };
           is = ap (finished k) (sym goes);
         };
         server = record { entries = refl; fed = refl };
@@ -156,7 +158,7 @@ module _ (k : Setup) where
     moment = ap (λ n. TURN_OF_TIME * n) (sym course.times);
   }
 
-  starts_as : (w now : World) (rest : List Command) (command : Command) → IsAsked command → Asks k w command rest now → Starts k w command rest now
+  starts_as : (w now : World) (rest : List Command) (command : Command) → IsAsked command → Asks k w command rest now → StartTurn k w command rest now
   starts_as w now rest (Close channel) asked asks = absurd asked
   starts_as w now rest (Read resource offset) asked asks = asks
   starts_as w now rest (Write resource offset) asked asks = asks

@@ -17,10 +17,10 @@ use Rattle.link_world.specs.client.Underway.{call_seen}
 use Rattle.link_world.specs.server.ServerSide.{ServerRests, ServerState}
 use Rattle.link_world.specs.server.Wiring.{Wiring}
 use Rattle.link_world.specs.declared.course.Course.{Course}
-use Rattle.link_world.specs.declared.turn.Turn.{Turn as NextTurn}
-use Rattle.link_world.specs.declared.turn.Turn.TheVariants.{ToServer, ToClient, Start, Cancel, Time}
+use Rattle.link_world.specs.declared.turn.NextTurn.{NextTurn}
+use Rattle.link_world.specs.declared.turn.NextTurn.TheVariants.{ToServer, ToClient, Start, Cancel, Time}
 use Rattle.link_world.specs.Making.{ClientTurns, ServerTurns, TakesTurn, WorldTurns, with_coming}
-use Rattle.link_world.specs.Running.{IsTimed, MakesTurn}
+use Rattle.link_world.specs.Running.{IsTimed, ShowsTurn}
 use Rattle.link_world.specs.Showing.{ClientShows, CourseShows, ServerShows, Shows, Stands}
 use Rattle.link_world.proofs.SizeLemmas.{started_coming}
 use Rattle.link_world.proofs.TurnLemmas.{rest_at}
@@ -93,7 +93,7 @@ pub made_so : (k : Setup) (commands : List Command) (w : World) (s : ServerState
     → WorldTurns k commands w (next_kind w) s c x d
     → ((v : World) → Shows k commands s c x d v → Shows k commands s c y e (finished k v))
     → (next_kind w ≡ timing → is_full w.server ≡ false)
-    → MakesTurn k commands w s c y e
+    → ShowsTurn k commands w s c y e
 made_so k commands w s c x y d e t finish room = record {
   now = finished k t.mid;
   turn = t.turn;

@@ -18,7 +18,7 @@ use Rattle.link_world.specs.server.Wiring.{Wiring}
 use Rattle.link_world.specs.declared.course.Course.{Course}
 use Rattle.link_world.specs.declared.outcome.Outcome.{Outcome}
 use Rattle.link_world.specs.Outcomes.{IsRunBy, IsRunOf}
-use Rattle.link_world.specs.Over.{EndsAs}
+use Rattle.link_world.specs.Over.{LeadsToEnd}
 use Rattle.link_world.specs.Running.{EndsWith, setup_by}
 use Rattle.link_world.specs.Showing.{Shows, wiring_of}
 use Rattle.link_world.specs.Starting.{IsNew}
@@ -82,7 +82,7 @@ module _ (script : Script) (tuning : Tuning) (s : ServerState) (c : ClientState)
 
   -- a run to its end
   pub run_is : (server : ServerState) (client : ClientState) (y : Wiring) (d : Course) (outcome : Outcome)
-      → (ends : EndsWith (setup_by s c x tuning) script.commands server client y d) → EndsAs (setup_by s c x tuning) ends.comes.now outcome → IsRunOf script outcome
+      → (ends : EndsWith (setup_by s c x tuning) script.commands server client y d) → LeadsToEnd (setup_by s c x tuning) ends.comes.now outcome → IsRunOf script outcome
   run_is server client y d outcome ends ended = subst (λ k. IsRunBy k script.commands outcome) setup_is (record {
     now = ended.now;
     run = record { count = ends.comes.count; before = ends.comes.now; turns = ends.comes.turns; ends = ended.ends ends.last };

@@ -24,7 +24,7 @@ use Rattle.link_world.specs.server.ServerSide.{ServerMoves, ServerState}
 use Rattle.link_world.specs.server.Wiring.{Wiring}
 use Rattle.link_world.specs.declared.course.Course.{Course}
 use Rattle.link_world.specs.declared.outcome.Outcome.{Outcome}
-use Rattle.link_world.specs.Over.{EndsAs, Tells}
+use Rattle.link_world.specs.Over.{LeadsToEnd, Tells}
 use Rattle.link_world.specs.Showing.{ClientShows, ServerShows, Shows, wiring_of}
 use Rattle.link_world.proofs.ClientLemmas.{client_items, in_world}
 use Rattle.link_world.proofs.ServerLemmas.{items_by, losses_by, ruled, wires_by}
@@ -56,7 +56,7 @@ module _ (k : Setup) (commands : List Command) (w : World) where
       → ServerMoves s x server y → server.items ≡ items_flushed (deeds server.end.serving)
       → ClientSettles client_setting (TURN_OF_TIME * d.times) (adding c.end.serving.table.entries input_seat EndIn) None client.end.serving.table.entries None
       → ClientMoves c y client z → client.items ≡ items_flushed (deeds client.end.serving)
-      → Tells server client z d outcome → EndsAs k w outcome
+      → Tells server client z d outcome → LeadsToEnd k w outcome
   ends_as s server c client x y z d outcome shows settles moves items client_settles client_moves last tells =
       let after : List Entry = server.end.serving.table.entries in
       let then : List Entry = client.end.serving.table.entries in

@@ -21,10 +21,10 @@ use Rattle.link_world.specs.client.Underway.{call_under, under_seen}
 use Rattle.link_world.specs.server.ServerSide.{ServerState}
 use Rattle.link_world.specs.server.Wiring.{Wiring}
 use Rattle.link_world.specs.declared.course.Course.{Course}
-use Rattle.link_world.specs.declared.turn.Turn.{Turn}
-use Rattle.link_world.specs.declared.turn.Turn.TheVariants.{ToServer, ToClient, Start, Cancel, Time}
+use Rattle.link_world.specs.declared.turn.NextTurn.{NextTurn}
+use Rattle.link_world.specs.declared.turn.NextTurn.TheVariants.{ToServer, ToClient, Start, Cancel, Time}
 use Rattle.link_world.specs.Making.{TakesTurn}
-use Rattle.link_world.specs.Running.{ComesTo, EndsWith, MakesTurn}
+use Rattle.link_world.specs.Running.{ComesTo, EndsWith, ShowsTurn}
 use Rattle.link_world.specs.Showing.{CanTurn, IsCalling, IsNext, IsOpen, Shows, wiring_of}
 use Rattle.link_world.proofs.LineLemmas.{client_deeds_are}
 use Rattle.link_world.proofs.SizeLemmas.{IsLess, size_of, smaller, under_size, world_size}
@@ -48,7 +48,7 @@ cancels_known c (Some (Calling plain x)) call now is attends unended =
 cancels_known c (Some (Closing channel ended)) call now is attends unended = absurd is
 
 -- the turn that comes next may be made
-pub can_turn : (commands : List Command) (c : ClientState) (d : Course) (now : ℕ) (turn : Turn) → AllByRecursion IsCommand commands
+pub can_turn : (commands : List Command) (c : ClientState) (d : Course) (now : ℕ) (turn : NextTurn) → AllByRecursion IsCommand commands
     → IsNext commands d turn → Attends c d.under now → IsOpen c d.under → CanTurn c d turn
 can_turn commands c d now (ToServer frame) fit next attends unended = tt
 can_turn commands c d now (ToClient frame) fit next attends unended = tt
@@ -57,7 +57,7 @@ can_turn commands c d now (Start command) fit next attends unended =
 can_turn commands c d now (Cancel call) fit next attends unended = cancels_known c d.under call now next attends unended
 can_turn commands c d now Time fit next attends unended = tt
 
-pub takes_left : (k : Setup) (w : World) (x : Wiring) (turn : Turn) → TakesTurn k w x turn → next_kind w ≡ ending → ⊥
+pub takes_left : (k : Setup) (w : World) (x : Wiring) (turn : NextTurn) → TakesTurn k w x turn → next_kind w ≡ ending → ⊥
 takes_left k w x (ToServer frame) takes is = let other = takes.1 in absurd cc
 takes_left k w x (ToClient frame) takes is = let other = takes.1 in absurd cc
 takes_left k w x (Start command) takes is = let other = takes.1 in absurd cc
@@ -99,7 +99,7 @@ module _ (k : Setup) (commands : List Command) where
     pub smaller : left_size commands e new < left_size commands d s
 
   pub goes_on : (s new : ServerState) (c client : ClientState) (x y : Wiring) (d e : Course) (now : ℕ) (comes : ComesTo k commands s c x d) → Attends c d.under now
-      → d.delivered < MAX_DELIVERIES → MakesTurn k commands comes.now new client y e → GoesOn d s new client y e
+      → d.delivered < MAX_DELIVERIES → ShowsTurn k commands comes.now new client y e → GoesOn d s new client y e
   goes_on s new c client x y d e now comes attends room made =
       let w : World = comes.now in
       let few : w.delivered < MAX_DELIVERIES = subst (λ n. n < MAX_DELIVERIES) comes.shows.course.delivered room in
@@ -119,7 +119,7 @@ module _ (k : Setup) (commands : List Command) where
       }
 
   -- the limit of deliveries is met
-  pub past_frames : (s : ServerState) (c : ClientState) (x y : Wiring) (d : Course) (turn : Turn) (comes : ComesTo k commands s c x d) → TakesTurn k comes.now y turn
+  pub past_frames : (s : ServerState) (c : ClientState) (x y : Wiring) (d : Course) (turn : NextTurn) (comes : ComesTo k commands s c x d) → TakesTurn k comes.now y turn
       → MAX_DELIVERIES ≤ d.delivered → IsPastFrames k commands
   past_frames s c x y d turn comes takes many = record {
     count = comes.count;

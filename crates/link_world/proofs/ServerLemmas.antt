@@ -17,9 +17,8 @@ use Rattle.link_laws.specs.world.Turns.{ServerTakes, closed_by, starting, to_ser
 use Rattle.link_laws.specs.world.World.{Setup, World, closing, server_deeds, with_server}
 use Rattle.link_world.specs.declared.client.under.Under.TheVariants.{Closing}
 use Rattle.rpc_channel.specs.Rising.{has_id}
-use Rattle.rpc_journal.specs.Entries.{close_effect}
 use Rattle.rpc_journal.specs.Rows.{channels_in}
-use Rattle.link_world.specs.server.ServerSide.{ServerHears, ServerMoves, ServerRests, ServerState, ended_at_close}
+use Rattle.link_world.specs.server.ServerSide.{ServerHears, ServerMoves, ServerRests, ServerState}
 use Rattle.rpc_schedule.specs.Schedule.{Settles}
 use Rattle.link_world.specs.server.Wiring.{Wiring}
 use Rattle.rpc_journal.specs.Items.{packets_of}
@@ -85,10 +84,12 @@ module _ (k : Setup) where
       record {
         mid = with_wiring y (record v { server = after });
         turn = record {
-          packets = hears.packets;
-          heard = hears.heard;
           after = after;
-          takes = ruled (λ rule set h. ServerTakes rule set hears.packets h after) s w.server w.fed_server shows hears.takes;
+          hears = record {
+            packets = hears.packets;
+            heard = hears.heard;
+            takes = ruled (λ rule set h. ServerTakes rule set hears.packets h after) s w.server w.fed_server shows hears.takes;
+          };
           is = ap (finished k) (sym goes);
         };
         server = now;
@@ -106,23 +107,22 @@ module _ (k : Setup) where
 
   -- how many calls the closing of a channel ends
   pub ended_is : (w : World) (channel : ℕ) (s : ServerState) → ServerShows k s w.server w.fed_server
-      → ended_at_close s.end.serving.table.setting (deeds s.end.serving) channel ≡ ended_by_close k w channel
+      → ended_by_close s.end.serving.table.setting (deeds s.end.serving) channel ≡ ended_by_close k.server (server_deeds k w) channel
   ended_is w channel s shows =
       let same : deeds s.end.serving ≡ server_deeds k w =
       ap (λ set. history set s.end.serving.table.entries) shows.setting ∙ ap (λ h. history k.server h) shows.entries in
-      ap (λ set. ended_at_close set (deeds s.end.serving) channel) shows.setting
-      ∙ (ap (λ ds. ended_at_close k.server ds channel) same
-      ∙ ap (λ role. if has_id (channels_in k.server (server_deeds k w)) channel then Some (length (close_effect role (server_deeds k w) channel).ends) else None) shows.role)
+      ap (λ set. ended_by_close set (deeds s.end.serving) channel) shows.setting
+      ∙ ap (λ ds. ended_by_close k.server ds channel) same
 
   -- A CHANNEL IS CLOSED
   pub closed_so : (commands : List Command) (w : World) (channel : ℕ) (ended : Option ℕ) (rest : List Command) (s new : ServerState) (x y : Wiring) (d : Course)
       → ServerShows k s w.server w.fed_server → x ≡ wiring_of k w → CourseShows commands d (with_coming rest w) → ServerRests new
-      → ended ≡ ended_at_close s.end.serving.table.setting (deeds s.end.serving) channel
+      → ended ≡ ended_by_close s.end.serving.table.setting (deeds s.end.serving) channel
       → Settles demo_rule s.end.serving.table.setting (closed_by channel ended s.end.serving.table.entries) new.end.serving.table.entries
       → WasFed Server new.end w.fed_server → ServerMoves s x new y
       → ServerTurns k commands w (starting (Close channel) rest) new y (record d { under = Some (Closing channel ended) })
   closed_so commands w channel ended rest s new x y d shows wires course rests counted settles fed moves =
-      let counts : ended ≡ ended_by_close k w channel = counted ∙ ended_is w channel s shows in
+      let counts : ended ≡ ended_by_close k.server (server_deeds k w) channel = counted ∙ ended_is w channel s shows in
       let v : World = with_command w rest (starts k w (Close channel)) in
       let after : List Entry = new.end.serving.table.entries in
       let now : ServerShows k new after w.fed_server = moved_on s new x y w.server w.fed_server w.fed_server shows moves rests.items fed in

@@ -29,7 +29,7 @@ use Rattle.rpc_schedule.specs.Schedule.{flush_seat, run_seat}
 use Rattle.link_laws.specs.declared.world.limits.TheConstants.{MAX_DELIVERIES}
 use Rattle.link_laws.specs.world.Client.{ClientSettles}
 use Rattle.link_laws.specs.world.Lines.{command_ended, finished, is_still, line_of, plain_line, with_line, with_released}
-use Rattle.link_laws.specs.world.Turns.{Asks, Cancels, ClientHears, Closes, Kind, ServerHears, Starts, TimePasses, Turn, TurnOf, cancelling, closed_by, ended_under, ending, kind_by, later, next_kind, starting, timing, to_client, to_server, under_with, with_command, with_frame_at_client, with_frame_at_server, with_task}
+use Rattle.link_laws.specs.world.Turns.{Asks, Cancels, ClientHears, Closes, Kind, ServerHears, StartTurn, TimePasses, Turn, TurnOf, cancelling, closed_by, ended_under, ending, kind_by, later, next_kind, starting, timing, to_client, to_server, under_with, with_command, with_frame_at_client, with_frame_at_server, with_task}
 use Rattle.link_laws.specs.world.Starts.{starts}
 use Rattle.link_laws.specs.world.World.{Plain, Setup, Tasked, Under, World, calling, client_deeds, closing, lacking, moment, transferring, with_client, with_server}
 use Rattle.link_laws.proofs.one_run.Growing.{begins, client_settles_goes, server_takes_goes, settles_goes}
@@ -221,7 +221,7 @@ module _ (k : Setup) where
         let delivered : now.delivered ≡ w.delivered + 1 = l.delivered in
         let coming : length now.coming ≡ length w.coming = ap length l.coming in
         let under : under_size now.under ≤ under_size w.under = l.under in
-        let server = server_longer t.after (begins w.server t.packets t.after (server_takes_goes k.rule k.server t.packets w.server t.after t.takes)) l.server in
+        let server = server_longer t.after (begins w.server t.hears.packets t.after (server_takes_goes k.rule k.server t.hears.packets w.server t.after t.hears.takes)) l.server in
         let times : now.times ≡ w.times = l.times in
         record {
           smaller = omega (arith, delivered, coming, under, server, room);
@@ -285,7 +285,7 @@ module _ (k : Setup) where
           timed = λ before. omega (arith, before, times, delivered, coming, came, under, few, server, first, more);
         }
 
-    start_smaller : (command : Command) (rest : List Command) → w.coming ≡ command ∷ rest → Starts k w command rest now → IsLess w now
+    start_smaller : (command : Command) (rest : List Command) → w.coming ≡ command ∷ rest → StartTurn k w command rest now → IsLess w now
     start_smaller (Close channel) rest is t = close_smaller channel rest is t
     start_smaller (Read resource offset) rest is t = asks_smaller (Read resource offset) rest is t
     start_smaller (Write resource offset) rest is t = asks_smaller (Write resource offset) rest is t

@@ -13,8 +13,9 @@ use Rattle.link_laws.specs.declared.world.limits.TheConstants.{MAX_DELIVERIES, T
 use Rattle.link_laws.specs.world.Client.{ClientSettles}
 use Rattle.link_laws.specs.world.Limits.{AskingStops, ClientHearingStops, ClientStops, ClientTakingStops, ClosingStops, EndStops, IsPastJournal, ServerHearingStops, ServerStops, ServerStopsWith, ServerTakingStops, StartStops, StopsIn, TimeStops}
 use Rattle.link_laws.specs.world.Setup.{client_setting}
-use Rattle.link_laws.specs.world.Turns.{Kind, cancelling, closed_by, ending, later, next_kind}
-use Rattle.link_laws.specs.world.World.{Setup, World}
+use Rattle.link_laws.specs.world.Starts.{ended_by_close}
+use Rattle.link_laws.specs.world.Turns.{Kind, cancelling, closed_by, ending, later, next_kind, task_of}
+use Rattle.link_laws.specs.world.World.{Setup, World, moment}
 use Rattle.link_world.specs.declared.client.under.Under.{Under}
 use Rattle.link_world.specs.client.Asking.{IsAsked}
 use Rattle.link_world.specs.client.ClientSide as client
@@ -23,7 +24,7 @@ use Rattle.link_world.specs.client.Underway.{task_seen}
 use Rattle.link_world.specs.declared.server.stopped.Stopped.{Stopped}
 use Rattle.link_world.specs.declared.server.stopped.Stopped.TheVariants as stopped
 use Rattle.link_world.specs.server.ServerSide as server
-use Rattle.link_world.specs.server.ServerSide.{ServerState, ended_at_close}
+use Rattle.link_world.specs.server.ServerSide.{ServerState}
 use Rattle.link_world.specs.server.Wiring.{Wiring}
 use Rattle.link_world.specs.declared.course.Course.{Course}
 use Rattle.link_world.specs.declared.outcome.WorldRefused.{WorldRefused}
@@ -58,7 +59,7 @@ module _ (k : Setup) where
 
   -- THE SERVER, AT A FRAME
   pub up_stops : (w : World) (frame : List ℕ) (s : ServerState) → ServerShows k s w.server w.fed_server
-      → server.ServerHearingStops demo_rule s.end.serving w.fed_server frame → ServerHearingStops k w frame
+      → server.ServerStopsHearing demo_rule s.end.serving w.fed_server frame → ServerHearingStops k.rule k.server w.server w.fed_server frame
   up_stops w frame s shows stops = record {
     packets = stops.packets;
     heard = stops.heard;
@@ -67,7 +68,7 @@ module _ (k : Setup) where
 
   -- THE CLIENT, AT A FRAME
   pub down_stops : (commands : List Command) (w : World) (frame : List ℕ) (c : ClientState) (d : Course) → ClientShows k c w.client w.fed_client → CourseShows commands d w
-      → client.ClientHearingStops (TURN_OF_TIME * d.times) c.end.serving d.under w.fed_client frame → ClientHearingStops k w frame
+      → client.ClientStopsHearing (TURN_OF_TIME * d.times) c.end.serving d.under w.fed_client frame → ClientHearingStops k.client (moment w) w.client (task_of w) w.fed_client frame
   down_stops commands w frame c d shows course stops = record {
     packets = stops.packets;
     heard = stops.heard;
@@ -78,11 +79,11 @@ module _ (k : Setup) where
   pub close_stops : (w : World) (channel : ℕ) (s : ServerState) → ServerShows k s w.server w.fed_server
       → (is_full s.end.serving.table.entries ≡ true)
       ⊎ ServerStops demo_rule s.end.serving.table.setting
-      (closed_by channel (ended_at_close s.end.serving.table.setting (deeds s.end.serving) channel) s.end.serving.table.entries)
+      (closed_by channel (ended_by_close s.end.serving.table.setting (deeds s.end.serving) channel) s.end.serving.table.entries)
       → ClosingStops k w channel
   close_stops w channel s shows (inl full) = inl (subst (λ h. is_full h ≡ true) shows.entries full)
   close_stops w channel s shows (inr stops) =
-      let ended : Option ℕ = ended_at_close s.end.serving.table.setting (deeds s.end.serving) channel in
+      let ended : Option ℕ = ended_by_close s.end.serving.table.setting (deeds s.end.serving) channel in
       inr (subst (λ count. ServerStops k.rule k.server (closed_by channel count w.server)) (ended_is k w channel s shows)
       (ruled k (λ rule set h. ServerStops rule set (closed_by channel ended h)) s w.server w.fed_server shows stops))
 

@@ -8,8 +8,8 @@ use Rattle.link_world.specs.client.ClientSide.{ClientState}
 use Rattle.link_world.specs.server.ServerSide.{ServerState}
 use Rattle.link_world.specs.server.Wiring.{Wiring}
 use Rattle.link_world.specs.declared.course.Course.{Course}
-use Rattle.link_world.specs.declared.turn.Turn.{Turn}
-use Rattle.link_world.specs.declared.turn.Turn.TheVariants.{ToServer, ToClient, Start, Cancel, Time}
+use Rattle.link_world.specs.declared.turn.NextTurn.{NextTurn}
+use Rattle.link_world.specs.declared.turn.NextTurn.TheVariants.{ToServer, ToClient, Start, Cancel, Time}
 use Rattle.link_world.specs.Showing.{ClientShows, CourseShows, ServerShows, wiring_of}
 
 -- a frame was taken off the link, and these are left on it
@@ -24,7 +24,7 @@ abbrev pub with_coming : List Command → World → World
 with_coming rest w = record w { coming = rest }
 
 -- this turn comes next, and the link is so then
-abbrev pub TakesTurn : Setup → World → Wiring → Turn → Type 0
+abbrev pub TakesTurn : Setup → World → Wiring → NextTurn → Type 0
 TakesTurn k w x (ToServer frame) = (rest : List (List ℕ)) × (next_kind w ≡ to_server frame rest) × (x ≡ wiring_of k (with_rest_up rest w))
 TakesTurn k w x (ToClient frame) = (rest : List (List ℕ)) × (next_kind w ≡ to_client frame rest) × (x ≡ wiring_of k (with_rest_down rest w))
 TakesTurn k w x (Start command) = (rest : List Command) × (next_kind w ≡ starting command.now rest) × (x ≡ wiring_of k w)

@@ -11,6 +11,7 @@ use Rattle.link_laws.specs.plain_calls.Ended.{EndsOkay, HasEnded}
 use Rattle.link_laws.specs.dropped_transfer.Dropped.{DropsFew}
 use Rattle.link_laws.specs.one_run.InOrder.{HasAllArrived}
 use Rattle.link_laws.specs.lossless_scripts.Lossless.{EndsAs, chunks_of}
+use Rattle.link_laws.specs.lossless_scripts.Scripts.{BeginsFewWrites}
 use Rattle.link_laws.specs.okay_means_bytes.Okay.{LinesHoldFrom, Throughout}
 use Rattle.link_world.specs.declared.outcome.Outcome.{Outcome}
 
@@ -47,19 +48,19 @@ SoundLinesHold k commands now = (run : Turned k commands now) → Throughout k c
 abbrev pub RunIsSound : Setup → List Command → World → Type 0
 RunIsSound k commands now = IsSound k now
 
--- WHERE NOTHING IS LOST ALL ENDS WELL: each command has come to its line, and each transfer whose resource is there to a line with
--- OK, with no more chunks than its bound
+-- WHERE NOTHING IS LOST ALL ENDS WELL: where the run has begun no more writes than a call may have sessions, each command has come to
+-- its line, and each transfer whose resource is there to a line with OK, with no more chunks than its bound
 abbrev pub AllEndWell : Setup → List Command → World → Type 0
 AllEndWell k commands now =
-    (number : ℕ) (command : Command) → slice_get commands number ≡ Some command → HasEnded k commands now number command (λ start told. EndsAs k start command told (chunks_of (start.sessions + 1) now))
+    BeginsFewWrites commands now → (number : ℕ) (command : Command) → slice_get commands number ≡ Some command → HasEnded k commands now number command (λ start told. EndsAs k start command told (chunks_of (start.sessions + 1) now))
 
 -- AND ALL ARRIVES: what has arrived at each end are the packets that the other end flushed, in order
 abbrev pub AllArrive : Setup → List Command → World → Type 0
 AllArrive k commands now = HasAllArrived k now
 
--- WITH THREE LOST CHUNKS ALL STILL ENDS WELL: where the script has at most three losses, all of them drops, and each frame that is
--- dropped carries a chunk and none the START_ACK_CONFIRMATION of a read, each command has come to its line, and each transfer whose
--- resource is there to a line with OK
+-- WITH THREE LOST CHUNKS ALL STILL ENDS WELL: where the run has begun no more writes, and where the script has at most three losses,
+-- all of them drops, and each frame that is dropped carries a chunk and none the START_ACK_CONFIRMATION of a read, each command has
+-- come to its line, and each transfer whose resource is there to a line with OK
 abbrev pub LossesEndWell : Setup → List Command → World → Type 0
 LossesEndWell k commands now =
-    DropsFew k now → (number : ℕ) (command : Command) → slice_get commands number ≡ Some command → HasEnded k commands now number command (λ start told. EndsOkay k start command told)
+    BeginsFewWrites commands now → DropsFew k now → (number : ℕ) (command : Command) → slice_get commands number ≡ Some command → HasEnded k commands now number command (λ start told. EndsOkay k start command told)

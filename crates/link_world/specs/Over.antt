@@ -26,7 +26,7 @@ pub record Tells (s : ServerState) (c : ClientState) (x : Wiring) (d : Course) (
   pub client_store : outcome.client_store.stored ≡ c.stored
 
 -- where the end comes next, it leads to a world of which this is told
-pub record EndsAs (k : Setup) (w : World) (outcome : Outcome) : Type 0 where
+pub record LeadsToEnd (k : Setup) (w : World) (outcome : Outcome) : Type 0 where
   pub now : World
   pub ends : next_kind w ≡ ending → Ends k w now
   pub report : outcome.report ≡ report_of k now

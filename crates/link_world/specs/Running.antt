@@ -6,25 +6,25 @@ use Rattle.rpc_journal.specs.Refusals.{is_full}
 use Rattle.transfer_base.specs.declared.tuning.Tuning.{Tuning}
 use Rattle.link_laws.specs.declared.world.limits.TheConstants.{MAX_DELIVERIES}
 use Rattle.link_laws.specs.world.Setup.{client_setting}
-use Rattle.link_laws.specs.world.Turns.{Turn as Follows, Turns, ending, next_kind, timing}
+use Rattle.link_laws.specs.world.Turns.{Turn, Turns, ending, next_kind, timing}
 use Rattle.link_laws.specs.world.World.{Setup, World, first_world}
 use Rattle.link_world.specs.client.ClientSide.{ClientState}
 use Rattle.link_world.specs.server.ServerSide.{ServerState}
 use Rattle.link_world.specs.server.Wiring.{Wiring}
 use Rattle.link_world.specs.declared.course.Course.{Course}
-use Rattle.link_world.specs.declared.turn.Turn.{Turn}
-use Rattle.link_world.specs.declared.turn.Turn.TheVariants.{Time}
+use Rattle.link_world.specs.declared.turn.NextTurn.{NextTurn}
+use Rattle.link_world.specs.declared.turn.NextTurn.TheVariants.{Time}
 use Rattle.link_world.specs.Showing.{Shows}
 
 -- in a turn of time the server's journal had room for its moment
-abbrev pub IsTimed : Turn → ServerState → Type 0
+abbrev pub IsTimed : NextTurn → ServerState → Type 0
 IsTimed Time s = is_full s.end.serving.table.entries ≡ false
 IsTimed _ s = Unit {0}
 
 -- the next turn leads to a world that all of this shows; in a turn of time the server's journal had room
-pub record MakesTurn (k : Setup) (commands : List Command) (w : World) (s : ServerState) (c : ClientState) (x : Wiring) (d : Course) : Type 0 where
+pub record ShowsTurn (k : Setup) (commands : List Command) (w : World) (s : ServerState) (c : ClientState) (x : Wiring) (d : Course) : Type 0 where
   pub now : World
-  pub turn : Follows k w now
+  pub turn : Turn k w now
   pub shows : Shows k commands s c x d now
   pub timed : next_kind w ≡ timing → is_full w.server ≡ false
 

@@ -22,8 +22,8 @@ use Rattle.link_world.specs.client.Underway.{under_seen}
 use Rattle.link_world.specs.server.ServerSide.{ServerRests, ServerState}
 use Rattle.link_world.specs.server.Wiring.{Wiring}
 use Rattle.link_world.specs.declared.course.Course.{Course}
-use Rattle.link_world.specs.declared.turn.Turn.{Turn}
-use Rattle.link_world.specs.declared.turn.Turn.TheVariants.{Start, Cancel}
+use Rattle.link_world.specs.declared.turn.NextTurn.{NextTurn}
+use Rattle.link_world.specs.declared.turn.NextTurn.TheVariants.{Start, Cancel}
 
 -- both directions of a world's link, and its numbers
 abbrev pub wiring_of : Setup → World → Wiring
@@ -83,7 +83,7 @@ pub record Stands (s : ServerState) (c : ClientState) (d : Course) : Type 0 wher
   pub times : d.times ≤ MAX_ENTRIES
 
 -- a turn that may be made then
-abbrev pub CanTurn : ClientState → Course → Turn → Type 0
+abbrev pub CanTurn : ClientState → Course → NextTurn → Type 0
 CanTurn c d (Start command) = IsCommand command.now × (d.started + 1 < 2 ^ 64)
 CanTurn c d (Cancel call) = (call < call_count (deeds c.end.serving)) × (end_of (deeds c.end.serving) call ≡ None)
 CanTurn c d _ = Unit {0}
@@ -93,7 +93,7 @@ IsCalling (Some (Calling plain c)) call = c ≡ call
 IsCalling _ call = ⊥
 
 -- a turn of these commands that comes next
-abbrev pub IsNext : List Command → Course → Turn → Type 0
+abbrev pub IsNext : List Command → Course → NextTurn → Type 0
 IsNext commands d (Start command) = (slice_get commands d.started ≡ Some command.now) × (d.started + 1 < 2 ^ 64)
 IsNext commands d (Cancel call) = IsCalling d.under call
 IsNext commands d _ = Unit {0}

@@ -4,9 +4,8 @@ ghost use Rattle.rpc_journal.specs.Calls.{end_of};
 ghost use Rattle.rpc_schedule.specs.Serving.{deeds};
 ghost use Rattle.link_world.specs.client.ClientSide.{ClientRests};
 ghost use Rattle.link_world.specs.client.Underway.{plain_of, under_of};
-ghost use Rattle.link_laws.specs.world.Lines.{is_still, length_written, line_of, plain_line};
+ghost use Rattle.link_laws.specs.world.Lines.{is_still, length_made, length_written, line_of, plain_line};
 ghost use Rattle.link_laws.specs.world.World.{Setup, World, calling, transferring};
-ghost use Rattle.link_world.specs.Ending.{length_in};
 ghost use Rattle.link_world.specs.Showing.{ClientShows, IsOpen, ServerShows};
 
 use crate::client::{ClientEnd, Plain, Speaker, Under};
@@ -63,7 +62,7 @@ fn transfer_line(speaker: &Speaker, server: &ServerEnd, client: &ClientEnd) -> O
 // The length that a transfer has made whole: at the client what was read, at the server what was written.
 fn length_of(speaker: &Speaker, server: &ServerEnd, client: &ClientEnd) -> u64
     ensures { (k : Setup) (w : World) → ServerShows k server.now w.server w.fed_server → ClientShows k client.now w.client w.fed_client
-        → result ≡ length_in k w speaker.now.task }
+        → result ≡ length_made k w speaker.now.task speaker.now.task.transfer }
 {
     if speaker.reads() {
         client.length_read(speaker.session(), speaker.call())

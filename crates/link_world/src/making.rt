@@ -6,7 +6,7 @@ ghost use Rattle.link_laws.specs.world.Limits.{StopsIn};
 ghost use Rattle.link_laws.specs.world.Turns.{next_kind};
 ghost use Rattle.link_laws.specs.world.World.{Setup, World};
 ghost use Rattle.link_world.specs.Making.{TakesTurn, WorldTurns};
-ghost use Rattle.link_world.specs.Running.{IsTimed, MakesTurn};
+ghost use Rattle.link_world.specs.Running.{IsTimed, ShowsTurn};
 ghost use Rattle.link_world.specs.Showing.{CanTurn, ClientShows, CourseShows, IsOpen, IsTuned, ServerShows, Stands};
 
 use crate::client::ClientEnd;
@@ -14,13 +14,13 @@ use crate::course::Course;
 use crate::ending::finish;
 use crate::server::{ServerEnd, Stopped, Wires};
 use crate::starting::start;
-use crate::turn::Turn;
+use crate::turn::NextTurn;
 use crate::turns::{cancel, deliver_to_client, deliver_to_server, pass_time};
 use transfer_base::Tuning;
 
 /// Makes a turn, with its end.
 pub(crate) fn make_turn(
-    turn: Turn<'_>,
+    turn: NextTurn<'_>,
     tuning: Tuning,
     server: &mut ServerEnd,
     client: &mut ClientEnd,
@@ -35,7 +35,7 @@ pub(crate) fn make_turn(
     ensures open { OnOk result (IsOpen client.new course.new.under) }
     ensures turn { OnOk result ((k : Setup) (commands : List Command) (w : World) → ServerShows k server.old w.server w.fed_server
         → ClientShows k client.old w.client w.fed_client → CourseShows commands course.old w → IsTuned k tuning → TakesTurn k w wires.old turn.entry
-        → MakesTurn k commands w server.new client.new wires.new course.new) }
+        → ShowsTurn k commands w server.new client.new wires.new course.new) }
     ensures journal { result ≡ Err Stopped.Journal → (k : Setup) (commands : List Command) (w : World) → ServerShows k server.old w.server w.fed_server
         → ClientShows k client.old w.client w.fed_client → CourseShows commands course.old w → IsTuned k tuning → TakesTurn k w wires.old turn.entry
         → StopsIn k w (next_kind w) }
@@ -47,7 +47,7 @@ pub(crate) fn make_turn(
 
 // Makes a turn up to its end.
 fn act(
-    turn: Turn<'_>,
+    turn: NextTurn<'_>,
     tuning: Tuning,
     server: &mut ServerEnd,
     client: &mut ClientEnd,
@@ -68,10 +68,10 @@ fn act(
     ensures room { OnOk result (IsTimed turn.entry server.old) }
 {
     match turn {
-        Turn::ToServer(frame) => deliver_to_server(frame.as_slice(), server, wires, course),
-        Turn::ToClient(frame) => deliver_to_client(frame.as_slice(), client, wires, course),
-        Turn::Start(command) => start(command, tuning, server, client, wires, course),
-        Turn::Cancel(call) => cancel(call, client, wires, course),
-        Turn::Time => pass_time(server, client, wires, course),
+        NextTurn::ToServer(frame) => deliver_to_server(frame.as_slice(), server, wires, course),
+        NextTurn::ToClient(frame) => deliver_to_client(frame.as_slice(), client, wires, course),
+        NextTurn::Start(command) => start(command, tuning, server, client, wires, course),
+        NextTurn::Cancel(call) => cancel(call, client, wires, course),
+        NextTurn::Time => pass_time(server, client, wires, course),
     }
 }

@@ -6,7 +6,7 @@ ghost use Rattle.rpc_journal.specs.Lawful.{IsLegal};
 ghost use Rattle.link_laws.specs.world.Limits.{EndStops};
 ghost use Rattle.link_laws.specs.world.Setup.{quiet_rule};
 ghost use Rattle.link_laws.specs.world.World.{Setup, World};
-ghost use Rattle.link_world.specs.Over.{EndsAs, Tells};
+ghost use Rattle.link_world.specs.Over.{LeadsToEnd, Tells};
 ghost use Rattle.link_world.specs.Showing.{Shows, Stands};
 
 use crate::client::ClientEnd;
@@ -26,7 +26,7 @@ pub(crate) fn end(
     course: Course,
 ) -> Result<Outcome, WorldRefused>
     requires { Stands server client course }
-    ensures ends { IfOk result (λ outcome. (k : Setup) (commands : List Command) (w : World) → Shows k commands server client wires course w → EndsAs k w outcome) }
+    ensures ends { IfOk result (λ outcome. (k : Setup) (commands : List Command) (w : World) → Shows k commands server client wires course w → LeadsToEnd k w outcome) }
     ensures frames { result ≡ Err WorldRefused.Frames → ⊥ }
     ensures journal { result ≡ Err WorldRefused.Journal → (k : Setup) (commands : List Command) (w : World) → Shows k commands server client wires course w → EndStops k w }
     ensures server { IfOk result (λ outcome. IsLegal demo_rule server.end.serving.table.setting outcome.server.entries) }

@@ -14,7 +14,7 @@ use link_script::Command;
 
 /// A turn that isn't the end.
 #[derive(Drop)]
-pub(crate) enum Turn<'a> {
+pub(crate) enum NextTurn<'a> {
     /// This frame is delivered to the server.
     ToServer(Bytes),
     /// This frame is delivered to the client.
@@ -32,7 +32,7 @@ pub(crate) fn next_turn<'a>(
     commands: &'a [Command],
     course: &Course,
     wires: &mut Wires,
-) -> Option<Turn<'a>>
+) -> Option<NextTurn<'a>>
     ensures turn { IfSome result (λ turn. (k : Setup) (w : World) → wires.old ≡ wiring_of k w → CourseShows commands.now course.now w
         → TakesTurn k w wires.new turn) }
     ensures next { IfSome result (IsNext commands.now course.now) }
@@ -40,15 +40,17 @@ pub(crate) fn next_turn<'a>(
         → (next_kind w ≡ ending) × (wires.new ≡ wiring_of k w)) }
 {
     if let Some(frame) = wires.take_for_server() {
-        return Some(Turn::ToServer(frame));
+        return Some(NextTurn::ToServer(frame));
     }
     if let Some(frame) = wires.take_for_client() {
-        return Some(Turn::ToClient(frame));
+        return Some(NextTurn::ToClient(frame));
     }
     match &course.under {
-        Some(Under::Calling(_, call)) => Some(Turn::Cancel(*call)),
-        Some(Under::Transferring(_) | Under::Lacking(_) | Under::Closing(_, _)) => Some(Turn::Time),
-        None => Some(Turn::Start(command_at(commands, course.started)?)),
+        Some(Under::Calling(_, call)) => Some(NextTurn::Cancel(*call)),
+        Some(Under::Transferring(_) | Under::Lacking(_) | Under::Closing(_, _)) => Some(
+            NextTurn::Time,
+        ),
+        None => Some(NextTurn::Start(command_at(commands, course.started)?)),
     }
 }
 

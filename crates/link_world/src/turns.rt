@@ -19,7 +19,7 @@ use crate::course::Course;
 use crate::server::{ServerEnd, Stopped, Wires};
 use link_laws::world::TURN_OF_TIME;
 
-/// The moment behind so many turns of time, in milliseconds.
+/// The moment after so many turns of time, in milliseconds.
 pub(crate) fn moment(times: u64) -> u64
     requires { times ≤ MAX_ENTRIES + 1 }
     ensures { result ≡ TURN_OF_TIME * times }

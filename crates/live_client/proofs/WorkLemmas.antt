@@ -100,7 +100,7 @@ causes_on r test wants f0 f g0 g p q adds causes = record {
 rose_on : (f0 f f' : ℕ) → f ≤ f' → Rose f0 f → Rose f0 f'
 rose_on f0 f f' later rose = omega (arith, later, rose)
 
-rose_from : (f0 f f' : ℕ) → f0 ≤ f → Rose f f' → Rose f0 f'
+pub rose_from : (f0 f f' : ℕ) → f0 ≤ f → Rose f f' → Rose f0 f'
 rose_from f0 f f' later rose = omega (arith, later, rose)
 
 pub causes_flush : (f0 f f' g0 g g' : ℕ) (p q : Seat) → HasCauses f0 f g0 g p → (f ≤ f') × (g ≤ g')
@@ -268,6 +268,25 @@ module _ (watches : Bool) (opening : EntryKind) (r : Lock) (c : ℕ) (w0 : Optio
     written = subst (Appends w0 w) (sym (append-nil (wire made.first))) made.written;
     stored = made.stored;
     causes = causes;
+  }
+
+  -- the output is told that nothing more comes, where the driver has stopped
+  pub worked_kept : (dids : Bool → Did) (w w' : Option (List ℕ)) (d : Option Stored) (f f' g : ℕ) (p : Seat) → Keeps w w' → f ≤ f' → HasWorked watches opening dids r c w0 w d0 d f0 f g0 g p
+      → HasWorked watches opening dids r c w0 w' d0 d f0 f' g0 g p
+  worked_kept dids w w' d f f' g p kept later so = record {
+    items = so.items;
+    next = so.next;
+    first = so.first;
+    part = so.part;
+    all = so.all;
+    finished = so.finished;
+    talks = so.talks;
+    which = so.which;
+    one = so.one;
+    begun = so.begun;
+    written = Appends-kept w0 w w' _ so.written kept;
+    stored = so.stored;
+    causes = causes_flush f0 f f' g0 g g p p so.causes (later, omega arith) (λ halts. inl halts) (λ halts. inl halts);
   }
 
 -- ---- nothing is left to flush

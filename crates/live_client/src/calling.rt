@@ -1,10 +1,11 @@
 //! A live client, from what it is asked to what it did.
-ghost use Rattle.std.specs.Prelude.{◌≡◌, ◌⊎◌, ◌<◌, ◌≤◌, false, length, is_some, true, IfOk, OnErr};
+ghost use Rattle.std.specs.Prelude.{◌≡◌, ◌⊎◌, ◌<◌, ◌≤◌, false, length, is_some, true, IfOk, OnErr, OnOk};
 ghost use Rattle.std.specs.Io.KnownBytes.{IsAtEnd};
 ghost use Rattle.link_io.specs.Causes.{Rose};
 ghost use Rattle.link_io.specs.declared.why.Why.TheVariants.{Settled, Source as Read, Sink as Link, Store as Depot, InputLimit, JournalLimit};
 ghost use Rattle.rpc_journal.specs.declared.entry.TheConstants.{MAX_ENTRIES};
 ghost use Rattle.rpc_schedule.specs.declared.stream.TheConstants.{INPUT_LIMIT};
+ghost use Rattle.rpc_shared.specs.session.Leaving.{HangsUp};
 ghost use Rattle.rpc_shared.specs.session.Sessions.{is_halted};
 ghost use Rattle.live_client.specs.Ask.{CanAsk, live_setting};
 ghost use Rattle.live_client.specs.Live.{AskRan, Begins, Explains, IsLiveHistory};
@@ -21,7 +22,8 @@ use std::thread::Threads;
 /// in a thread of its own feeds the input; the caller's thread drives the call and writes. Once the task has ended and all is
 /// written, the sink is told that nothing more comes; the client ends with its input. Where the reader's thread can't be made the
 /// table is halted for want of memory. A fault of the source and the limit of 67,108,864 bytes end the input, and the call still
-/// ends; a fault of the sink or the store, a full journal and want of memory halt the table.
+/// ends; a fault of the sink or the store, a full journal and want of memory halt the table. A client that is halted tells its sink
+/// at once that nothing more comes, so that the other end meets the end of its input and closes.
 ///
 /// # Errors
 ///
@@ -50,6 +52,7 @@ pub fn live<
     ensures ran { IfOk result (λ l. AskRan ask (C.last clock.old) (C.last clock.new) l) }
     ensures ended { IfOk result (λ l. is_halted live_setting l.journal.entries ≡ false → is_some l.ended ≡ true) }
     ensures finished { IfOk result (λ l. is_halted live_setting l.journal.entries ≡ false → O.finished link_out.new ≡ true) }
+    ensures hangs_up { OnOk result (HangsUp (O.finished link_out.new) (O.faults link_out.old) (O.faults link_out.new)) }
     ensures at_end { IfOk result (λ l. l.why ≡ Settled → IsAtEnd (I.left link_in.new)) }
     ensures at_limit { IfOk result (λ l. l.why ≡ InputLimit → l.read ≡ INPUT_LIMIT) }
     ensures below { IfOk result (λ l. (l.why ≡ Settled) ⊎ (l.why ≡ Read) → l.read < INPUT_LIMIT) }

@@ -11,6 +11,7 @@ ghost use Rattle.rpc_journal.specs.History.{history};
 ghost use Rattle.rpc_journal.specs.Quiet.{is_settled};
 ghost use Rattle.rpc_shared.specs.session.Crew.{Adds};
 ghost use Rattle.task_core.specs.bells.Bells.{Tower};
+ghost use Rattle.rpc_shared.specs.session.Leaving.{HangsUp};
 ghost use Rattle.rpc_shared.specs.session.Ring.{HaltsFor};
 ghost use Rattle.rpc_shared.specs.session.Sessions.{is_halted};
 ghost use Rattle.live_client.specs.Driving.{Calm, CanDrive, Drove, HasWorked, Rests, Talks, Works, is_flushing, is_running, is_saying, is_talking};
@@ -23,6 +24,7 @@ use crate::signal::ROUND;
 use crate::wakes::Wakes;
 use crate::writing::flush_one;
 use link_io::{Clock, Sink, Store, Why};
+use rpc_shared::session::hanging_up::hang_up;
 use std::alloc::Global;
 use std::sync::Wait;
 use task_core::bells::Bells;
@@ -288,6 +290,7 @@ fn end_output<O: Sink, R: Wait>(
     ensures kept { OnOk result (pass.new ≡ pass.old) }
     ensures bytes { Keeps (O.written output.old) (O.written output.new) }
     ensures finished { OnOk result (O.finished output.new ≡ true) }
+    ensures failed { OnErr result (Rose (O.faults output.old) (O.faults output.new)) }
     ensures sink { HaltsFor Link pass.new.view.known.mine → HaltsFor Link pass.old.view.known.mine ⊎ Rose (O.faults output.old) (O.faults output.new) }
     ensures store { HaltsFor Depot pass.new.view.known.mine → HaltsFor Depot pass.old.view.known.mine }
     ensures halted { OnErr result (is_halted table.now.base pass.new.view.known.seen ≡ true) }
@@ -374,7 +377,7 @@ fn wind_up<W: Errand, O: Sink, S: Store, R: Wait>(
     ensures ready { W.ready errand.new }
     ensures origin { W.origin errand.new ≡ W.origin errand.old }
     ensures short { W.short errand.new ≡ W.short errand.old }
-    ensures finished { OnOk result (O.finished output.new ≡ true) }
+    ensures closed { O.finished output.new ≡ true }
     ensures faults { (O.faults output.old ≤ O.faults output.new) × (S.faults store.old ≤ S.faults store.new) }
 {
     for _ in rt.forever() {
@@ -402,7 +405,8 @@ fn is_done<R: Wait>(rt: &R, table: &Table, pass: &mut Seat, call: u32) -> bool
     table.look(rt, pass).settled
 }
 
-/// Drives the call until its errand has ended and the table is settled, or halted.
+/// Drives the call until its errand has ended and the table is settled, or halted. At a halt, too, the output is told that nothing
+/// more comes, so that the other end doesn't wait for it.
 pub(crate) fn drive<W: Errand, O: Sink, S: Store, C: Clock, R: Wait>(
     rt: &R,
     alloc: Global,
@@ -439,6 +443,7 @@ pub(crate) fn drive<W: Errand, O: Sink, S: Store, C: Clock, R: Wait>(
     ensures origin { W.origin errand.new ≡ W.origin errand.old }
     ensures whole { OnOk result (W.short errand.new ≡ false) }
     ensures finished { OnOk result (O.finished output.new ≡ true) }
+    ensures hangs_up { HangsUp (O.finished output.new) (O.faults output.old) (O.faults output.new) }
     ensures later { C.last clock.old ≤ C.last clock.new }
     ensures faults { (O.faults output.old ≤ O.faults output.new) × (S.faults store.old ≤ S.faults store.new) }
 {
@@ -449,7 +454,10 @@ pub(crate) fn drive<W: Errand, O: Sink, S: Store, C: Clock, R: Wait>(
             Ok(()) => wind_up(rt, alloc, table, pass, call, errand, wakes, output, store),
             Err(halted) => Err(halted),
         },
-        Err(halted) => Err(halted),
+        Err(halted) => {
+            hang_up(output);
+            Err(halted)
+        }
     }
 }
 
@@ -503,6 +511,7 @@ pub(crate) fn drive_met<W: Errand, O: Sink, S: Store, C: Clock, R: Wait>(
     ensures origin { W.origin errand.new ≡ W.origin errand.old }
     ensures whole { OnOk result (W.short errand.new ≡ false) }
     ensures finished { OnOk result (O.finished output.new ≡ true) }
+    ensures hangs_up { HangsUp (O.finished output.new) (O.faults output.old) (O.faults output.new) }
     ensures later { C.last clock.old ≤ C.last clock.new }
     ensures faults { (O.faults output.old ≤ O.faults output.new) × (S.faults store.old ≤ S.faults store.new) }
 {
@@ -512,5 +521,6 @@ pub(crate) fn drive_met<W: Errand, O: Sink, S: Store, C: Clock, R: Wait>(
         );
     }
     give_up(rt, table, pass, call);
+    hang_up(output);
     Err(Halted)
 }

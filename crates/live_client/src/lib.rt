@@ -1,5 +1,5 @@
 //! A live client: one call over a link, by a thread that reads and one that drives the call. It fetches a resource, sends one, or
-//! watches a stream. docs/LIVE.md shows a fetch. Enter at [`live`]; [`asks`] has what one call is for.
+//! watches a stream. docs/THREADS.md shows a fetch. Enter at [`live`]; [`asks`] has what one call is for.
 #![tactic(auto)]
 
 mod ask;

@@ -2,6 +2,7 @@
 ghost use Rattle.std.specs.Prelude.{◌≡◌, ℕ, ◌≤◌, Bool, List, Option, None, [], true, false, IfOk, OnErr, OnOk};
 ghost use Rattle.rpc_handlers.specs.Limits.{is_long};
 ghost use Rattle.rpc_journal.specs.Lawful.{has_zero};
+ghost use Rattle.rpc_shared.specs.session.Leaving.{HangsUp};
 ghost use Rattle.rpc_shared.specs.session.Sessions.{is_halted};
 ghost use Rattle.live_client.specs.Ask.{live_name, live_setting, opens};
 ghost use Rattle.live_client.specs.Ran.{HasRun};
@@ -73,6 +74,7 @@ pub(crate) fn run_live<
     ensures origin { OnOk result (W.origin errand.new ≡ W.origin errand.old) }
     ensures whole { IfOk result (λ run. is_halted live_setting run.journal.entries ≡ false → W.short errand.new ≡ false) }
     ensures finished { IfOk result (λ run. is_halted live_setting run.journal.entries ≡ false → O.finished link_out.new ≡ true) }
+    ensures hangs_up { OnOk result (HangsUp (O.finished link_out.new) (O.faults link_out.old) (O.faults link_out.new)) }
     ensures later { (I.faults link_in.old ≤ I.faults link_in.new) × (O.faults link_out.old ≤ O.faults link_out.new) × (S.faults store.old ≤ S.faults store.new) }
     ensures clock { C.last clock.old ≤ C.last clock.new }
     ensures untouched { OnErr result ((link_in.new ≡ link_in.old) × (link_out.new ≡ link_out.old) × (store.new ≡ store.old) × (clock.new ≡ clock.old)) }

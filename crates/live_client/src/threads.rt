@@ -8,6 +8,7 @@ ghost use Rattle.rpc_handlers.specs.HandlerRule.{empty_memo};
 ghost use Rattle.rpc_ids.specs.declared.method.Role.TheVariants.{Client};
 ghost use Rattle.rpc_journal.specs.History.{history};
 ghost use Rattle.rpc_journal.specs.Quiet.{is_settled};
+ghost use Rattle.rpc_shared.specs.session.Leaving.{HangsUp};
 ghost use Rattle.rpc_shared.specs.session.Sessions.{is_halted};
 ghost use Rattle.live_client.specs.Driving.{CanDrive, Drove};
 ghost use Rattle.live_client.specs.Feeding.{Fed, HasRead, Reader, is_readers};
@@ -77,6 +78,7 @@ pub(crate) fn run_both<
     ensures origin { W.origin errand.new ≡ W.origin errand.old }
     ensures whole { OnOk result.1 (W.short errand.new ≡ false) }
     ensures finished { OnOk result.1 (O.finished output.new ≡ true) }
+    ensures hangs_up { HangsUp (O.finished output.new) (O.faults output.old) (O.faults output.new) }
     ensures later { C.last clock.old ≤ C.last clock.new }
     ensures faults { (O.faults output.old ≤ O.faults output.new) × (S.faults store.old ≤ S.faults store.new) }
 {

@@ -1,6 +1,7 @@
 //! A transfer: a resource is fetched, or sent.
-ghost use Rattle.std.specs.Prelude.{◌≡◌, ◌≤◌, [], true, false, length, is_some, IfOk, OnErr};
+ghost use Rattle.std.specs.Prelude.{◌≡◌, ◌≤◌, [], true, false, length, is_some, IfOk, OnErr, OnOk};
 ghost use Rattle.rpc_journal.specs.Lawful.{has_zero};
+ghost use Rattle.rpc_shared.specs.session.Leaving.{HangsUp};
 ghost use Rattle.rpc_shared.specs.session.Sessions.{is_halted};
 ghost use Rattle.live_client.specs.asks.Telling.{IsAlone, Tells};
 ghost use Rattle.live_client.specs.declared.ask.LiveAsk.TheVariants.{Get, Put};
@@ -65,6 +66,7 @@ fn transfer<
     ensures ready { IfOk result (λ m. IsAlone m.errand.tasks) }
     ensures whole { IfOk result (λ m. is_halted live_setting m.run.journal.entries ≡ false → m.errand.short.value ≡ false) }
     ensures finished { IfOk result (λ m. is_halted live_setting m.run.journal.entries ≡ false → O.finished link_out.new ≡ true) }
+    ensures hangs_up { OnOk result (HangsUp (O.finished link_out.new) (O.faults link_out.old) (O.faults link_out.new)) }
     ensures first { IfOk result (λ m. m.errand.first.value ≡ task) }
     ensures later { (I.faults link_in.old ≤ I.faults link_in.new) × (O.faults link_out.old ≤ O.faults link_out.new) × (S.faults store.old ≤ S.faults store.new) }
     ensures clock { C.last clock.old ≤ C.last clock.new }
@@ -106,6 +108,7 @@ pub(crate) fn get<R: Threads + Wait + Sync, I: Source + Send, O: Sink, S: Store,
     ensures asked { IfOk result (λ l. AskRan (Get resource offset) (C.last clock.old) (C.last clock.new) l) }
     ensures ended { IfOk result (λ l. is_halted live_setting l.journal.entries ≡ false → is_some l.ended ≡ true) }
     ensures finished { IfOk result (λ l. is_halted live_setting l.journal.entries ≡ false → O.finished link_out.new ≡ true) }
+    ensures hangs_up { OnOk result (HangsUp (O.finished link_out.new) (O.faults link_out.old) (O.faults link_out.new)) }
     ensures later { (I.faults link_in.old ≤ I.faults link_in.new) × (O.faults link_out.old ≤ O.faults link_out.new) × (S.faults store.old ≤ S.faults store.new) }
     ensures clock { C.last clock.old ≤ C.last clock.new }
     ensures untouched { OnErr result ((link_in.new ≡ link_in.old) × (link_out.new ≡ link_out.old) × (store.new ≡ store.old) × (clock.new ≡ clock.old)) }
@@ -142,6 +145,7 @@ pub(crate) fn put<R: Threads + Wait + Sync, I: Source + Send, O: Sink, S: Store,
     ensures asked { IfOk result (λ l. AskRan (Put resource offset bytes) (C.last clock.old) (C.last clock.new) l) }
     ensures ended { IfOk result (λ l. is_halted live_setting l.journal.entries ≡ false → is_some l.ended ≡ true) }
     ensures finished { IfOk result (λ l. is_halted live_setting l.journal.entries ≡ false → O.finished link_out.new ≡ true) }
+    ensures hangs_up { OnOk result (HangsUp (O.finished link_out.new) (O.faults link_out.old) (O.faults link_out.new)) }
     ensures later { (I.faults link_in.old ≤ I.faults link_in.new) × (O.faults link_out.old ≤ O.faults link_out.new) × (S.faults store.old ≤ S.faults store.new) }
     ensures clock { C.last clock.old ≤ C.last clock.new }
     ensures untouched { OnErr result ((link_in.new ≡ link_in.old) × (link_out.new ≡ link_out.old) × (store.new ≡ store.old) × (clock.new ≡ clock.old)) }

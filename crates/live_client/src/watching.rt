@@ -1,5 +1,6 @@
 //! A watch of the stream of Count.
-ghost use Rattle.std.specs.Prelude.{◌≡◌, ◌<◌, ◌≤◌, [], ◌∷◌, true, false, is_some, IfOk, OnErr};
+ghost use Rattle.std.specs.Prelude.{◌≡◌, ◌<◌, ◌≤◌, [], ◌∷◌, true, false, is_some, IfOk, OnErr, OnOk};
+ghost use Rattle.rpc_shared.specs.session.Leaving.{HangsUp};
 ghost use Rattle.rpc_shared.specs.session.Sessions.{is_halted};
 ghost use Rattle.live_client.specs.declared.ask.LiveAsk.TheVariants.{Watch};
 ghost use Rattle.live_client.specs.Ask.{live_setting, opens};
@@ -34,6 +35,7 @@ pub(crate) fn watch<R: Threads + Wait + Sync, I: Source + Send, O: Sink, S: Stor
     ensures asked { IfOk result (λ l. AskRan (Watch n limit) (C.last clock.old) (C.last clock.new) l) }
     ensures ended { IfOk result (λ l. is_halted live_setting l.journal.entries ≡ false → is_some l.ended ≡ true) }
     ensures finished { IfOk result (λ l. is_halted live_setting l.journal.entries ≡ false → O.finished link_out.new ≡ true) }
+    ensures hangs_up { OnOk result (HangsUp (O.finished link_out.new) (O.faults link_out.old) (O.faults link_out.new)) }
     ensures later { (I.faults link_in.old ≤ I.faults link_in.new) × (O.faults link_out.old ≤ O.faults link_out.new) × (S.faults store.old ≤ S.faults store.new) }
     ensures clock { C.last clock.old ≤ C.last clock.new }
     ensures untouched { OnErr result ((link_in.new ≡ link_in.old) × (link_out.new ≡ link_out.old) × (store.new ≡ store.old) × (clock.new ≡ clock.old)) }

@@ -2,7 +2,7 @@
 use Rattle.std.proofs.Common.{◌≡◌, ℕ, ◌+◌, ◌*◌, ◌==◌, ◌||◌, Bool, true, false, List, ◌∷◌, ap, sym, ◌∙◌}
 use Rattle.pw_run.specs.declared.client_command.ClientCommand.TheVariants.{Get, Put, Watch}
 use Rattle.pw_run.specs.declared.command.Command.{Command}
-use Rattle.pw_run.specs.declared.command.Command.TheVariants.{Replay, Text, Load}
+use Rattle.pw_run.specs.declared.command.Command.TheVariants.{Replay, Text, Load, Dump}
 use Rattle.pw_run.specs.declared.command.Form.TheVariants.{Report, Raw, Journal}
 use Rattle.pw_run.specs.declared.text_command.TextCommand.TheVariants.{Check, Detoken, Link, Route}
 use Rattle.pw_run.specs.declared.live_command.LiveCommand.{LiveCommand}
@@ -15,9 +15,9 @@ letters : List (List ℕ) → ℕ
 letters ((a ∷ b ∷ rest) ∷ words) = 256 * a + b
 letters _ = 0
 
--- whether they are those of `replay`, `check`, `detoken`, `link`, `route` or `load`
+-- whether they are those of `replay`, `check`, `detoken`, `link`, `route`, `load` or `dump`
 begin_recorded : ℕ → Bool
-begin_recorded n = (n == 29285) || ((n == 25448) || ((n == 25701) || ((n == 27753) || ((n == 29295) || (n == 27759)))))
+begin_recorded n = (n == 29285) || ((n == 25448) || ((n == 25701) || ((n == 27753) || ((n == 29295) || ((n == 27759) || (n == 25717))))))
 
 is_recorded : List (List ℕ) → Bool
 is_recorded words = begin_recorded (letters words)
@@ -32,6 +32,7 @@ recorded_is words (Text Detoken) is = ap is_recorded is
 recorded_is words (Text Link) is = ap is_recorded is
 recorded_is words (Text Route) is = ap is_recorded is
 recorded_is words (Load calls seed) is = ap is_recorded is.0
+recorded_is words Dump is = ap is_recorded is
 
 on_threads_is : (words : List (List ℕ)) (command : LiveCommand) → IsLiveCommand words command → is_recorded words ≡ false
 unfolding letters begin_recorded is_recorded

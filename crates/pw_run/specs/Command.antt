@@ -2,7 +2,7 @@
 use Rattle.std.specs.Prelude.{◌≡◌, ℕ, ◌≤◌, ◌<◌, ◌^◌, List, [], ◌∷◌, codes}
 use Rattle.std.specs.Fmt.{decimal}
 use Rattle.pw_run.specs.declared.command.Command.{Command}
-use Rattle.pw_run.specs.declared.command.Command.TheVariants.{Replay, Text, Load}
+use Rattle.pw_run.specs.declared.command.Command.TheVariants.{Replay, Text, Load, Dump}
 use Rattle.pw_run.specs.declared.command.Form.TheVariants.{Report, Raw, Journal}
 use Rattle.pw_run.specs.declared.command.TheConstants.{MAX_LOAD}
 use Rattle.pw_run.specs.declared.text_command.TextCommand.TheVariants.{Check, Detoken, Link, Route}
@@ -18,6 +18,7 @@ IsCommand words (Text Link) = words ≡ codes "link" ∷ []
 IsCommand words (Text Route) = words ≡ codes "route" ∷ []
 IsCommand words (Load calls seed) =
     (words ≡ codes "load" ∷ decimal calls ∷ decimal seed ∷ []) × (calls ≤ MAX_LOAD) × (seed < 2 ^ 64)
+IsCommand words Dump = words ≡ codes "dump" ∷ []
 
 -- the words name no command
 abbrev pub IsNoCommand : List (List ℕ) → Type 0

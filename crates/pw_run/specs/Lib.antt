@@ -7,6 +7,7 @@ pub mod Crew
 pub mod Demo
 pub mod Detoken
 pub mod Devices
+pub mod Dump
 pub mod Link
 pub mod LinkServed
 pub mod Live

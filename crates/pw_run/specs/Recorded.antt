@@ -2,10 +2,11 @@
 use Rattle.std.specs.Prelude.{◌≡◌, ℕ, ◌≤◌, List, Option}
 use Rattle.link_io.specs.Stored.{Stored}
 use Rattle.pw_run.specs.declared.command.Command.{Command}
-use Rattle.pw_run.specs.declared.command.Command.TheVariants.{Replay, Text, Load}
+use Rattle.pw_run.specs.declared.command.Command.TheVariants.{Replay, Text, Load, Dump}
 use Rattle.pw_run.specs.declared.command.TheConstants.{MAX_LOAD}
 use Rattle.pw_run.specs.declared.outcome.Outcome.{Outcome}
 use Rattle.pw_run.specs.Outcome.{code_of}
+use Rattle.pw_run.specs.Dump.{DidDump}
 use Rattle.pw_run.specs.Load.{DidLoad}
 use Rattle.pw_run.specs.Replay.{DidReplay}
 use Rattle.pw_run.specs.Tells.{DidText}
@@ -18,6 +19,8 @@ Did (Text command) left_old left_new written_old written_new store_old store_new
     DidText command left_old left_new written_old written_new outcome
 Did (Load calls seed) left_old left_new written_old written_new store_old store_new outcome =
     DidLoad calls seed written_old written_new outcome
+Did Dump left_old left_new written_old written_new store_old store_new outcome =
+    DidDump left_old left_new written_old written_new outcome
 
 -- the exit status is that of an outcome of which this holds
 abbrev pub EndsWith : ℕ → (Outcome → Type 0) → Type 0
@@ -28,6 +31,7 @@ abbrev pub IsStoreless : Command → Type 0
 IsStoreless (Replay form) = ⊥
 IsStoreless (Text command) = Unit {0}
 IsStoreless (Load calls seed) = Unit {0}
+IsStoreless Dump = Unit {0}
 
 -- a load has at most 30,000 calls
 abbrev pub Fits : Command → Type 0

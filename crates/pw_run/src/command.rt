@@ -1,4 +1,4 @@
-//! The words behind the program's name.
+//! The words after the program's name.
 ghost use Rattle.std.specs.Prelude.{◌≡◌, [], ◌∷◌, map, string_bytes, IfSome, Some};
 ghost use Rattle.pw_run.specs.Command.{IsCommand};
 
@@ -28,6 +28,8 @@ pub enum Command {
     Text(TextCommand),
     /// A stream of so many calls, made from this number, is served.
     Load { calls: u32, seed: u64 },
+    /// What is in a recorded stream of either direction is told.
+    Dump,
 }
 
 impl Command {
@@ -55,6 +57,7 @@ fn of_one(word: &str) -> Option<Command>
         "detoken" => Some(Command::Text(TextCommand::Detoken)),
         "link" => Some(Command::Text(TextCommand::Link)),
         "route" => Some(Command::Text(TextCommand::Route)),
+        "dump" => Some(Command::Dump),
         _ => None,
     }
 }

@@ -12,6 +12,7 @@ mod command;
 mod crew;
 mod demo;
 mod detoken;
+mod dump;
 pub mod laws;
 mod link;
 mod link_served;

@@ -9,6 +9,7 @@ ghost use Rattle.pw_run.specs.Command.{IsCommand, IsNoCommand};
 ghost use Rattle.pw_run.specs.Outcome.{code_of, IsSilent};
 ghost use Rattle.pw_run.specs.Recorded.{Did, EndsWith, Fits, IsStoreless};
 
+use crate::dump::dump;
 use crate::load::load;
 use crate::replay::replay;
 use crate::telling::tell;
@@ -22,8 +23,8 @@ use std::alloc::{AllocError, Global};
 /// `replay` serves the input as a recorded stream from a client, over the resources that the store lists, and writes a
 /// report, the frames that are sent, or the journal's text; uploads end in the store. `check` judges the input as such a
 /// text; `detoken` prints the log messages in the input by the formats in front of them; `route` routes the frames in the
-/// input by the routes in front of them; `load` serves a stream of its own making, and touches no input. Up to 67,108,864
-/// bytes are read. The answer is the program's exit status, as [`Outcome::code`] tells it.
+/// input by the routes in front of them; `dump` tells what is in the input, a recorded stream of either direction; `load` serves
+/// a stream of its own making, and touches no input. Up to 67,108,864 bytes are read. The answer is the program's exit status, as [`Outcome::code`] tells it.
 pub fn run_recorded<I: Source, O: Sink, S: Store>(
     alloc: Global,
     words: &[String],
@@ -90,5 +91,6 @@ fn run<I: Source, O: Sink, S: Store>(
         Command::Replay(form) => replay(alloc, form, input, output, store),
         Command::Text(command) => tell(alloc, command, input, output),
         Command::Load { calls, seed } => load(alloc, calls, seed, output),
+        Command::Dump => dump(input, output),
     }
 }

@@ -1,5 +1,5 @@
 -- The list of the calls for which an event waits, where one comes or goes.
-use Rattle.std.proofs.Common.{◌≡◌, ◌≢◌, ◌==◌, ◌⊎◌, inl, inr, ℕ, zero, suc, ◌+◌, ◌-◌, ◌<◌, ◌≤◌, Bool, true, false, ◌&&◌, ◌||◌, List, [], ◌∷◌, length, get_or, Option, Some, None, Result, Ok, Err, OnOk, OnErr, refl, ap, sym, ◌∙◌, subst, arith}
+use Rattle.std.proofs.Common.{◌≡◌, ◌≢◌, ◌==◌, ◌⊎◌, inl, inr, ℕ, zero, suc, ◌+◌, ◌-◌, ◌<◌, ◌≤◌, Bool, true, false, not, ◌&&◌, ◌||◌, List, [], ◌∷◌, length, get_or, Option, Some, None, Result, Ok, Err, OnOk, OnErr, refl, ap, sym, ◌∙◌, subst, arith}
 use Rattle.std.specs.List.{Contains, insert, remove}
 use Rattle.std.specs.Prelude.{nat_lt, nat_le}
 use Rattle.std.proofs.lemmas.Bool.{true≢false, and_parts, eqb-true, eqb-false, eq-eqb, ltb-true, ltb-false, lt-ltb, le-ltb, leb-true, leb-false, le-leb}
@@ -9,7 +9,7 @@ use Rattle.std.proofs.lemmas.List.Elements.{Contains-append_cases, Contains-appe
 use Rattle.std.proofs.lemmas.List.Sorted.{IsPermutation-insert, IsPermutation-remove, Contains-permutation}
 use Rattle.rpc_journal.proofs.PlaceLemmas.{below_or_not}
 use Rattle.rpc_calls.specs.declared.waiting_calls.WaitingCall.{WaitingCall}
-use Rattle.rpc_calls.specs.Listed.{FirstOfCall, Goes, InOrder, PlaceInOrder, Precedes, Relists, goes_first, waits_since}
+use Rattle.rpc_calls.specs.Listed.{Goes, InOrder, IsPlaceOf, PlaceInOrder, Precedes, Relists, goes_first, waits_since}
 
 -- a call that goes first precedes the other, and else the other precedes it
 pub first_precedes : (c p k q : ℕ) → goes_first c p k q ≡ true → Precedes c p k q
@@ -115,32 +115,72 @@ order_removed xs at order there = λ i j d le within. by i j d le (omega (arith,
     by i j d le within (inr f) (inl s) = absurd (omega (arith, le, f.0, s.0))
     by i j d le within (inr f) (inr s) = goes_as _ _ _ _ f.1 s.1 (order (i + 1) (j + 1) d (omega (arith, le)) within)
 
--- a call that stands in the list is found there
-pub found : (w : WaitingCall) (xs : List WaitingCall) → FirstOfCall w.call xs None → Contains xs w → ⊥
-found w xs none there =
-    true≢false (sym (eq-eqb (get_or xs there.0 w).call w.call (ap (λ (v : WaitingCall). v.call) there.2)) ∙ none there.0 w (omega arith) there.1)
+-- where a call of the list doesn't follow w, none before it does
+pub parted : (w : WaitingCall) (xs : List WaitingCall) → InOrder xs → (i j : ℕ) (d : WaitingCall) → i ≤ j → j < length xs
+    → not (goes_first w.call w.since (get_or xs j d).call (get_or xs j d).since) ≡ true → not (goes_first w.call w.since (get_or xs i d).call (get_or xs i d).since) ≡ true
+parted w xs order i j d le within before = at (goes_first w.call w.since (get_or xs i d).call (get_or xs i d).since) refl
+  where
+    at : (b : Bool) → goes_first w.call w.since (get_or xs i d).call (get_or xs i d).since ≡ b → not (goes_first w.call w.since (get_or xs i d).call (get_or xs i d).since) ≡ true
+    at false is = ap not is
+    at true is =
+        let x = get_or xs i d in
+        let y = get_or xs j d in
+        let later : goes_first w.call w.since y.call y.since ≡ true = precedes_first w.call w.since y.call y.since (precedes_both w.call w.since x.call x.since y.call y.since (first_precedes w.call w.since x.call x.since is) (order i j d le within)) in
+        absurd (true≢false (sym before ∙ ap not later))
+
+-- two calls that precede each other are one
+one_call : (c p k q : ℕ) → Precedes c p k q → Precedes k q c p → k ≡ c
+one_call c p k q (inl h) (inl j) = absurd (omega (arith, h, j))
+one_call c p k q (inl h) (inr j) = absurd (omega (arith, h, j.0))
+one_call c p k q (inr h) (inl j) = absurd (omega (arith, h.0, j))
+one_call c p k q (inr h) (inr j) = omega (arith, h.1, j.1)
+
+-- a call of the list stands behind all that go before it
+pub stands_behind : (w : WaitingCall) (xs : List WaitingCall) (at : ℕ) → InOrder xs → Contains xs w
+    → ((k : ℕ) (d : WaitingCall) → k < at → not (goes_first w.call w.since (get_or xs k d).call (get_or xs k d).since) ≡ true)
+    → ((k : ℕ) (d : WaitingCall) → at ≤ k → k < length xs → not (goes_first w.call w.since (get_or xs k d).call (get_or xs k d).since) ≡ false) → IsPlaceOf w xs at
+stands_behind w xs at order there before behind = by (below_or_not there.0 at)
+  where
+    its : goes_first w.call w.since (get_or xs there.0 w).call (get_or xs there.0 w).since ≡ true
+    its = ap (λ (x : WaitingCall). goes_first w.call w.since x.call x.since) there.2 ∙ precedes_first w.call w.since w.call w.since (inr (refl, omega arith))
+
+    by : (there.0 < at) ⊎ (at ≤ there.0) → IsPlaceOf w xs at
+    by (inl early) = absurd (true≢false (sym (before there.0 w early) ∙ ap not its))
+    by (inr past) =
+        let within : at < length xs = omega (arith, past, there.1) in
+        let x = get_or xs at w in
+        let after : Precedes w.call w.since x.call x.since = first_precedes w.call w.since x.call x.since (not_false _ (behind at w (omega arith) within)) in
+        let ahead : Precedes x.call x.since w.call w.since = subst (λ (y : WaitingCall). Precedes x.call x.since y.call y.since) there.2 (order at there.0 w past there.1) in
+        record { within = within; is = λ d. ap (λ (y : WaitingCall). y.call) (get_or_same d within) ∙ one_call w.call w.since x.call x.since after ahead }
+      where
+        not_false : (b : Bool) → not b ≡ false → b ≡ true
+        not_false true is = refl
+        not_false false is = absurd (true≢false is)
+
+        get_or_same : (d : WaitingCall) → at < length xs → get_or xs at d ≡ get_or xs at w
+        get_or_same d within = get_or_default xs at d w within
 
 -- it is taken out
-pub taken_out : (w : WaitingCall) (at : ℕ) (xs after : List WaitingCall) → InOrder xs → FirstOfCall w.call xs (Some at) → after ≡ remove xs at
+pub taken_out : (w : WaitingCall) (at : ℕ) (xs after : List WaitingCall) → InOrder xs → IsPlaceOf w xs at → after ≡ remove xs at
     → Relists w.call (Some w.since) None xs after
 taken_out w at xs after order hit removed = record {
   here = λ p h. absurd cc;
-  others = λ v apart there. subst (λ ys. Contains ys v) (sym removed) (left v apart (Contains-permutation xs (x ∷ remove xs at) v (IsPermutation-remove xs at x hit.0 same) there));
-  many = omega (arith, ap length removed, length-remove xs at hit.0);
-  order = subst InOrder (sym removed) (order_removed xs at order hit.0);
+  others = λ v apart there. subst (λ ys. Contains ys v) (sym removed) (left v apart (Contains-permutation xs (x ∷ remove xs at) v (IsPermutation-remove xs at x hit.within same) there));
+  many = omega (arith, ap length removed, length-remove xs at hit.within);
+  order = subst InOrder (sym removed) (order_removed xs at order hit.within);
 }
   where
     x : WaitingCall
     x = get_or xs at w
 
     same : x ≡ get_or xs at x
-    same = get_or_default xs at w x hit.0
+    same = get_or_default xs at w x hit.within
 
     left : (v : WaitingCall) → v.call ≢ w.call → Contains (x ∷ remove xs at) v → Contains (remove xs at) v
     left v apart there = by (Contains-append_cases (x ∷ []) (remove xs at) v there)
       where
         its : x.call ≡ w.call
-        its = eqb-true x.call w.call (hit.1 w)
+        its = hit.is w
 
         by : Contains (x ∷ []) v ⊎ Contains (remove xs at) v → Contains (remove xs at) v
         by (inr in_rest) = in_rest

@@ -1,6 +1,6 @@
 -- The list of the calls that don't run and for which an event waits.
-use Rattle.std.specs.Prelude.{◌≡◌, ◌≢◌, ◌==◌, ℕ, ◌+◌, ◌<◌, ◌≤◌, ◌⊎◌, Bool, true, false, ◌&&◌, ◌||◌, nat_lt, nat_le, List, length, slice_index_or, Option, Some, None, is_some, MatchOption}
-use Rattle.std.specs.List.{AllWithin, Contains, HoldsAt}
+use Rattle.std.specs.Prelude.{◌≡◌, ◌≢◌, ◌==◌, ℕ, ◌+◌, ◌<◌, ◌≤◌, ◌⊎◌, Bool, true, false, ◌&&◌, ◌||◌, nat_lt, nat_le, List, length, slice_index_or, Option, Some, None, is_some}
+use Rattle.std.specs.List.{Contains}
 use Rattle.rpc_calls.specs.declared.waiting_calls.WaitingCall.{WaitingCall}
 use Rattle.rpc_calls.specs.Marks.{one_if}
 
@@ -22,11 +22,10 @@ Goes v w = Precedes v.call v.since w.call w.since
 abbrev pub InOrder : List WaitingCall → Type 0
 InOrder xs = (i j : ℕ) (d : WaitingCall) → i ≤ j → j < length xs → Goes (slice_index_or xs i d) (slice_index_or xs j d)
 
--- the first place of the call in the list
-abbrev pub FirstOfCall : ℕ → List WaitingCall → Option ℕ → Type 0
-FirstOfCall c xs found =
-    MatchOption found (AllWithin (λ w. (w.call == c) ≡ false) xs 0 (length xs))
-    (λ at. (at < length xs) × HoldsAt (λ w. (w.call == c) ≡ true) xs at × AllWithin (λ w. (w.call == c) ≡ false) xs 0 at)
+-- the call stands at this place of the list
+pub record IsPlaceOf (w : WaitingCall) (xs : List WaitingCall) (at : ℕ) : Type 0 where
+  pub within : at < length xs
+  pub is : (d : WaitingCall) → (slice_index_or xs at d).call ≡ w.call
 
 -- the calls before this place go before c, and c goes before the others
 pub record PlaceInOrder (p c : ℕ) (xs : List WaitingCall) (at : ℕ) : Type 0 where

@@ -90,7 +90,7 @@ impl<H: Handler> Calls<H> {
     }
 
     /// The journal of all that was done. It is legal, and so is each beginning of it; each call has at most one end, and
-    /// no packet of it stands behind that.
+    /// no packet of it stands after that.
     pub fn journal(&self) -> &Journal
         ensures entries { result.now.entries ≡ self.now.entries }
         ensures legal { IsLegal H.rule self.now.setting self.now.entries }

@@ -65,7 +65,7 @@ pub fn put_at(calls: &mut Vec<CallState>, call: usize, at: u64, event: Event)
     calls[call].put(at, event);
 }
 
-/// The server ends the call: its end waits behind its other events. There is a place for it.
+/// The server ends the call: its end waits after its other events. There is a place for it.
 pub fn end_at(calls: &mut Vec<CallState>, call: usize, at: u64, status: Status)
     requires there { call < length calls.old.items }
     requires live { (r : CallState) → slice_get calls.old.items call ≡ Some r → r.status ≡ None }

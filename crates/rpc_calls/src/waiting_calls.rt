@@ -1,8 +1,8 @@
 //! The calls that don't run and for which an event waits, in the order in which they run.
-ghost use Rattle.std.specs.Prelude.{◌≡◌, ◌==◌, ◌≤◌, ◌<◌, ◌||◌, ◌&&◌, false, true, [], length, OnOk, MatchOption, nat_le, nat_lt, Some, None};
-ghost use Rattle.std.specs.List.{AllWithin, Contains, HoldsAt};
+ghost use Rattle.std.specs.Prelude.{◌≡◌, ◌==◌, ◌≤◌, ◌<◌, ◌||◌, ◌&&◌, false, true, not, [], length, OnOk, nat_le, nat_lt, Some, None};
+ghost use Rattle.std.specs.List.{Contains};
 ghost use Rattle.std.specs.VecDeque.{deque_capacity};
-ghost use Rattle.rpc_calls.specs.Listed.{CanRelist, FirstOfCall, InOrder, PlaceInOrder, Relists, goes_first as goes_before};
+ghost use Rattle.rpc_calls.specs.Listed.{CanRelist, InOrder, IsPlaceOf, PlaceInOrder, Relists, goes_first as goes_before};
 
 use std::alloc::{AllocError, Global};
 use std::collections::VecDeque;
@@ -85,9 +85,8 @@ impl WaitingCalls {
         ensures list { Relists waiting.call (Some waiting.since) None self.old.calls.items self.new.calls.items }
         ensures capacity { deque_capacity self.new.calls ≡ deque_capacity self.old.calls }
     {
-        if let Some(place) = place_of(&self.calls, waiting.call) {
-            self.calls.remove(place);
-        }
+        let place = place_of(&self.calls, waiting);
+        let _ = self.calls.remove(place);
     }
 
     // An event waits for this call now. There is a place for it.
@@ -102,11 +101,17 @@ impl WaitingCalls {
     }
 }
 
-// The first place of this call in the list.
-fn place_of(calls: &VecDeque<WaitingCall>, call: u32) -> Option<usize>
-    ensures { FirstOfCall call calls.now.items result }
+// The place of this call in the list, in which it is.
+fn place_of(calls: &VecDeque<WaitingCall>, waiting: WaitingCall) -> usize
+    requires order { InOrder calls.now.items }
+    requires there { Contains calls.now.items waiting }
+    ensures { IsPlaceOf waiting calls.now.items result }
 {
-    calls.iter().position(|waiting| waiting.call == call)
+    calls.partition_point(
+        |other: &WaitingCall| -> bool
+            ensures { result ≡ not (goes_before waiting.call waiting.since other.now.call other.now.since) }
+        { !goes_first(waiting.call, waiting.since, other.call, other.since) },
+    )
 }
 
 // The place of a call for which an event waits since this one, behind those that go first.

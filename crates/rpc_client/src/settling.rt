@@ -8,7 +8,7 @@ use crate::Client;
 use rpc_handlers::{Event, Handler};
 use rpc_journal::StartRefused;
 
-/// Works until no run is kept and no call is ready. The call and the event of each run come behind what is in the list, in
+/// Works until no run is kept and no call is ready. The call and the event of each run come after what is in the list, in
 /// the order of the runs.
 ///
 /// # Errors

@@ -29,11 +29,12 @@ use Rattle.rpc_shared.specs.Steps.{base_of, log_of}
 use Rattle.rpc_shared.specs.declared.session.item_log.ItemLog.{ItemLog}
 use Rattle.rpc_shared.specs.declared.session.parcel.Parcel.{Parcel}
 use Rattle.rpc_shared.specs.session.Crew.{AllWorked, AreWorkers, Fed, HasRead, Lock, ReaderEnded, Seat}
+use Rattle.rpc_shared.specs.session.Leaving.{LeavesLink, WriterLeaves}
 use Rattle.rpc_shared.specs.session.Reasons.{reason_of, reason_read}
 use Rattle.rpc_shared.specs.session.Ring.{HaltsFor, PumpEnded, WriterEnded}
 use Rattle.rpc_shared.specs.session.Sessions.{AreSpaced, Begins, Explains, IsSessionHistory, LeavesNoneDue, TicksBetween, is_halted, is_halting, last_from, wire}
 use Rattle.rpc_crew.proofs.PumpLemmas.{last_earlier, spaced_earlier, spaced_up}
-use Rattle.rpc_shared.proofs.session.SessionLemmas.{AllMade, Closed, all_idle_again, all_late, all_worked, few_flushed, few_made, flushed_begin, halting_reason, made_all, made_begin, pump_halted_too, reader_halted, session_arrivals, session_kinds, session_moments, settled_items, settled_whole, writer_halted_too, writers_halt}
+use Rattle.rpc_shared.proofs.session.SessionLemmas.{AllMade, Closed, all_idle_again, all_late, all_worked, few_flushed, few_made, flushed_begin, halting_reason, made_all, made_begin, pump_begins, pump_halted_too, reader_halted, session_arrivals, session_kinds, session_moments, settled_items, settled_then, settled_whole, writer_halted_too, writers_halt}
 
 -- all that the threads of a session did, once its table is closed
 pub record Whole (rule : HandlerRule) (r : Lock) (workers : ℕ) (left_old left_new w0 w : Option (List ℕ)) (d0 d : Option Stored) (l0 l : ItemLog) (listener : Listening) (counts : Counts) (ending : Option Ending) (read done : ℕ) (t : Table) (q0 q1 qw : Seat) (qs : List Seat) : Type 0 where
@@ -271,6 +272,21 @@ module _ (rule : HandlerRule) (r : Lock) (workers : ℕ) (left_old left_new w0 w
 
   pub began_before : (began end : ℕ) → last_from began (moments q1.view.known.mine) ≤ end → AreSpaced began (moments q1.view.known.mine) → began ≤ end
   began_before began end past spaced = omega (arith, past, spaced_up began (moments q1.view.known.mine) spaced)
+
+  -- ---- how it left its link
+
+  pub leaves_link : (finished : Bool) (before now : ℕ) (put got known : List Parcel) → PumpEnded rule r put q1 → got ++ known ≡ put
+      → WriterLeaves r.base qw.view.known.seen got finished before now → LeavesLink r.base t.entries finished before now
+  unfolding closed
+  leaves_link finished before now put got known pump fifo (inl kept) = record {
+    stays_open = λ _. kept.1;
+    hung_up = λ _.
+        inr (record { front = q1.view.known.seen; begins = pump_begins rule r workers q0 q1 qw qs t closed; settled = settled_then rule r put got known q1 pump fifo kept.0 });
+  }
+  leaves_link finished before now put got known pump fifo (inr hung) = record {
+    stays_open = λ calm. absurd (true≢false (sym (writer_halted_too rule r workers q0 q1 qw qs t closed hung.0) ∙ calm));
+    hung_up = λ _. inl hung.1;
+  }
 
 -- ---- from the passes that went out to those that came back
 

@@ -1,4 +1,4 @@
-//! What stands before and behind each run of a handler.
+//! What stands before and after each run of a handler.
 
 /// Is called before and after each run of a handler, by the thread that runs it, which holds no lock then. A session does the same
 /// with any gate; one may wait, to have runs in a chosen order.

@@ -1,5 +1,5 @@
 //! A session of a server over one link, by threads that share one table: a reader, workers that run handlers, a pump that takes
-//! what goes out, and a writer. docs/CREW.md shows who holds what, and how a session ends. Enter at [`session`].
+//! what goes out, and a writer. docs/THREADS.md shows who holds what, and how a session ends. Enter at [`session`].
 #![tactic(auto)]
 
 mod bell;

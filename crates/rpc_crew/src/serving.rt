@@ -6,6 +6,7 @@ ghost use Rattle.link_io.specs.declared.why.Why.TheVariants.{Settled, Source as 
 ghost use Rattle.rpc_journal.specs.declared.item.Item.{Item};
 ghost use Rattle.rpc_journal.specs.Items.{moments};
 ghost use Rattle.rpc_schedule.specs.declared.stream.TheConstants.{INPUT_LIMIT};
+ghost use Rattle.rpc_shared.specs.session.Leaving.{LeavesLink};
 ghost use Rattle.rpc_shared.specs.session.Log.{Logs};
 ghost use Rattle.rpc_shared.specs.session.Reasons.{reason_of};
 ghost use Rattle.rpc_shared.specs.session.Sessions.{Begins, Explains, IsSessionHistory, LeavesNoneDue, TicksBetween, is_halted, session_setting};
@@ -35,7 +36,8 @@ const PLACES: usize = 256;
 /// and 1 to 16 workers share one table of calls, each in a thread of its own; where one can't be made the table is halted for want
 /// of memory, with nothing read. The time is asked of the clock alone, here for the first time, and the gate stands at each run of a handler. A fault of the
 /// source and the limit of 67,108,864 bytes end the input, and the session still settles; a fault of the sink or the store, a full
-/// journal and want of memory halt it.
+/// journal and want of memory halt it. A session that is halted tells its sink that nothing more comes, so that the other end meets
+/// the end of its input; it ends once its own input has ended. One that settles leaves its sink open.
 ///
 /// # Errors
 ///
@@ -78,7 +80,7 @@ where
     ensures ticks { IfOk result (λ s. TicksBetween (C.last clock.old) (C.last clock.new) s.journal.entries) }
     ensures began { IfOk result (λ s. (C.last clock.old ≤ s.began) × (s.began ≤ C.last clock.new)) }
     ensures due { IfOk result (λ s. is_halted (session_setting channels registry (M.seed_memo maker.now)) s.journal.entries ≡ false → LeavesNoneDue s.began (C.last clock.new) (moments s.journal.entries)) }
-    ensures open { O.finished link_out.new ≡ false }
+    ensures leaves { IfOk result (λ s. LeavesLink (session_setting channels registry (M.seed_memo maker.now)) s.journal.entries (O.finished link_out.new) (O.faults link_out.old) (O.faults link_out.new)) }
     ensures later { (I.faults link_in.old ≤ I.faults link_in.new) × (O.faults link_out.old ≤ O.faults link_out.new) × (S.faults store.old ≤ S.faults store.new) }
     ensures untouched { OnErr result ((link_in.new ≡ link_in.old) × (link_out.new ≡ link_out.old) × (store.new ≡ store.old) × (clock.new ≡ clock.old)) }
 {
@@ -97,7 +99,7 @@ where
     })
 }
 
-/// [`session`] for who reports of the calls: it hands out the table, and the items that were made.
+/// Like [`session`], but gives the table of calls and the items that were sent or stored, for a report.
 ///
 /// # Errors
 ///
@@ -141,7 +143,7 @@ where
     ensures began { IfOk result (λ s. (C.last clock.old ≤ s.began) × (s.began ≤ C.last clock.new)) }
     ensures due { IfOk result (λ s. is_halted (session_setting channels registry (M.seed_memo maker.now)) s.calls.entries ≡ false → LeavesNoneDue s.began (C.last clock.new) (moments s.calls.entries)) }
     ensures setting { IfOk result (λ s. s.calls.setting ≡ (session_setting channels registry (M.seed_memo maker.now))) }
-    ensures open { O.finished link_out.new ≡ false }
+    ensures leaves { IfOk result (λ s. LeavesLink (session_setting channels registry (M.seed_memo maker.now)) s.calls.entries (O.finished link_out.new) (O.faults link_out.old) (O.faults link_out.new)) }
     ensures later { (I.faults link_in.old ≤ I.faults link_in.new) × (O.faults link_out.old ≤ O.faults link_out.new) × (S.faults store.old ≤ S.faults store.new) }
     ensures untouched { OnErr result ((link_in.new ≡ link_in.old) × (link_out.new ≡ link_out.old) × (store.new ≡ store.old) × (clock.new ≡ clock.old)) }
 {
@@ -212,7 +214,7 @@ where
     ensures began { IfOk result (λ s. (C.last clock.old ≤ s.began) × (s.began ≤ C.last clock.new)) }
     ensures due { IfOk result (λ s. is_halted (session_setting channels registry (M.seed_memo maker.now)) s.calls.entries ≡ false → LeavesNoneDue s.began (C.last clock.new) (moments s.calls.entries)) }
     ensures setting { IfOk result (λ s. s.calls.setting ≡ (session_setting channels registry (M.seed_memo maker.now))) }
-    ensures open { O.finished link_out.new ≡ false }
+    ensures leaves { IfOk result (λ s. LeavesLink (session_setting channels registry (M.seed_memo maker.now)) s.calls.entries (O.finished link_out.new) (O.faults link_out.old) (O.faults link_out.new)) }
     ensures later { (I.faults link_in.old ≤ I.faults link_in.new) × (O.faults link_out.old ≤ O.faults link_out.new) × (S.faults store.old ≤ S.faults store.new) }
     ensures untouched { OnErr result ((link_in.new ≡ link_in.old) × (link_out.new ≡ link_out.old) × (store.new ≡ store.old) × (clock.new ≡ clock.old)) }
 {

@@ -153,7 +153,7 @@ impl<H: Handler> Table<H> {
         answer
     }
 
-    /// By the reader, for which a place in a queue is.
+    /// Only the reader calls this, so nobody needs to be woken for the place that became free in the queue.
     pub fn start_of<R: Wait>(
         &self,
         rt: &R,

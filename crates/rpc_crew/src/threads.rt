@@ -10,6 +10,7 @@ ghost use Rattle.rpc_journal.specs.Items.{moments};
 ghost use Rattle.rtrb.specs.Ring.{SameConsumer, SameProducer, received, sent};
 ghost use Rattle.turn_cell.specs.Passes.{IsSame};
 ghost use Rattle.rpc_shared.specs.session.Crew.{AllWorked, AreWorkers, Fed, HasRead, Reader, ReaderEnded};
+ghost use Rattle.rpc_shared.specs.session.Leaving.{WriterLeaves};
 ghost use Rattle.rpc_shared.specs.session.Ring.{HaltsFor, PumpEnded, Pumps, WriterEnded, Writes};
 ghost use Rattle.rpc_shared.specs.session.Sessions.{AreSpaced, TicksInTime, last_from};
 
@@ -88,7 +89,7 @@ where
     ensures sink { HaltsFor Link writer.new.view.known.mine → Rose (O.faults link_out.old) (O.faults link_out.new) }
     ensures store { HaltsFor Depot writer.new.view.known.mine → Rose (S.faults store.old) (S.faults store.new) }
     ensures later { (O.faults link_out.old ≤ O.faults link_out.new) × (S.faults store.old ≤ S.faults store.new) }
-    ensures open { O.finished link_out.new ≡ false }
+    ensures leaves { WriterLeaves shared.now.base writer.new.view.known.seen (received end.new) (O.finished link_out.new) (O.faults link_out.old) (O.faults link_out.new) }
 {
     let own = alloc;
     join_mut(
@@ -100,7 +101,7 @@ where
                 × (HaltsFor Link writer.exit.now.view.known.mine → Rose (O.faults link_out.entry.now) (O.faults link_out.exit.now))
                 × (HaltsFor Depot writer.exit.now.view.known.mine → Rose (S.faults store.entry.now) (S.faults store.exit.now))
                 × ((O.faults link_out.entry.now ≤ O.faults link_out.exit.now) × (S.faults store.entry.now ≤ S.faults store.exit.now))
-                × (O.finished link_out.exit.now ≡ false) }
+                × WriterLeaves shared.entry.now.base writer.exit.now.view.known.seen (received end.exit.now) (O.finished link_out.exit.now) (O.faults link_out.entry.now) (O.faults link_out.exit.now) }
         { write(rt, own, shared, writer, end, link_out, store, log) },
         &mut || -> Reading
             requires { IsSync R.row × Reader M.H.rule shared.now reader.now × Fed listener.now reader.now [] × (shared.now.base.role ≡ Server) × (M.seed_memo maker.now ≡ shared.now.base.seed)
@@ -114,7 +115,8 @@ where
     )
 }
 
-// The same over references that live apart.
+// Calls `pumped`. The references have lifetimes of their own here, since `join_mut` wants one lifetime for all that a closure
+// borrows.
 fn pumped_any<
     R: Threads + Wait + Sync,
     I: Source,
@@ -229,7 +231,7 @@ where
     reading
 }
 
-// The same over references that live apart.
+// Calls `readers`, in the same way.
 fn readers_any<R: Threads + Wait + Sync, I: Source, M: Maker + Sync, G: Gate + Sync>(
     rt: &R,
     alloc: Global,

@@ -10,6 +10,7 @@ ghost use Rattle.rpc_packet.specs.Message.{message_of};
 ghost use Rattle.rpc_schedule.specs.Kept.{Holds};
 ghost use Rattle.rtrb.specs.Ring.{SameConsumer, received};
 ghost use Rattle.turn_cell.specs.Passes.{IsSame};
+ghost use Rattle.rpc_shared.specs.session.Leaving.{WriterLeaves};
 ghost use Rattle.rpc_shared.specs.session.Log.{Logs};
 ghost use Rattle.rpc_shared.specs.session.Ring.{HaltsFor, Made, Writes, WriterEnded};
 ghost use Rattle.rpc_shared.specs.session.Sessions.{is_halting, wire};
@@ -23,6 +24,7 @@ use rpc_handlers::Handler;
 use rpc_journal::{Act, Item};
 use rpc_packet::Packet;
 use rpc_schedule::make_action;
+use rpc_shared::session::hanging_up::hang_up;
 use rpc_shared::session::item_log::ItemLog;
 use rpc_shared::session::parcel::Parcel;
 use rpc_shared::{Look, Pass};
@@ -31,7 +33,7 @@ use std::alloc::Global;
 use std::sync::Wait;
 
 /// Makes the items that come through the ring, until its end, a failure, or a halt of the table, and answers how many were made
-/// whole.
+/// whole. At a failure and a halt the output is told that nothing more comes, so that the other end doesn't wait for it.
 pub(crate) fn write<H: Handler, O: Sink, S: Store, R: Wait>(
     rt: &R,
     alloc: Global,
@@ -50,7 +52,7 @@ pub(crate) fn write<H: Handler, O: Sink, S: Store, R: Wait>(
     ensures sink { HaltsFor Link pass.new.view.known.mine → Rose (O.faults output.old) (O.faults output.new) }
     ensures store { HaltsFor Depot pass.new.view.known.mine → Rose (S.faults store.old) (S.faults store.new) }
     ensures later { (O.faults output.old ≤ O.faults output.new) × (S.faults store.old ≤ S.faults store.new) }
-    ensures open { O.finished output.new ≡ false }
+    ensures leaves { WriterLeaves shared.now.base pass.new.view.known.seen (received ring.new) (O.finished output.new) (O.faults output.old) (O.faults output.new) }
 {
     shared.bells().begun.ring();
     let mut done: u64 = 0;
@@ -61,12 +63,14 @@ pub(crate) fn write<H: Handler, O: Sink, S: Store, R: Wait>(
                 Ok(()) => done = done.saturating_add(1),
                 Err(why) => {
                     halt(rt, shared, pass, why);
+                    hang_up(output);
                     return done;
                 }
             },
             Ok(Parcel::End) => return done,
             Err(_) => {
                 if !waits(rt, &shared.bells().writer, heard, shared.look(rt, pass)) {
+                    hang_up(output);
                     return done;
                 }
             }

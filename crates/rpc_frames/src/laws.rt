@@ -48,7 +48,7 @@ pub fn all_written_are_heard()
     ensures { (role : Role) (packets : List Packet) → All (IsSendable role) packets → AreHeardBack role packets }
 {}
 
-/// A listener between frames takes the frame of a packet that it hears in one call, and gives the packet.
+/// A listener between frames takes the frame of a packet that it hears in one `listen`, and gives the packet.
 pub fn frame_is_one_step()
     ensures { (packet : Packet) → IsOneStep packet }
 {}

@@ -36,6 +36,7 @@ pub struct Nobody<H> {
 }
 
 impl<H: Handler> Nobody<H> {
+    /// A maker of no handlers, for a table that opens no calls by itself.
     pub fn new(alloc: Global) -> Nobody<H> {
         Nobody {
             alloc,

@@ -61,7 +61,7 @@ pub fn waiting()
     ensures cancelled { NoneWaitsForCancelled }
 {}
 
-/// What a call of the table adds is by its seat, and keeps a legal history legal. `H` is a type of handlers, and `R`
+/// What a method of the table adds is by its seat, and keeps a legal history legal. `H` is a type of handlers, and `R`
 /// one of runs.
 pub fn changes<H, R>()
     ensures by_seat { AddsBySeat H R }

@@ -5,7 +5,7 @@ pub enum Ending {
     AtEnd,
     /// A read failed.
     SourceFault,
-    /// The store failed at an action. No item behind it went out.
+    /// The store failed at an action. No item after it went out.
     StoreFault,
     /// So many bytes were read as one stream may have; the end wasn't looked for.
     InputLimit,

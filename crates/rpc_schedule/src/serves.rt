@@ -28,7 +28,7 @@ pub trait Serves {
     ///
     /// # Errors
     ///
-    /// Where the packet was refused. It didn't arrive then, and each later call is refused.
+    /// Where the packet was refused. It didn't arrive then, and each later `feed` is refused.
     fn feed(&mut self, piece: &[u8]) -> Result<usize, StartRefused>
         requires open { input_ended (deeds (seen self.old)) ≡ false }
         requires idle { is_idle (seen self.old) ≡ true }
@@ -42,7 +42,7 @@ pub trait Serves {
     /// # Errors
     ///
     /// Where the journal has no room for a run, or memory is wanting. A run that began before memory was wanting is kept,
-    /// and the next call goes on with it.
+    /// and the next `work` goes on with it.
     fn work(&mut self) -> Result<bool, StartRefused>
         ensures step { Works rule (seen self.old) result (seen self.new) }
         ensures fed { (s : List ℕ) → stands self.old s → stands self.new s };

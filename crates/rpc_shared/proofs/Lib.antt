@@ -2,5 +2,4 @@ mod Cancelling
 mod Feeding
 mod Opened
 mod Passing
-mod Seats
 mod Standing

@@ -1,3 +1,4 @@
+pub mod LeavingLemmas
 pub mod PassLemmas
 pub mod ReaderLemmas
 pub mod SessionLemmas

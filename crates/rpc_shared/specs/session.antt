@@ -1,4 +1,5 @@
 pub mod Crew
+pub mod Leaving
 pub mod Log
 pub mod Reasons
 pub mod Ring

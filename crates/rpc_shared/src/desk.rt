@@ -69,7 +69,7 @@ impl<H: Handler> Desk<H> {
         self.calls
     }
 
-    /// Does nothing: its clause is what the table's journal promises.
+    /// Does nothing at run time. Calling it tells the prover that the table's journal is legal.
     pub(crate) fn is_legal(&self)
         ensures { IsLegal H.rule self.now.setting self.now.entries }
     {

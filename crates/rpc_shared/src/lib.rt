@@ -1,6 +1,6 @@
 //! One table of calls for many threads: each pass takes the lock, makes one step of the table, and gives it back. Handlers
 //! run outside the lock.
-//! Enter at [`Shared::with`]; docs/SHARED.md shows a run that is cancelled and one whose handler is replaced.
+//! Enter at [`Shared::with`]; docs/THREADS.md shows a run that is cancelled and one whose handler is replaced.
 #![tactic(auto)]
 
 mod desk;

@@ -20,7 +20,7 @@ use std::alloc::{AllocError, Global};
 
 /// The report of a session with workers: a line with the counts of its stream, a line for each call, the lines of the items
 /// that were made, each with the number of its call, and one that tells why the session ended. The items are told call by call,
-/// behind the replies that belong to none, so the text doesn't show the order in which the workers came to them. Want of
+/// after the replies that belong to none, so the text doesn't show the order in which the workers came to them. Want of
 /// memory has no last line: its report is cut before it. It takes time in proportion to the calls and the items.
 pub fn crew_text<H: Handler>(
     alloc: Global,

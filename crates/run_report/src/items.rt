@@ -15,7 +15,7 @@ use rpc_handlers::Out;
 use rpc_journal::{Act, Item};
 use std::alloc::{AllocError, Global};
 
-/// The frames of the packets among these items, one behind the other, as they stand on the link. An item that acts on
+/// The frames of the packets among these items, one after the other, as they stand on the link. An item that acts on
 /// the store has none.
 pub fn frame_bytes(alloc: Global, items: &[Item]) -> Result<Vec<u8>, AllocError>
     ensures { IfOk result (λ bytes. bytes.items ≡ frames_of_items items.now) }

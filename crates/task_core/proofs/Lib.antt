@@ -1,6 +1,6 @@
 pub mod TimerLemmas
 pub mod PlaceLemmas
-pub mod Ringing
+pub mod Timing
 pub mod LogLemmas
 pub mod DueLemmas
 pub mod RunLemmas

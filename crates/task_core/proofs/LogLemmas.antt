@@ -13,7 +13,7 @@ use Rattle.task_core.specs.Context.{Context, all_outs, by_task}
 use Rattle.task_core.specs.Visit.{Visit}
 use Rattle.task_core.specs.Log.{Step, added, posted, woken, advanced, polled, took, is_added, added_count, task_of, last_poll, is_woken, mail_of, last_heard, poll_heard, moment_of, outs_of}
 use Rattle.task_core.specs.Due.{ended_by, is_owed, alarm_by, awaits_by, has_come, is_called, is_time}
-use Rattle.task_core.specs.Places.{rung_at, rung_in, AreRung, IsPolled}
+use Rattle.task_core.specs.Places.{come_at, come_in, HaveCome, IsPolled}
 use Rattle.task_core.specs.Tasks.{Tasks, Tells, StandsFor}
 use Rattle.task_core.proofs.PlaceLemmas.{there, slab_len-with_value}
 
@@ -274,32 +274,32 @@ module _ {T : Type 0} where
             };
       }
 
-  rung_tells : (log : List (Step T)) (now key : ℕ) (p : Place T) → moment_of log ≤ now → Tells p log key → Tells (rung_at now p) (advanced now ∷ log) key
-  rung_tells log now key p on before =
+  timed_tells : (log : List (Step T)) (now key : ℕ) (p : Place T) → moment_of log ≤ now → Tells p log key → Tells (come_at now p) (advanced now ∷ log) key
+  timed_tells log now key p on before =
       elim (cases_Bool (has_come now p.alarm)) [
         | inl come ↦ subst (λ q. Tells q (advanced now ∷ log) key) (sym (cond-true (has_come now p.alarm) _ _ come)) (come_tells log now key p on before come)
         | inr early ↦ subst (λ q. Tells q (advanced now ∷ log) key) (sym (cond-false (has_come now p.alarm) _ _ early)) (early_tells log now key p on before early)
       ]
 
-  rung_there : (now : ℕ) (o : Option (Place T)) → is_some (rung_in now o) ≡ is_some o
-  rung_there now None = refl
-  rung_there now (Some p) = refl
+  come_there : (now : ℕ) (o : Option (Place T)) → is_some (come_in now o) ≡ is_some o
+  come_there now None = refl
+  come_there now (Some p) = refl
 
-  rung_from : (now : ℕ) (o : Option (Place T)) (q : Place T) → rung_in now o ≡ Some q → (p : Place T) × (o ≡ Some p) × (rung_at now p ≡ q)
-  rung_from now None q found = absurd (cc found)
-  rung_from now (Some p) q found = (p, refl, cc found)
+  come_from : (now : ℕ) (o : Option (Place T)) (q : Place T) → come_in now o ≡ Some q → (p : Place T) × (o ≡ Some p) × (come_at now p ≡ q)
+  come_from now None q found = absurd (cc found)
+  come_from now (Some p) q found = (p, refl, cc found)
 
-  pub advanced_stands : (b : Tasks T) (places : Slab (Place T)) (log : List (Step T)) (now : ℕ) → StandsFor b log → b.moment ≤ now → AreRung now b.places places → StandsFor (record { moment = now; places = places; outs = b.outs }) (advanced now ∷ log)
-  advanced_stands b places log now stands later rung =
+  pub advanced_stands : (b : Tasks T) (places : Slab (Place T)) (log : List (Step T)) (now : ℕ) → StandsFor b log → b.moment ≤ now → HaveCome now b.places places → StandsFor (record { moment = now; places = places; outs = b.outs }) (advanced now ∷ log)
+  advanced_stands b places log now stands later timed =
       let on : moment_of log ≤ now = omega (arith, stands.moment, later) in
       record {
         moment = refl;
         outs = stands.outs;
-        count = stands.count ∙ sym rung.count;
-        is_added = λ k. stands.is_added k ∙ sym (ap is_some (rung.each k) ∙ rung_there now (get b.places k));
+        count = stands.count ∙ sym timed.count;
+        is_added = λ k. stands.is_added k ∙ sym (ap is_some (timed.each k) ∙ come_there now (get b.places k));
         tells = λ k q found.
-            let from = rung_from now (get b.places k) q (sym (rung.each k) ∙ found) in
-            subst (λ r. Tells r (advanced now ∷ log) k) from.2 (rung_tells log now k from.0 on (stands.tells k from.0 from.1));
+            let from = come_from now (get b.places k) q (sym (timed.each k) ∙ found) in
+            subst (λ r. Tells r (advanced now ∷ log) k) from.2 (timed_tells log now k from.0 on (stands.tells k from.0 from.1));
       }
 
   -- ---- what is taken out

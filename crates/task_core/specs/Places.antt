@@ -22,16 +22,16 @@ module _ {T : Type 0} where
   due_in (Some p) = due_with p.latest p
 
   -- the place of a task that has slept until now, or until an earlier moment, is marked
-  abbrev pub rung_at : ℕ → Place T → Place T
-  rung_at now p = if has_come now p.alarm then record p { marked = true; alarm = None } else p
+  abbrev pub come_at : ℕ → Place T → Place T
+  come_at now p = if has_come now p.alarm then record p { marked = true; alarm = None } else p
 
-  abbrev pub rung_in : ℕ → Option (Place T) → Option (Place T)
-  rung_in now None = None
-  rung_in now (Some p) = Some (rung_at now p)
+  abbrev pub come_in : ℕ → Option (Place T) → Option (Place T)
+  come_in now None = None
+  come_in now (Some p) = Some (come_at now p)
 
   -- the time has come to this moment, for each task
-  pub record AreRung (now : ℕ) (old new : Slab (Place T)) : Type 0 where
-    pub each : (key : ℕ) → get new key ≡ rung_in now (get old key)
+  pub record HaveCome (now : ℕ) (old new : Slab (Place T)) : Type 0 where
+    pub each : (key : ℕ) → get new key ≡ come_in now (get old key)
     pub count : slab_len new ≡ slab_len old
 
   module _ (polls : T → Visit → T → Type 0) (key : ℕ) (old new : Place T) (before after : Context) where

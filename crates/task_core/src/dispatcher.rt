@@ -6,7 +6,7 @@ ghost use Rattle.task_core.specs.Tasks.{StandsFor, HasKey, has_key, next_key, ta
 
 mod hearing;
 mod polling;
-mod ringing;
+mod timing;
 
 use crate::cx::Cx;
 use crate::mail::Mail;
@@ -14,12 +14,12 @@ use crate::place::Place;
 use crate::stop::TaskRefused;
 use crate::task::Task;
 use crate::timers::Timers;
-use ringing::ring_all;
 use rpc_handlers::Out;
 use rpc_ids::Status;
 use slab::Slab;
 use std::alloc::{AllocError, Global};
 use std::marker::Model;
+use timing::come_all;
 
 /// How many tasks a dispatcher takes in all. A task that has ended keeps its key, and counts.
 pub const MAX_TASKS: usize = 1024;
@@ -84,7 +84,7 @@ impl<T: Task> Dispatcher<T> {
         }
     }
 
-    /// Gives a task mail, behind what it has. For a task that has ended nothing changes.
+    /// Gives a task mail, after what it has. For a task that has ended nothing changes.
     pub fn post(&mut self, key: usize, mail: Mail) -> Result<(), AllocError>
         requires { HasKey self.old key }
         ensures posts { OnOk result (Adds self.old self.new (posted key mail)) }
@@ -114,7 +114,7 @@ impl<T: Task> Dispatcher<T> {
         ensures keys { (key : ℕ) → has_key self.new key ≡ has_key self.old key }
     {
         self.cx.set_moment(now);
-        ring_all(&mut self.places, &mut self.timers, now);
+        come_all(&mut self.places, &mut self.timers, now);
     }
 
     /// Takes out the oldest item that a task said, with the task's key.

@@ -1,6 +1,6 @@
 //! Tasks that are polled on one thread, as those of Pigweed's pw_async2: a [`Dispatcher`] polls exactly the tasks that
 //! are due, the lowest key first, one poll a turn. A task says so when it waits for mail or sleeps until a moment.
-//! It holds no clock and waits for nothing: moments are handed in. `docs/TASKS.md` has the life of a task as a picture.
+//! It holds no clock and waits for nothing: moments are handed in. `docs/THREADS.md` has the life of a task as a picture.
 #![tactic(auto)]
 
 pub mod bells;

@@ -1,7 +1,7 @@
 //! The place of one task.
 ghost use Rattle.std.specs.Prelude.{◌≡◌, ◌||◌, true, false, [], ◌∷◌, ◌++◌, Some, None, is_none, is_ok, is_err, IsSome, IfSome, if◌then◌else◌};
 ghost use Rattle.task_core.specs.Visit.{Visit};
-ghost use Rattle.task_core.specs.Places.{due_in, due_with, rung_at, IsPolled};
+ghost use Rattle.task_core.specs.Places.{due_in, due_with, come_at, IsPolled};
 ghost use Rattle.task_core.specs.Due.{has_come};
 ghost use Rattle.task_core.specs.Timers.{has_timer, KeepsOthers};
 
@@ -100,8 +100,8 @@ impl<T> Place<T> {
     }
 
     /// The time has come to this moment.
-    pub fn ring(&mut self, now: u64)
-        ensures { self.new ≡ rung_at now self.old }
+    pub fn come_to(&mut self, now: u64)
+        ensures { self.new ≡ come_at now self.old }
     {
         if let Some(at) = self.alarm
             && at <= now

@@ -17,7 +17,7 @@ pub enum Poll {
 
 /// Work that goes on a step at a time.
 pub trait Task {
-    /// What one poll may be: the task before it, what the poll was given and gave, and the task behind it.
+    /// What one poll may be: the task before it, what the poll was given and gave, and the task after it.
     ghost polls: { Self → Visit → Self → Type 0 };
 
     /// Goes on as far as it can without waiting. A poll that answers `Pending` has called `Cx::wait_mail` or

@@ -25,7 +25,7 @@ fn a_script_keeps_what_is_added_in_order(rt: HostRuntime) -> Result<(), AllocErr
     let mut script = Script::new(rt.alloc());
     let first = Stock {
         id: 7,
-        length: 1_000,
+        len: 1_000,
         seed: 1,
     };
     let second = Stock { id: 6, ..first };

@@ -15,7 +15,7 @@ use Rattle.token_text.specs.Arguments.{Argument, Text, is_printable}
 use Rattle.token_text.specs.Arguments as argument
 use Rattle.token_text.specs.Book.{Entry, IsMessage, format_of, token_of}
 use Rattle.token_text.specs.Format.{IsPrintable}
-use Rattle.token_text.specs.Printed.{TextFront, printed, sized_text, text_front, text_in, unfolded}
+use Rattle.token_text.specs.Computed.{TextFront, printed, sized_text, text_front, text_in, unfolded}
 use Rattle.token_text.specs.Printing.{number_text, shown_text, text_of}
 use Rattle.token_text.specs.Spelling.{IsShortText, Spells, StartsWith, text_head, zigzag}
 use Rattle.token_text.specs.declared.part.Notation.{Notation}

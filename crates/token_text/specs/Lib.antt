@@ -1,7 +1,7 @@
 pub mod Arguments
 pub mod Book
 pub mod Format
-pub mod Printed
+pub mod Computed
 pub mod Printing
 pub mod Spelling
 pub mod Steps

@@ -85,14 +85,14 @@ fn read_escaped(text: &[u8]) -> Option<(Part, &[u8])>
         b'%' => Some((Part::Byte(b'%'), behind)),
         b's' => Some((Part::Text, behind)),
         _ => {
-            let (padding, notation, rest) = read_number(text)?;
+            let (padding, notation, rest) = read_conversion(text)?;
             Some((Part::Number { padding, notation }, rest))
         }
     }
 }
 
 // What stands behind the percent sign of a number, and what stands behind that.
-fn read_number(text: &[u8]) -> Option<(Padding, Notation, &[u8])>
+fn read_conversion(text: &[u8]) -> Option<(Padding, Notation, &[u8])>
     ensures some { IfSome result (λ r. IsPadding r.0 × (text.now ≡ padding_text r.0 ++ letter_of r.1 ∷ r.2.now)) }
     ensures only { (filled : Padding) (written : Notation) (rest : List ℕ) → IsPadding filled →
         text.now ≡ padding_text filled ++ letter_of written ∷ rest →

@@ -2,7 +2,7 @@
 ghost use Rattle.std.specs.Prelude.{◌≡◌, ℕ, List, Some};
 ghost use Rattle.token_text.specs.Arguments.{Argument};
 ghost use Rattle.token_text.specs.Book.{Entry, IsMessage};
-ghost use Rattle.token_text.specs.Printed.{text_in};
+ghost use Rattle.token_text.specs.Computed.{text_in};
 ghost use Rattle.token_text.specs.Printing.{text_of};
 
 /// A message has one text: `text_in` computes it, and gives one exactly where the message is one of a format of the book

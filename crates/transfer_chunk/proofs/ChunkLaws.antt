@@ -6,10 +6,11 @@ use Rattle.proto_wire.specs.Entries.{IsFitting, AllFitting, present, fields_text
 use Rattle.proto_wire.specs.Field.{WireValue, Varint, Bytes}
 use Rattle.proto_wire.specs.Message.{fields_of, wire_fields}
 use Rattle.proto_wire.specs.Spelling.{FitsWire}
+use Rattle.proto_wire.specs.Reads.{unless_fault}
 use Rattle.proto_wire.specs.Typed.{Uint64, Uint32, SomeBytes, may_have, number_in, some_number_in, content_in}
 use Rattle.proto_wire.proofs.EntryLaws.{written_fields, written_fault, last_after-present, value_or}
 use Rattle.transfer_chunk.specs.Chunk.{Chunk, chunk_after, declared, no_chunk}
-use Rattle.transfer_chunk.specs.Reading.{chunk_of, unless_fault}
+use Rattle.transfer_chunk.specs.Reading.{chunk_of}
 use Rattle.transfer_chunk.specs.ChunkText.{number_entry, kept_entry, data_entry, chunk_entries, chunk_text, HasWidths}
 
 again_by : (n : ℕ) → ((eqb n 0 ≡ true) × (n ≡ 0)) ⊎ ((eqb n 0 ≡ false) × (n ≡ 0 → ⊥)) → value_or number_in 0 (nonzero_varint n) ≡ n
@@ -149,6 +150,6 @@ unfolding chunk_of chunk_text
 chunk_text_reads c h =
     let es = chunk_entries c in
     let fit = all_fit c h in
-    ap (λ fault. unless_fault fault (chunk_after no_chunk (wire_fields (fields_of (fields_text (present es)))))) (written_fault declared es fit)
+    ap (λ fault. unless_fault (chunk_after no_chunk (wire_fields (fields_of (fields_text (present es))))) fault) (written_fault declared es fit)
     ∙ (ap (λ fs. Ok (chunk_after no_chunk fs)) (written_fields declared es fit)
     ∙ ap Ok (fields_again c))

@@ -9,7 +9,7 @@ use rpc_ids::Status;
 use std::alloc::{AllocError, Global};
 use transfer_words::WordRef;
 
-/// The steps of one transfer. What a step says and does goes behind `outs`. After an `Err` of a step the machine is to be
+/// The steps of one transfer. What a step says and does goes after `outs`. After an `Err` of a step the machine is to be
 /// given up, and a part may be said.
 pub trait Machine {
     ghost rules: { Rules Self };

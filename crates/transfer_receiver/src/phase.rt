@@ -34,6 +34,7 @@ impl Phase {
         }
     }
 
+    /// Whether a lost piece was asked for, and none was kept since.
     pub fn is_recovering(self) -> bool
         ensures { result ≡ spec.is_recovering self }
     {
@@ -43,6 +44,7 @@ impl Phase {
         }
     }
 
+    /// Whether the transfer is over: its end was acknowledged, or the receiver gave up.
     pub fn is_ended(self) -> bool
         ensures { result ≡ spec.is_ended self }
     {

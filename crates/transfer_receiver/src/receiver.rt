@@ -194,6 +194,7 @@ impl ReceiverCore {
         self.shrunk
     }
 
+    /// Where the transfer stands.
     pub fn phase(&self) -> Phase
         ensures { result ≡ self.now.phase }
     {

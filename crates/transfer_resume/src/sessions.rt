@@ -96,7 +96,7 @@ impl Sessions {
         Ok(outs)
     }
 
-    /// Takes the end of the call: all sessions by rising id. None is open or completing behind it. The only error is want
+    /// Takes the end of the call: all sessions by rising id. None is open or completing after it. The only error is want
     /// of memory; nothing is changed then.
     pub fn on_end(&mut self) -> Result<Outs, AllocError>
         ensures outs { IfOk result (λ outs. outs ≡ spelled_all (end_step self.old).outs) }

@@ -29,6 +29,7 @@ impl Pieces {
         }
     }
 
+    /// Adds a piece at the end. The only error is want of memory, and then nothing was added.
     pub fn push(&mut self, item: Piece) -> Result<(), AllocError>
         ensures ok { OnOk result (self.new ≡ self.old ++ item ∷ []) }
         ensures err { OnErr result (self.new ≡ self.old) }
@@ -37,6 +38,7 @@ impl Pieces {
         Ok(())
     }
 
+    /// The pieces, in the order in which they were added.
     pub fn as_slice(&self) -> &[Piece]
         ensures { result.now ≡ self.now }
     {

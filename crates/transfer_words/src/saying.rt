@@ -21,7 +21,7 @@ pub fn text_of(alloc: Global, session: u32, word: WordRef<'_>) -> Result<Bytes, 
     Bytes::copy_from_slice(alloc, text.as_slice())
 }
 
-/// Says a word in a session, behind what is said already. After an `Err` nothing more is said.
+/// Says a word in a session, after what is said already. After an `Err` nothing more is said.
 pub fn say(
     alloc: Global,
     outs: &mut Outs,

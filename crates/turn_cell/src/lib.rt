@@ -1,6 +1,6 @@
 //! A lock of one's own over one value whose log grows. All who take the lock see one log, and each entry stands
 //! in it exactly once, with the number of the pass that added it. The lock is one word that changes in atomic
-//! steps, and one slot, in which the value lies while nobody holds it; `docs/TURN.md` explains both on one page.
+//! steps, and one slot, in which the value lies while nobody holds it; `docs/THREADS.md` explains both.
 #![tactic(auto)]
 
 mod busy;

@@ -69,7 +69,7 @@ fn a_channel_is_closed_once(rt: HostRuntime) -> Result<(), Fail> {
 fn a_store_begins_with_bytes_made_from_a_seed(rt: HostRuntime) -> Result<(), Fail> {
     let stock = Stock {
         id: 7,
-        length: 3,
+        len: 3,
         seed: 1,
     };
     let bytes = stock_bytes(rt.alloc(), stock)?;

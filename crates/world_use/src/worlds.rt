@@ -4,4 +4,5 @@ mod desk;
 mod limits;
 mod losses;
 mod plain;
+mod repeats;
 mod transfers;

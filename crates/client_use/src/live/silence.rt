@@ -1,9 +1,12 @@
-//! A board that never answers.
+//! A board that never answers, and one that closes once this end has said that nothing more comes.
 ghost use Rattle.std.specs.Prelude.{None};
 
-use super::{does_over, end_is, fetch, offset_is, why_is};
-use link_io::{Failed, MemSink, MemSource, Sink, Source, StepClock, Why};
+use super::{FETCHED, does_over, end_is, fetch, offset_is, told, why_is};
+use demo_services::ids::READ;
+use link_io::{Failed, Fulls, MemSink, MemSource, MemStore, Sink, Source, StepClock, Still, Why};
+use live_client::live;
 use rpc_ids::Status;
+use std::process::Abort;
 use std::sync::atomic::{AtomicU64, Ordering};
 use std::test::Fail;
 use std::time::Duration;
@@ -24,20 +27,23 @@ fn turn_until_finished<R: time::Clock>(rt: &R, finished: &AtomicU64) {
 
 // A source that meets its end once the sink of the same link is finished.
 #[derive(Drop)]
-struct Mute<'a, R> {
+struct Patient<'a, R> {
     rt: &'a R,
     inner: MemSource,
     finished: &'a AtomicU64,
 }
 
-impl<'a, R: time::Clock> Source for Mute<'a, R> {
+impl<'a, R: time::Clock> Source for Patient<'a, R> {
     ghost left = { λ _. None };
 
     ghost faults = { λ s. s.inner.faults };
 
     fn read(&mut self, buf: &mut [u8]) -> Result<usize, Failed> {
-        turn_until_finished(self.rt, self.finished);
-        self.inner.read(buf)
+        let count = self.inner.read(buf)?;
+        if count == 0 {
+            turn_until_finished(self.rt, self.finished);
+        }
+        Ok(count)
     }
 }
 
@@ -74,7 +80,7 @@ impl<'a> Sink for Telling<'a> {
 fn a_board_that_never_answers_meets_the_deadline(rt: HostRuntime) -> Result<(), Fail> {
     let alloc = rt.alloc();
     let finished = AtomicU64::new(0);
-    let mut link_in = Mute {
+    let mut link_in = Patient {
         rt: &rt,
         inner: MemSource::new(Vec::new(alloc), Vec::new(alloc)),
         finished: &finished,
@@ -97,4 +103,39 @@ fn a_board_that_never_answers_meets_the_deadline(rt: HostRuntime) -> Result<(), 
     end_is(&rt, did.ended, Some(Status::DeadlineExceeded));
     offset_is(&rt, did.length, 0);
     Ok(())
+}
+
+// The first call of the store fails, in the middle of a fetch. The board waits for more to be asked, and closes once it hears that
+// nothing more comes.
+#[test]
+fn a_board_hears_that_a_store_failed(rt: HostRuntime) -> Result<(), Fail> {
+    let alloc = rt.alloc();
+    let finished = AtomicU64::new(0);
+    let mut link_in = Patient {
+        rt: &rt,
+        inner: MemSource::new(told(alloc, READ, FETCHED)?, Vec::new(alloc)),
+        finished: &finished,
+    };
+    let mut link_out = Telling {
+        inner: MemSink::new(Vec::new(alloc), Vec::new(alloc)),
+        finished: &finished,
+    };
+    let fails = Vec::from_slice(alloc, &[1])?;
+    let mut store = MemStore::new(alloc, Fulls::new(alloc), Fulls::new(alloc), fails)?;
+    let did = live(
+        &rt,
+        alloc,
+        &mut link_in,
+        &mut link_out,
+        &mut store,
+        &mut Still::new(),
+        fetch(0),
+    )?;
+    why_is(&rt, did.why, Why::Store);
+    is_finished(&rt, &finished);
+    Ok(())
+}
+
+fn is_finished(rt: &impl Abort, finished: &AtomicU64) {
+    assert_eq!(rt; finished.load(Ordering::SeqCst), 1);
 }

@@ -53,8 +53,8 @@ pub both_start : (routes : List Route) (router : RouterView) → router.routes �
     ((from : Port) → HasRouted router.routes from (lane_from router from) [] [] []) → FollowsBoth routes router no_flows
 both_start routes router same routed = record {
   same = same;
-  left = start Left router.left (subst (λ rs. HasRouted rs Left router.left [] [] []) same (routed Left));
-  right = start Right router.right (subst (λ rs. HasRouted rs Right router.right [] [] []) same (routed Right));
+  left = start Left router.from_left (subst (λ rs. HasRouted rs Left router.from_left [] [] []) same (routed Left));
+  right = start Right router.from_right (subst (λ rs. HasRouted rs Right router.from_right [] [] []) same (routed Right));
 }
   where
     start : (from : Port) (lane : LaneView) → HasRouted routes from lane [] [] [] → Follows routes from lane no_flow
@@ -122,9 +122,9 @@ end_told r0 r1 r2 flows t0 t1 t2 t3 t4 left right both same_1 across_1 drains_1 
     let c = counted r0.routes Left flows.from_left in
     let d = counted r0.routes Right flows.from_right in
     let first : t1 ≡ t0 ++ a =
-    tells_1 flows.from_right both.right ∙ ap (λ l. t0 ++ frame_lines Left l) (all_waiting r0.routes Right r0.right flows.from_right both.right) in
+    tells_1 flows.from_right both.right ∙ ap (λ l. t0 ++ frame_lines Left l) (all_waiting r0.routes Right r0.from_right flows.from_right both.right) in
     let second : t2 ≡ t1 ++ b =
-    tells_2 flows.from_left at_1.left ∙ ap (λ l. t1 ++ frame_lines Right l) (all_waiting r0.routes Left r0.left flows.from_left both.left) in
-    let third : t3 ≡ t2 ++ c = tally_told r0.routes Left r2.left flows_2.from_left left t2 t3 last.left left_is wrote_3 in
-    let fourth : t4 ≡ t3 ++ d = tally_told r0.routes Right r2.right flows_2.from_right right t3 t4 last.right right_is wrote_4 in
+    tells_2 flows.from_left at_1.left ∙ ap (λ l. t1 ++ frame_lines Right l) (all_waiting r0.routes Left r0.from_left flows.from_left both.left) in
+    let third : t3 ≡ t2 ++ c = tally_told r0.routes Left r2.from_left flows_2.from_left left t2 t3 last.left left_is wrote_3 in
+    let fourth : t4 ≡ t3 ++ d = tally_told r0.routes Right r2.from_right flows_2.from_right right t3 t4 last.right right_is wrote_4 in
     joined t0 a b c d t4 (fourth ∙ ap (λ t. t ++ d) (third ∙ ap (λ t. t ++ c) (second ∙ ap (λ t. t ++ b) first)))

@@ -19,8 +19,8 @@ pub record Follows (routes : List Route) (from : Port) (lane : LaneView) (flow :
 -- both directions of a router with these routes
 pub record FollowsBoth (routes : List Route) (router : RouterView) (flows : Flows) : Type 0 where
   pub same : router.routes ≡ routes
-  pub left : Follows routes Left router.left flows.from_left
-  pub right : Follows routes Right router.right flows.from_right
+  pub left : Follows routes Left router.from_left flows.from_left
+  pub right : Follows routes Right router.from_right flows.from_right
 
 -- The lines were steps, and the router did them. What is printed of it at the end goes behind what was printed so far.
 pub record RunsAll (routes : List Route) (lines : List (List ℕ)) (router : RouterView) (text_old text_new : List ℕ) : Type 0 where

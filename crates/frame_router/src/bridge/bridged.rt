@@ -14,7 +14,7 @@ pub struct Bridged {
 }
 
 impl Bridged {
-    /// Why the bridge ended: as the direction from the left did, and where that settled as the one from the right.
+    /// Why the bridge ended: as the direction from the left did, or, where that settled, as the one from the right did.
     pub fn why(self) -> Why
         ensures { result ≡ reason_of self }
     {

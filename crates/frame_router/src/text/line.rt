@@ -15,7 +15,7 @@ use text_fields::{hex_bytes, small_number, strip_word};
 /// The most frames that one line hands out. No more can wait.
 pub(crate) const MAX_DRAINED: u32 = 256;
 
-/// What a line behind the routes does.
+/// What a line after the routes does.
 #[derive(Drop)]
 pub(crate) enum Step {
     /// These bytes come from a side.
@@ -35,7 +35,7 @@ pub(crate) fn read_route(line: &[u8]) -> Option<(Port, u32)>
     Some((port, address))
 }
 
-/// What a line behind the routes does, if it is good.
+/// What a line after the routes does, if it is good.
 pub(crate) fn read_step(alloc: Global, line: &[u8]) -> Result<Option<Step>, AllocError>
     ensures some { IfOk result (λ found. IfSome found (λ step. IsStepLine line.now step)) }
     ensures none { IfOk result (λ found. IfNone found ((step : Step) → IsStepLine line.now step → ⊥)) }

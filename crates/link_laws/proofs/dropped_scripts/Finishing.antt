@@ -1,11 +1,11 @@
 -- The world in which a transfer has survived is one between two commands.
-use Rattle.std.proofs.Common.{◌≡◌, ◌≢◌, ◌+◌, ◌<◌, ◌≤◌, true, List, [], ◌∷◌, length, Option, Some, None, refl, ap, sym, ◌∙◌, subst, arith, length-append}
-use Rattle.std.specs.Prelude.{count_by}
+use Rattle.std.proofs.Common.{◌≡◌, ◌≢◌, ℕ, ◌+◌, ◌<◌, ◌≤◌, true, List, [], ◌∷◌, length, Option, Some, None, refl, ap, sym, ◌∙◌, subst, arith, length-append}
 use Rattle.link_script.specs.declared.command.Command.{Command}
 use Rattle.rpc_ids.specs.declared.status.Status.{Status}
 use Rattle.rpc_handlers.specs.declared.event.Memo.{Memo}
 use Rattle.rpc_journal.proofs.PlaceLemmas.{some_same}
 use Rattle.transfer_resume.specs.declared.side.Side.{Side}
+use Rattle.transfer_resume.specs.declared.side.Side.TheVariants.{Read, Write}
 use Rattle.transfer_resume.specs.declared.stage.Stage.{Stage}
 use Rattle.transfer_resume.specs.Book.{Book}
 use Rattle.transfer_resume.specs.Session.{Row, Service}
@@ -16,26 +16,33 @@ use Rattle.history_laws.specs.rounds.Streams.{HasStream}
 use Rattle.transfer_laws.specs.losses.Drops.{at_time}
 use Rattle.transfer_laws.specs.losses.Survives.{HasSettled, IsSettled}
 use Rattle.link_laws.specs.world.World.{Setup, Transfer, World, client_deeds, server_deeds}
-use Rattle.link_laws.specs.plain_calls.Between.{HasCall, IsClean, MayTransfer, asks_for}
+use Rattle.link_laws.specs.plain_calls.Between.{HasCall, IsClean, MayTransfer}
 use Rattle.link_laws.specs.lossless_transfer.Shows.{AtClient, Places}
 use Rattle.link_laws.specs.dropped_transfer.Sessions.{AreBefore, AreSettled, IsBesideAtServer, at_turn, book_with, own_row}
 use Rattle.link_laws.specs.dropped_transfer.Shows.{StandsDropping}
 use Rattle.link_laws.specs.dropped_transfer.Survives.{HasSurvived}
-use Rattle.link_laws.proofs.lossless_scripts.Finishing.{LeavesClean, left_is_clean}
+use Rattle.link_laws.proofs.lossless_scripts.Finishing.{LeavesClean, left_is_clean, one_more, own_more}
 use Rattle.link_laws.proofs.lossless_scripts.Starting.{IsSetup, first_service, same_side}
-use Rattle.link_laws.proofs.dropped_scripts.Starting.{FitsLater, older_of, opened_side, opened_ticks, room_of, still_called, x_of}
+use Rattle.link_laws.proofs.dropped_scripts.Starting.{FitsLater, few_of, had_few, older_of, opened_side, opened_ticks, still_called, x_of}
 
-module _ (k : Setup) (setup : IsSetup k) (w end : World) (side : Side) (command : Command) (rest : List Command) (asks : asks_for side command ≡ true) (clean : IsClean k (FitsLater k w.sessions w.times (command ∷ rest)) w)
-    (may : MayTransfer k (server_deeds k w) (client_deeds k w) (FitsLater k w.sessions w.times (command ∷ rest) side) side) (room : count_by (asks_for side) (command ∷ rest) ≤ 256) where
+-- no call has fewer sessions once one has one more
+others_grow : (side other : Side) (begun : Side → ℕ) → begun other ≤ one_more side begun other
+others_grow Read Read begun = omega arith
+others_grow Read Write begun = omega arith
+others_grow Write Read begun = omega arith
+others_grow Write Write begun = omega arith
+
+module _ (k : Setup) (setup : IsSetup k) (w end : World) (side : Side) (command : Command) (rest : List Command) (begun : Side → ℕ) (most : (s : Side) → begun s ≤ 256) (clean : IsClean k (FitsLater k w.sessions w.times begun) w)
+    (may : MayTransfer k (server_deeds k w) (client_deeds k w) (FitsLater k w.sessions w.times begun side) side) where
   abbrev before : Side → Book → Type 0
-  before = FitsLater k w.sessions w.times (command ∷ rest)
+  before = FitsLater k w.sessions w.times begun
 
   abbrev x : Places
-  x = x_of k setup w end side command rest asks clean may
+  x = x_of k setup w end side command rest begun most clean may
 
   module _ (t : Transfer) (status : Status) (mid : World) (h : HasSurvived k x t status mid) where
     abbrev after : Side → Book → Type 0
-    after = FitsLater k (w.sessions + 1) h.times rest
+    after = FitsLater k (w.sessions + 1) h.times (one_more side begun)
 
     abbrev y : Places
     y = at_turn x h.time h.times h.server
@@ -74,8 +81,8 @@ module _ (k : Setup) (setup : IsSetup k) (w end : World) (side : Side) (command 
           all_join (λ (r : Row). r.id < y.session + 1) h.older (own_row y.session h.session)
           (all_weaken (λ (r : Row). r.id < y.session) (λ (r : Row). r.id < y.session + 1) h.older (λ r low. omega (arith, low)) h.set.older_are.before) (own_before h.session);
       few =
-          (let many : length h.older ≡ length (older_of k setup w end side command rest asks clean may) = h.set.older_are.many in
-          omega (arith, many, length-append h.older (own_row y.session h.session), own_few h.session, room_of k setup w end side command rest asks clean room may));
+          (let many : length h.older ≡ length (older_of k setup w end side command rest begun most clean may) = h.set.older_are.many in
+          omega (arith, many, length-append h.older (own_row y.session h.session), own_few h.session, few_of k setup w end side command rest begun most clean may, own_more side begun));
     }
 
     -- THE CALL BESIDE
@@ -97,12 +104,14 @@ module _ (k : Setup) (setup : IsSetup k) (w end : World) (side : Side) (command 
             past = b.past;
             settled = b.settled;
             before = all_weaken (λ (r : Row). r.id < y.session) (λ (r : Row). r.id < y.session + 1) b.book.rows (λ r low. omega (arith, low)) b.before;
-            few = subst (λ s. length b.book.rows + count_by (asks_for s) rest ≤ 256) same b.few;
+            few =
+                (let few = subst (λ s. length b.book.rows ≤ y.had s) same b.few in
+                omega (arith, few, had_few k (server_deeds k w) (client_deeds k w) w.sessions w.times begun other (clean.transfers other), others_grow side other begun));
           }
 
       found_beside : IsBeside
       found_beside =
-          let found = h.set.beside.each c.at_server c.server_opening apart (still_called k setup w end side command rest asks clean may c.at_server c.server_opening c.server_stream.opened) ticks in
+          let found = h.set.beside.each c.at_server c.server_opening apart (still_called k setup w end side command rest begun most clean may c.at_server c.server_opening c.server_stream.opened) ticks in
           let b : IsBesideAtServer k y c.server_opening found.0 = found.2 in
           (b.book, subst (HasStream k.rule k.server (server_deeds k mid) c.at_server c.server_opening) b.memo (stands.server.others c.at_server c.server_opening found.0 apart found.1), fits_after found.0 b)
 
@@ -123,5 +132,5 @@ module _ (k : Setup) (setup : IsSetup k) (w end : World) (side : Side) (command 
     }
 
     -- THE WORLD IS CLEAN AGAIN
-    pub clean_again : IsClean k (FitsLater k (w.sessions + 1) h.times rest) mid
+    pub clean_again : IsClean k (FitsLater k (w.sessions + 1) h.times (one_more side begun)) mid
     clean_again = left_is_clean k setup before w clean side rest may after mid leaves_clean

@@ -27,10 +27,12 @@ use Rattle.link_laws.specs.plain_calls.Commands.{HasGoneWell, IsLineOf, PassesOn
 use Rattle.link_laws.specs.plain_calls.Ended.{EndsOkay}
 use Rattle.link_laws.proofs.plain_calls.Numbers.{numbered_grow}
 use Rattle.link_laws.specs.lossless_transfer.Begins.{AsksClient}
-use Rattle.link_laws.specs.lossless_transfer.Finishes.{Passes, line_telling}
+use Rattle.link_laws.specs.world.Lines.{line_telling}
+use Rattle.link_laws.specs.lossless_transfer.Finishes.{Passes}
 use Rattle.link_laws.specs.lossless_transfer.Shows.{Places}
 use Rattle.link_laws.specs.dropped_transfer.Dropped.{DropsFew}
-use Rattle.link_laws.specs.dropped_transfer.Survives.{HasSurvived, ReadsSurviveDrops, RefusalsSurviveDrops, Starts, WritesSurviveDrops}
+use Rattle.link_laws.specs.dropped_transfer.Survives.{HasSurvived, ReadsSurviveDrops, RefusalsSurviveDrops, CanSurvive, WritesSurviveDrops}
+use Rattle.link_laws.proofs.lossless_scripts.Finishing.{one_more}
 use Rattle.link_laws.proofs.lossless_scripts.Offers.{IsRefused, IsServed, served_or_refused}
 use Rattle.link_laws.proofs.lossless_scripts.Passing.{runs_out}
 use Rattle.link_laws.proofs.lossless_scripts.Starting.{IsSetup, method_id}
@@ -41,16 +43,20 @@ use Rattle.link_laws.proofs.dropped_scripts.Starting.{FitsLater, NoneLater, olde
 pub record CommandPasses (k : Setup) (w end : World) (command : Command) (rest : List Command) : Type 0 where
   pub sessions : ℕ
   pub times : ℕ
-  pub passes : PassesOn k (FitsLater k sessions times rest) w end sessions command rest
+  pub begun : Side → ℕ
+  pub passes : PassesOn k (FitsLater k sessions times begun) w end sessions command rest
   pub times_are : passes.mid.times ≡ times
   pub soon : times ≤ w.times + 3
   pub few : sessions ≤ w.sessions + 1
   pub none_later : NoneLater sessions passes.mid.numbered
   pub ends : EndsOkay k w command passes.told
+  pub reads : begun Read + count_by (asks_for Read) rest ≤ 256
+  pub writes : begun Write + end.sessions ≤ sessions + count_by (asks_for Read) rest + 256
 
--- what a world between two commands has, in a run that drops few frames, where these are to come
-pub record IsBetween (k : Setup) (w end : World) (command : Command) (rest : List Command) : Type 0 where
-  pub clean : IsClean k (FitsLater k w.sessions w.times (command ∷ rest)) w
+-- what a world between two commands has, in a run that drops few frames, where these are to come, and the first is a transfer in the
+-- call of this method
+pub record IsBetween (k : Setup) (w end : World) (begun : Side → ℕ) (side : Side) (command : Command) (rest : List Command) : Type 0 where
+  pub clean : IsClean k (FitsLater k w.sessions w.times begun) w
   pub coming : w.coming ≡ command ∷ rest
   pub run : RunsOn k w end
   pub good : HasGoneWell k w
@@ -58,14 +64,18 @@ pub record IsBetween (k : Setup) (w end : World) (command : Command) (rest : Lis
   pub sessions : w.sessions + 1 < 2 ^ 32
   pub early : TURN_OF_TIME * w.times + 4 * TIMEOUT < 2 ^ 63
   pub none_later : NoneLater w.sessions w.numbered
-  pub room : (side : Side) → count_by (asks_for side) (command ∷ rest) ≤ 256
+  pub most : (s : Side) → begun s ≤ 256
+  -- the command begins one session more in its call, and the run no more than it may
+  pub room : begun side < 256
+  pub reads : one_more side begun Read + count_by (asks_for Read) rest ≤ 256
+  pub writes : one_more side begun Write + end.sessions ≤ w.sessions + 1 + count_by (asks_for Read) rest + 256
 
-module _ (k : Setup) (setup : IsSetup k) (w end : World) (side : Side) (command : Command) (rest : List Command) (asks : asks_for side command ≡ true) (b : IsBetween k w end command rest) where
-  abbrev may : MayTransfer k (server_deeds k w) (client_deeds k w) (FitsLater k w.sessions w.times (command ∷ rest) side) side
+module _ (k : Setup) (setup : IsSetup k) (w end : World) (side : Side) (command : Command) (rest : List Command) (begun : Side → ℕ) (b : IsBetween k w end begun side command rest) where
+  abbrev may : MayTransfer k (server_deeds k w) (client_deeds k w) (FitsLater k w.sessions w.times begun side) side
   may = b.clean.transfers side
 
   abbrev x : Places
-  x = x_of k setup w end side command rest asks b.clean may
+  x = x_of k setup w end side command rest begun b.most b.clean may
 
   -- where the transfer has survived
   survived : (t : Transfer) (status : Status) (p : Passes k w end (HasSurvived k x t status)) → IsLineOf command (line_telling t status p.holds.bytes) → EndsOkay k w command (line_telling t status p.holds.bytes)
@@ -76,12 +86,13 @@ module _ (k : Setup) (setup : IsSetup k) (w end : World) (side : Side) (command 
       record {
         sessions = w.sessions + 1;
         times = h.times;
+        begun = one_more side begun;
         passes = record {
           mid = p.mid;
           count = p.many;
           way = p.way;
           more = record { count = p.rest.total; turns = p.rest.turns; is_last = p.rest.is_last; well = b.run.well };
-          clean = clean_again k setup w end side command rest asks b.clean may (b.room side) t status p.mid h;
+          clean = clean_again k setup w end side command rest begun b.most b.clean may t status p.mid h;
           sessions_are = h.left.stands.kept.sessions;
           coming = h.left.stands.kept.coming;
           told = line_telling t status h.bytes;
@@ -95,24 +106,26 @@ module _ (k : Setup) (setup : IsSetup k) (w end : World) (side : Side) (command 
         few = omega arith;
         none_later = h.left.stands.said_are.none_later;
         ends = ends;
+        reads = b.reads;
+        writes = b.writes;
       }
 
   starts_here : (t : Transfer) → AsksClient command
       → starts k w command ≡ transfer_by w (live_transfers (method_id side) (client_deeds k w)) (opens_with transfer_id (method_id side) [] (client_deeds k w)) (call_count (client_deeds k w)) t
-      → Starts k x (older_of k setup w end side command rest asks b.clean may) w end t
+      → CanSurvive k x (older_of k setup w end side command rest begun b.most b.clean may) w end t
   starts_here t asking so =
-      starts_so k setup w end side command rest asks b.clean t asking b.coming b.good b.none_later so (runs_out k w end b.run) b.drops b.sessions b.early may
+      starts_so k setup w end side command rest begun b.most b.clean b.room t asking b.coming b.good b.none_later so (runs_out k w end b.run) b.drops b.sessions b.early may
 
 -- A READ
-module _ (survive : ReadsSurviveDrops) (refuse : RefusalsSurviveDrops) (k : Setup) (setup : IsSetup k) (w end : World) (rest : List Command) (resource offset : ℕ) (b : IsBetween k w end (ReadIt resource offset) rest) where
+module _ (survive : ReadsSurviveDrops) (refuse : RefusalsSurviveDrops) (k : Setup) (setup : IsSetup k) (w end : World) (rest : List Command) (begun : Side → ℕ) (resource offset : ℕ) (b : IsBetween k w end begun Read (ReadIt resource offset) rest) where
   abbrev asked : ℕ
   asked = min offset (left_length k w resource)
 
   abbrev read_x : Places
-  read_x = x k setup w end Read (ReadIt resource offset) rest refl b
+  read_x = x k setup w end Read (ReadIt resource offset) rest begun b
 
-  starting_read : Starts k read_x (older_of k setup w end Read (ReadIt resource offset) rest refl b.clean (b.clean.transfers Read)) w end (reads (new_download resource asked k.window k.chunk))
-  starting_read = starts_here k setup w end Read (ReadIt resource offset) rest refl b (reads (new_download resource asked k.window k.chunk)) tt refl
+  starting_read : CanSurvive k read_x (older_of k setup w end Read (ReadIt resource offset) rest begun b.most b.clean (b.clean.transfers Read)) w end (reads (new_download resource asked k.window k.chunk))
+  starting_read = starts_here k setup w end Read (ReadIt resource offset) rest begun b (reads (new_download resource asked k.window k.chunk)) tt refl
 
   pub read_passes : resource < 2 ^ 32 → offset ≤ MAX_RESOURCE → ((bytes : List ℕ) → first_of resource k.server_store.full ≡ Some bytes → length bytes ≤ MAX_RESOURCE)
       → CommandPasses k w end (ReadIt resource offset) rest
@@ -120,16 +133,16 @@ module _ (survive : ReadsSurviveDrops) (refuse : RefusalsSurviveDrops) (k : Setu
     where
       at : IsServed k resource asked ⊎ IsRefused k resource asked → CommandPasses k w end (ReadIt resource offset) rest
       at (inl s) =
-          let p = survive k read_x _ w end resource asked k.window k.chunk s.bytes starting_read refl (own_method k setup w end Read (ReadIt resource offset) rest refl b.clean (b.clean.transfers Read)) s.has small
+          let p = survive k read_x _ w end resource asked k.window k.chunk s.bytes starting_read refl (own_method k setup w end Read (ReadIt resource offset) rest begun b.most b.clean (b.clean.transfers Read)) s.has small
           (record { window_low = setup.window; window_high = setup.demo.window; chunk_low = setup.chunk; chunk_high = setup.demo.chunk }) (sizes s.bytes s.has) s.within in
-          survived k setup w end Read (ReadIt resource offset) rest refl b _ Okay p refl (λ bytes has within. (p.holds.bytes, refl))
+          survived k setup w end Read (ReadIt resource offset) rest begun b _ Okay p refl (λ bytes has within. (p.holds.bytes, refl))
       at (inr r) =
           let p = refuse k read_x _ w end resource asked k.window k.chunk r.status starting_read
           (record { resource = small; asked = omega (arith, low); window = setup.demo.window; chunk = setup.demo.chunk }) refl r.offers in
-          survived k setup w end Read (ReadIt resource offset) rest refl b _ r.status p refl (λ bytes has within. absurd (r.never bytes has within))
+          survived k setup w end Read (ReadIt resource offset) rest begun b _ r.status p refl (λ bytes has within. absurd (r.never bytes has within))
 
 -- A WRITE
-module _ (survive : WritesSurviveDrops) (k : Setup) (setup : IsSetup k) (w end : World) (rest : List Command) (resource offset : ℕ) (b : IsBetween k w end (WriteIt resource offset) rest) where
+module _ (survive : WritesSurviveDrops) (k : Setup) (setup : IsSetup k) (w end : World) (rest : List Command) (begun : Side → ℕ) (resource offset : ℕ) (b : IsBetween k w end begun Write (WriteIt resource offset) rest) where
   pub write_passes : (bytes : List ℕ) → found resource (client_store k w).full ≡ Some bytes → resource < 2 ^ 32 → length bytes ≤ MAX_RESOURCE → CommandPasses k w end (WriteIt resource offset) rest
   write_passes bytes has small size =
       let from : ℕ = min offset (length bytes) in
@@ -137,9 +150,9 @@ module _ (survive : WritesSurviveDrops) (k : Setup) (setup : IsSetup k) (w end :
       let starts_it : starts k w (WriteIt resource offset)
       ≡ transfer_by w (live_transfers (name_id (codes "Write")) (client_deeds k w)) (opens_with transfer_id (name_id (codes "Write")) [] (client_deeds k w)) (call_count (client_deeds k w)) t
       = ap (starts_write k w resource offset) has in
-      let p = survive k (x k setup w end Write (WriteIt resource offset) rest refl b) _ w end resource from bytes (starts_here k setup w end Write (WriteIt resource offset) rest refl b t tt starts_it) refl small
+      let p = survive k (x k setup w end Write (WriteIt resource offset) rest begun b) _ w end resource from bytes (starts_here k setup w end Write (WriteIt resource offset) rest begun b t tt starts_it) refl small
       (record { window_low = setup.window; window_high = setup.demo.window; chunk_low = setup.chunk; chunk_high = setup.demo.chunk }) size (omega arith) in
-      survived k setup w end Write (WriteIt resource offset) rest refl b _ Okay p refl (λ other found_too.
+      survived k setup w end Write (WriteIt resource offset) rest begun b _ Okay p refl (λ other found_too.
       let same : bytes ≡ other = some_same bytes other (sym has ∙ found_too) in
       subst (λ bs. (n : ℕ) × (line_telling (writes (write_ended (new_upload resource bytes from) (agreed_offset (shelf_of k.server_store) resource from))) Okay p.holds.bytes
       ≡ line.Write resource (agreed_offset (shelf_of k.server_store) resource (min offset (length bs))) Okay n)) same (p.holds.bytes, refl))

@@ -1,10 +1,9 @@
 -- A transfer starts in the world between two commands, over links that drop frames.
 use Rattle.std.proofs.Common.{◌≡◌, ◌≢◌, ◌⊎◌, ℕ, ◌+◌, ◌*◌, ◌<◌, ◌≤◌, ◌==◌, ◌^◌, Bool, true, false, if◌then◌else◌, List, [], ◌∷◌, length, slice_get, Some, None, refl, ap, sym, ◌∙◌, subst, inl, inr, arith}
-use Rattle.std.specs.Prelude.{cond, count_by, find}
+use Rattle.std.specs.Prelude.{find}
 use Rattle.std.proofs.lemmas.Bool.{and_parts, eq-eqb, eqb-true, true≢false}
 use Rattle.std.proofs.lemmas.List.{append-nil}
 use Rattle.std.proofs.lemmas.Option.{slice_get_within}
-use Rattle.std.proofs.lemmas.List.Sums.{sum_by-cons}
 use Rattle.std.specs.List.{AllByRecursion}
 use Rattle.link_script.specs.declared.command.Command.{Command}
 use Rattle.rpc_ids.specs.Registry.{has_ids, method_of}
@@ -33,7 +32,7 @@ use Rattle.transfer_laws.specs.losses.Drops.{at_time}
 use Rattle.link_laws.specs.declared.world.limits.TheConstants.{TURN_OF_TIME}
 use Rattle.link_laws.specs.world.Starts.{live_transfers, next_name, opens_with, request, starts, transfer_by}
 use Rattle.link_laws.specs.world.World.{Setup, Transfer, World, client_deeds, server_deeds}
-use Rattle.link_laws.specs.plain_calls.Between.{HasCall, IsClean, MayTransfer, is_by_side, side_name, asks_for}
+use Rattle.link_laws.specs.plain_calls.Between.{HasCall, IsClean, MayTransfer, is_by_side, side_name}
 use Rattle.link_laws.specs.plain_calls.Commands.{HasGoneWell}
 use Rattle.link_laws.specs.lossless_transfer.Begins.{AsksClient}
 use Rattle.link_laws.specs.lossless_transfer.Chunks.{is_chunk_of}
@@ -43,33 +42,29 @@ use Rattle.link_laws.specs.dropped_transfer.Dropped.{DropsFew}
 use Rattle.link_laws.specs.dropped_transfer.Passing.{IsBesideAtClient}
 use Rattle.link_laws.specs.dropped_transfer.Sessions.{AreBefore, AreBeside, AreSettled, IsBesideAtServer, IsSetForDrops, book_with}
 use Rattle.link_laws.specs.dropped_transfer.Shows.{HasNumbered}
-use Rattle.link_laws.specs.dropped_transfer.Survives.{OpensAnew, OpensThere, Starts}
+use Rattle.link_laws.specs.dropped_transfer.Survives.{OpensAnew, OpensThere, CanSurvive}
 use Rattle.link_laws.proofs.lossless_scripts.Walking.{none_counted}
 use Rattle.link_laws.proofs.lossless_scripts.Finishing.{IsPlaced, placed}
-use Rattle.link_laws.proofs.lossless_scripts.Starting.{IsKnown, IsSetup, are_places, asked_state, client_role, first_service, method_id, new_server, not_both, numbered_with, old_places, on_new, on_old, own_name, places_for, read_not_write, same_side, server_method, server_role, service_at, sessions_before, side_is, told_time, write_not_read}
+use Rattle.link_laws.proofs.lossless_scripts.Starting.{IsKnown, IsSetup, are_places, asked_state, client_role, first_service, had_sessions, method_id, new_server, not_both, numbered_with, old_places, on_new, on_old, own_name, places_for, read_not_write, same_side, server_method, server_role, service_at, sessions_before, side_is, told_time, write_not_read}
 
--- WHAT THE SERVER KEEPS OF A CALL BETWEEN TWO COMMANDS. So many sessions were begun by now, so many turns of time have passed, and
--- these commands are to come: the call has room for the sessions that they ask for. Its sessions have settled.
-pub record FitsLater (k : Setup) (sessions times : ℕ) (coming : List Command) (side : Side) (book : Book) : Type 0 where
+-- WHAT THE SERVER KEEPS OF A CALL BETWEEN TWO COMMANDS. So many sessions were begun by now, so many in each call at most, and so many
+-- turns of time have passed. Its sessions have settled.
+pub record FitsLater (k : Setup) (sessions times : ℕ) (begun : Side → ℕ) (side : Side) (book : Book) : Type 0 where
   pub service : book.service ≡ service_at k side book.service.time
   pub past : book.service.time ≤ TURN_OF_TIME * times
   pub settled : AreSettled book.rows
   pub before : AreBefore (sessions + 1) book.rows
-  pub few : length book.rows + count_by (asks_for side) coming ≤ 256
+  pub few : length book.rows ≤ begun side
 
 -- no chunk is of a later session
 abbrev pub NoneLater : ℕ → List Packet → Type 0
 NoneLater sessions numbered = AllByRecursion (λ p. (later : ℕ) → sessions < later → is_chunk_of later p ≡ false) numbered
 
--- of the commands to come the first is one
-pub one_fewer : (side : Side) (command : Command) (rest : List Command) → count_by (asks_for side) (command ∷ rest) ≡ cond (asks_for side command) 1 0 + count_by (asks_for side) rest
-one_fewer side command rest = sum_by-cons (λ c. cond (asks_for side c) 1 0) command rest
-
-pub asked_one : (side : Side) (command : Command) (rest : List Command) → asks_for side command ≡ true → count_by (asks_for side) (command ∷ rest) ≡ 1 + count_by (asks_for side) rest
-asked_one side command rest asks = one_fewer side command rest ∙ ap (λ b. cond b 1 0 + count_by (asks_for side) rest) asks
-
-pub no_more : (side : Side) (command : Command) (rest : List Command) → count_by (asks_for side) rest ≤ count_by (asks_for side) (command ∷ rest)
-no_more side command rest = omega (arith, one_fewer side command rest)
+-- a call has had no more sessions than were begun in it
+pub had_few : (k : Setup) (sds cds : List Deed) (sessions times : ℕ) (begun : Side → ℕ) (side : Side) (may : MayTransfer k sds cds (FitsLater k sessions times begun side) side)
+    → had_sessions k sds cds (FitsLater k sessions times begun side) side may ≤ begun side
+had_few k sds cds sessions times begun side (inl none) = omega arith
+had_few k sds cds sessions times begun side (inr h) = h.book_fits.few
 
 -- THE METHODS THAT ARE TOLD OF THE TIME
 abbrev IsTicking : MethodRef → Type 0
@@ -118,9 +113,9 @@ differs Read Write = inr read_not_write
 differs Write Read = inr write_not_read
 differs Write Write = inl refl
 
-module _ (k : Setup) (setup : IsSetup k) (w end : World) (side : Side) (command : Command) (rest : List Command) (asks : asks_for side command ≡ true) (clean : IsClean k (FitsLater k w.sessions w.times (command ∷ rest)) w) where
+module _ (k : Setup) (setup : IsSetup k) (w end : World) (side : Side) (command : Command) (rest : List Command) (begun : Side → ℕ) (most : (s : Side) → begun s ≤ 256) (clean : IsClean k (FitsLater k w.sessions w.times begun) w) where
   abbrev pub fits : Side → Book → Type 0
-  fits = FitsLater k w.sessions w.times (command ∷ rest)
+  fits = FitsLater k w.sessions w.times begun
 
   abbrev sds : List Deed
   sds = server_deeds k w
@@ -137,11 +132,11 @@ module _ (k : Setup) (setup : IsSetup k) (w end : World) (side : Side) (command 
   abbrev pub older_of : May → List Row
   older_of may = sessions_before k setup fits w clean side rest may
 
-  pub known : (book : Book) → fits side book → IsKnown k w.sessions side book
-  known book f = record {
+  pub known : begun side < 256 → (book : Book) → fits side book → IsKnown k w.sessions side book
+  known room book f = record {
     service = f.service;
     known = all_weaken (λ (r : Row). r.id < w.sessions + 1) (λ (r : Row). r.id ≤ w.sessions) book.rows (λ r low. omega (arith, low)) f.before;
-    room = (let few = f.few in omega (arith, few, asked_one side command rest asks));
+    room = (let few = f.few in omega (arith, few, room));
   }
 
   -- the sessions of the call so far
@@ -153,10 +148,10 @@ module _ (k : Setup) (setup : IsSetup k) (w end : World) (side : Side) (command 
   before_of (inl none) = tt
   before_of (inr h) = h.book_fits.before
 
-  -- it has no more than a call may have, with this one
-  pub room_of : count_by (asks_for side) (command ∷ rest) ≤ 256 → (may : May) → length (older_of may) + (1 + count_by (asks_for side) rest) ≤ 256
-  room_of few (inl none) = omega (arith, few, asked_one side command rest asks)
-  room_of few (inr h) = (let room = h.book_fits.few in omega (arith, room, asked_one side command rest asks))
+  -- there are no more than were begun
+  pub few_of : (may : May) → length (older_of may) ≤ begun side
+  few_of (inl none) = omega arith
+  few_of (inr h) = h.book_fits.few
 
   past_of : (may : May) → told_time k setup fits w clean side rest may ≤ TURN_OF_TIME * w.times
   past_of (inl none) = omega arith
@@ -205,9 +200,9 @@ module _ (k : Setup) (setup : IsSetup k) (w end : World) (side : Side) (command 
         named = sym h.same_name;
       }
 
-      beside_server : IsBesideAtServer k x h.server_opening (transfer_memo h.book)
-      beside_server =
-          let f : FitsLater k w.sessions w.times (command ∷ rest) other h.book = h.book_fits in
+      beside_server : clean.transfers other ≡ inr h → IsBesideAtServer k x h.server_opening (transfer_memo h.book)
+      beside_server is =
+          let f : FitsLater k w.sessions w.times begun other h.book = h.book_fits in
           record {
             book = h.book;
             memo = refl;
@@ -217,7 +212,8 @@ module _ (k : Setup) (setup : IsSetup k) (w end : World) (side : Side) (command 
             of_side = opened_side k setup other h.server_opening (same_side other h.server_opening h.client_opening h.same_name h.by_method) h.server_stream.known;
             service = f.service ∙ ap (λ (s : Service). at_time s h.book.service.time) (sym (first_service k setup other));
             past = f.past;
-            few = (let few = f.few in omega (arith, few, no_more other command rest));
+            few = (let had : x.had other ≡ length h.book.rows = ap (had_sessions k sds cds (fits other) other) is in omega (arith, had));
+            room = (let few = f.few in omega (arith, few, most other));
             at_client = beside_client;
           }
 
@@ -245,15 +241,15 @@ module _ (k : Setup) (setup : IsSetup k) (w end : World) (side : Side) (command 
         before (inr own) = absurd (away own.0)
 
     -- it is that call
-    by_call : (c : ℕ) (o : Opening) (i : IsOther c o) → (h : HasCall k sds cds (fits i.other) i.other) → IsBeside c o
-    by_call c o i h =
+    by_call : (c : ℕ) (o : Opening) (i : IsOther c o) → (h : HasCall k sds cds (fits i.other) i.other) → clean.transfers i.other ≡ inr h → IsBeside c o
+    by_call c o i h is =
         let here : c ≡ h.at_server = h.only_server c o i.there i.is_by in
         let opening : h.server_opening ≡ o = some_same h.server_opening o (sym h.server_stream.opened ∙ (ap (call_at sds) (sym here) ∙ i.there)) in
-        subst (λ n. IsBeside n o) (sym here) (subst (IsBeside h.at_server) opening (transfer_memo h.book, h.server_stream, beside_server i.other i.apart h))
+        subst (λ n. IsBeside n o) (sym here) (subst (IsBeside h.at_server) opening (transfer_memo h.book, h.server_stream, beside_server i.other i.apart h is))
 
-    one_beside : (c : ℕ) (o : Opening) (i : IsOther c o) → MayTransfer k sds cds (fits i.other) i.other → IsBeside c o
-    one_beside c o i (inl none) = absurd (true≢false (sym i.is_by ∙ none.server c o i.there))
-    one_beside c o i (inr h) = by_call c o i h
+    one_beside : (c : ℕ) (o : Opening) (i : IsOther c o) → (m : MayTransfer k sds cds (fits i.other) i.other) → clean.transfers i.other ≡ m → IsBeside c o
+    one_beside c o i (inl none) is = absurd (true≢false (sym i.is_by ∙ none.server c o i.there))
+    one_beside c o i (inr h) is = by_call c o i h is
 
     -- what isn't this method is the other
     same_other : (s a b : Side) → (method_id a == method_id s) ≡ false → (method_id b == method_id s) ≡ false → a ≡ b
@@ -272,16 +268,16 @@ module _ (k : Setup) (setup : IsSetup k) (w end : World) (side : Side) (command 
 
     are_beside : AreBeside k x
     are_beside = record {
-      each = λ c o away called ticks. (let i = is_other c o away called ticks in one_beside c o i (clean.transfers i.other));
+      each = λ c o away called ticks. (let i = is_other c o away called ticks in one_beside c o i (clean.transfers i.other) refl);
       one = λ c d o p first second there_first there_second ticks_first ticks_second.
           let i = is_other c o first there_first ticks_first in
           one_at_most c d o p i (is_other d p second there_second ticks_second) (clean.transfers i.other);
     }
 
-    is_set_for_drops : DropsFew k end → w.sessions + 1 < 2 ^ 32 → IsSetForDrops k x (older_of may)
-    is_set_for_drops drops small = record {
+    is_set_for_drops : begun side < 256 → DropsFew k end → w.sessions + 1 < 2 ^ 32 → IsSetForDrops k x (older_of may)
+    is_set_for_drops room drops small = record {
       only = record { rule = setup.demo.rule; server = server_role k setup; client = client_role k setup; drops = drops.drops };
-      places = are_places k setup fits w clean side rest known small may;
+      places = are_places k setup fits w clean side rest (known room) small may;
       service_is = own_service may;
       window = setup.demo.window;
       chunk = setup.demo.chunk;
@@ -291,7 +287,7 @@ module _ (k : Setup) (setup : IsSetup k) (w end : World) (side : Side) (command 
     }
 
   -- THE TRANSFER STARTS
-  module _ (t : Transfer) (asking : AsksClient command) (coming : w.coming ≡ command ∷ rest) (good : HasGoneWell k w) (later : NoneLater w.sessions w.numbered)
+  module _ (room : begun side < 256) (t : Transfer) (asking : AsksClient command) (coming : w.coming ≡ command ∷ rest) (good : HasGoneWell k w) (later : NoneLater w.sessions w.numbered)
       (so : starts k w command ≡ transfer_by w (live_transfers (method_id side) cds) (opens_with transfer_id (method_id side) [] cds) (call_count cds) t) where
     old_book : (h : HasCall k sds cds (fits side) side) → h.book ≡ book_with (old_places k setup fits w clean side rest h) h.book.rows None
     old_book h =
@@ -300,8 +296,8 @@ module _ (k : Setup) (setup : IsSetup k) (w end : World) (side : Side) (command 
         ∙ ap (λ rows. let c : Book = record { service = service_at k side b.service.time; rows = rows } in c) (sym (append-nil b.rows))
 
     opens : (may : May) → OpensThere k (x_of may) (older_of may) w command t ⊎ OpensAnew k (x_of may) (older_of may) w command t
-    opens (inl none) = inr (record { begins = on_new k setup fits w clean side rest known command t asking coming good so none; none = refl; sessions = asked_state k setup side })
-    opens (inr h) = inl (record { begins = on_old k setup fits w clean side rest known command t asking coming good so h; sessions = ap transfer_memo (old_book h) })
+    opens (inl none) = inr (record { begins = on_new k setup fits w clean side rest (known room) command t asking coming good so none; none = refl; sessions = asked_state k setup side })
+    opens (inr h) = inl (record { begins = on_old k setup fits w clean side rest (known room) command t asking coming good so h; sessions = ap transfer_memo (old_book h) })
 
     -- none of its words was said
     none_said : (ps : List Packet) → NoneLater w.sessions ps → HasNumbered (w.sessions + 1) ps 0
@@ -319,9 +315,9 @@ module _ (k : Setup) (setup : IsSetup k) (w end : World) (side : Side) (command 
         all_join (λ (p : Packet). (later : ℕ) → w.sessions < later → is_chunk_of later p ≡ false) w.numbered (asked ∷ []) later ((λ other high. refl), tt)
     numbered_so (inr h) = later
 
-    pub starts_so : RunsOut k w end → DropsFew k end → w.sessions + 1 < 2 ^ 32 → TURN_OF_TIME * w.times + 4 * TIMEOUT < 2 ^ 63 → (may : May) → Starts k (x_of may) (older_of may) w end t
+    pub starts_so : RunsOut k w end → DropsFew k end → w.sessions + 1 < 2 ^ 32 → TURN_OF_TIME * w.times + 4 * TIMEOUT < 2 ^ 63 → (may : May) → CanSurvive k (x_of may) (older_of may) w end t
     starts_so run drops small early may = record {
-      set = is_set_for_drops may drops small;
+      set = is_set_for_drops may room drops small;
       early = early;
       past = past_of may;
       begins = record { command = command; asks = asking; how = opens may; numbered = none_said (numbered_with k setup fits w clean side rest may) (numbered_so may) };

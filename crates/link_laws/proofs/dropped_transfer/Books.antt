@@ -175,5 +175,6 @@ still_beside k x t times after o m late b = record {
   service = ap (λ (s : Service). at_time s t) b.service;
   past = late;
   few = omega (arith, b.few, length-map b.book.rows (row_by (stage_ticks b.book.service.side t)));
+  room = omega (arith, b.room, length-map b.book.rows (row_by (stage_ticks b.book.service.side t)));
   at_client = beside_later x t times after k o.name b.at_client;
 }

@@ -17,11 +17,11 @@ use Rattle.transfer_resume.specs.Hears.{session_hears}
 use Rattle.transfer_laws.specs.pairs.Pair.{words_of}
 use Rattle.transfer_laws.specs.losses.Drops.{LeadsTo, LossyPair, at_time, client_heard, kept, missing, server_heard, session_ticks, step, step_by, time_passed, waits_by}
 use Rattle.link_laws.specs.declared.world.limits.TheConstants.{TURN_OF_TIME}
-use Rattle.link_laws.specs.world.Lines.{finished, transfer_end, transfer_line}
+use Rattle.link_laws.specs.world.Lines.{finished, line_telling, transfer_end, transfer_line}
 use Rattle.link_laws.specs.world.Turns.{ending, kind_by, next_kind}
 use Rattle.link_laws.specs.world.World.{Setup, Tasked, Transfer, Under, World, reads, transferring, writes}
 use Rattle.link_laws.specs.rounds.Carrying.{carrying}
-use Rattle.link_laws.specs.lossless_transfer.Finishes.{Passes, RunsOut, line_telling}
+use Rattle.link_laws.specs.lossless_transfer.Finishes.{Passes, RunsOut}
 use Rattle.link_laws.specs.lossless_transfer.Shows.{IsUnderWay, Places, tasked_with, up_packet}
 use Rattle.link_laws.proofs.lossless_transfer.Chain.{Begun, down_first, further, goes_on, here, up_first}
 use Rattle.link_laws.proofs.lossless_transfer.Linking.{finished_on, finished_over}

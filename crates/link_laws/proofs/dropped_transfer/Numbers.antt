@@ -23,7 +23,8 @@ use Rattle.transfer_laws.specs.pairs.Pair.{words_of}
 use Rattle.transfer_laws.specs.losses.Drops.{kept, missing}
 use Rattle.transfer_laws.specs.losses.Survives.{is_among}
 use Rattle.link_laws.specs.world.Lines.{finished}
-use Rattle.link_laws.specs.world.Reports.{carries_chunk, is_message_type}
+use Rattle.history_laws.specs.messages.Messages.{is_stream}
+use Rattle.link_laws.specs.world.Reports.{carries_chunk}
 use Rattle.link_laws.specs.world.World.{Setup, World}
 use Rattle.link_laws.proofs.plain_calls.Numbers.{finished_numbered, numbered_grow}
 use Rattle.link_laws.proofs.plain_calls.Spared.{get_seam}
@@ -174,11 +175,11 @@ names_no_other session another w apart = at w (ne_eqb session another apart)
     at (completion status) unlike = ap (λ b. b || false) unlike
     at completion_ack unlike = ap (λ b. b || false) unlike
 
-pub is_own : (type : PacketType) (name : CallName) (session : ℕ) (w : Word) → session < 2 ^ 32 → FitsChunk w → is_message_type type ≡ true → name.service ≡ transfer_id
+pub is_own : (type : PacketType) (name : CallName) (session : ℕ) (w : Word) → session < 2 ^ 32 → FitsChunk w → is_stream type ≡ true → name.service ≡ transfer_id
     → is_chunk_of session (packet_saying type name session w) ≡ true
 is_own type name session w small fits message service =
     and_from (carries_chunk (packet_saying type name session w)) (names_session session (chunk_of (text_in session w)))
-    (and_from (is_message_type type) (name.service == transfer_id) message (eq-eqb name.service transfer_id service))
+    (and_from (is_stream type) (name.service == transfer_id) message (eq-eqb name.service transfer_id service))
     (ap (names_session session) (words_are_heard session w small fits).read ∙ names_own session w)
 
 pub is_no_other : (type : PacketType) (name : CallName) (session another : ℕ) (w : Word) → session < 2 ^ 32 → FitsChunk w → session ≢ another
@@ -231,7 +232,7 @@ module _ (k : Setup) (x : Places) (small : x.session < 2 ^ 32) (service : x.clie
   stray_not_own s older = is_no_other ServerStream s.name s.session x.session (completion Okay) (omega (arith, small, older)) tt (λ same. omega (arith, same, older))
 
   -- words of one of the ends
-  module _ (type : PacketType) (message : is_message_type type ≡ true) (name : CallName) (named : x.client_opening.name ≡ name) where
+  module _ (type : PacketType) (message : is_stream type ≡ true) (name : CallName) (named : x.client_opening.name ≡ name) where
     abbrev saying : Word → Packet
     saying w = packet_saying type name x.session w
 
@@ -294,7 +295,7 @@ module _ (k : Setup) (x : Places) (small : x.session < 2 ^ 32) (service : x.clie
         ap (λ (ps : List Packet). is_among (lost_among test (is_dropped k) 0 0 ps) (suc n)) are
         ∙ number_lost test (is_dropped k) before p more 0 0 (suc n) (suc (length before)) is (omega (arith, many)) (omega arith)
 
-    module _ (type : PacketType) (message : is_message_type type ≡ true) (name : CallName) (named : x.client_opening.name ≡ name) where
+    module _ (type : PacketType) (message : is_stream type ≡ true) (name : CallName) (named : x.client_opening.name ≡ name) where
       words_go_on : (before more : List Packet) (ws : List Word) (n frames : ℕ) → far.numbered ≡ before ++ (map (saying type message name named) ws ++ more) → length before ≡ frames → count_by test before ≡ n
           → AllByRecursion FitsChunk ws → goes frames ws ≡ kept lost n ws
       words_go_on before more [] n frames are long many fits = refl

@@ -70,9 +70,9 @@ record Heard (k : Setup) (at : ℕ) (big now : World) (p : Packet) (ps : List Pa
 one_heard : (k : Setup) (at : ℕ) (big now : World) (p : Packet) (ps : List Packet) → IsSendable Client p → IsBetweenFrames big.fed_client → moment big ≡ at
     → ClientHears k big (frame_of p) (map frame_of ps) now → Heard k at big now p ps
 one_heard k at big now p ps fits between time t =
-    let packets : t.packets ≡ p ∷ [] = heard_front Client big.fed_client (frame_of p) p t.packets fits between refl t.heard in
+    let packets : t.hears.packets ≡ p ∷ [] = heard_front Client big.fed_client (frame_of p) p t.hears.packets fits between refl t.hears.heard in
     let first : ClientTakes k.client (moment big) (p ∷ []) big.client (task_of big) t.after t.task =
-    subst (λ qs. ClientTakes k.client (moment big) qs big.client (task_of big) t.after t.task) packets t.takes in
+    subst (λ qs. ClientTakes k.client (moment big) qs big.client (task_of big) t.after t.task) packets t.hears.takes in
     let arrived : List Entry = adding big.client input_seat (Arrive p) in
     let a : ClientSettles k.client (moment big) arrived (task_of big) t.after first.1 = subst (λ h. ClientSettles k.client (moment big) arrived (task_of big) h first.1) (sym first.3.0) first.2 in
     let b : ClientSettles k.client (moment big) arrived (task_of big) t.after t.task = subst (λ u. ClientSettles k.client (moment big) arrived (task_of big) t.after u) (sym first.3.1) a in

@@ -25,7 +25,8 @@ use Rattle.transfer_laws.proofs.losses.ReadSurvival.{reads_survive}
 use Rattle.transfer_laws.proofs.losses.RefusalSurvival.{refusals_survive}
 use Rattle.transfer_laws.proofs.losses.WriteSurvival.{writes_survive}
 use Rattle.link_laws.specs.world.World.{Setup, Transfer, World, reads, writes}
-use Rattle.link_laws.specs.lossless_transfer.Finishes.{Passes, ReadFits, WriteFits, line_telling}
+use Rattle.link_laws.specs.world.Lines.{line_telling}
+use Rattle.link_laws.specs.lossless_transfer.Finishes.{Passes, ReadFits, WriteFits}
 use Rattle.link_laws.specs.lossless_transfer.Shows.{Places, moment_at}
 use Rattle.link_laws.proofs.lossless_transfer.Beginning.{CanBegin}
 use Rattle.link_laws.proofs.lossless_transfer.Chain.{here, then_passes}
@@ -37,7 +38,7 @@ use Rattle.link_laws.proofs.plain_calls.Numbers.{numbered_grow}
 use Rattle.link_laws.specs.dropped_transfer.Dropped.{DropsFew, is_confirmation, loses, lost_numbers}
 use Rattle.link_laws.specs.dropped_transfer.Sessions.{at_turn}
 use Rattle.link_laws.specs.dropped_transfer.Shows.{IsLostIn, LeftDropping, ShowsLossy}
-use Rattle.link_laws.specs.dropped_transfer.Survives.{HasSurvived, ReadsSurviveDrops, RefusalsSurviveDrops, Starts, WritesSurviveDrops}
+use Rattle.link_laws.specs.dropped_transfer.Survives.{HasSurvived, ReadsSurviveDrops, RefusalsSurviveDrops, CanSurvive, WritesSurviveDrops}
 use Rattle.link_laws.proofs.dropped_transfer.Begin.{begins_so}
 use Rattle.link_laws.proofs.dropped_transfer.Chain.{Come, follows, leads_past}
 use Rattle.link_laws.proofs.dropped_transfer.Late.{ReadAt, WriteAt, reads_keep_time, writes_keep_time}
@@ -75,7 +76,7 @@ spared_word k x far drops named small (completion status) lost = tt
 spared_word k x far drops named small completion_ack lost = tt
 
 module _ {A : Type 0} (rules : Rules A) (wrap : A → Transfer) (P : ℕ → A → Type 0) (wrapped : IsWrapped rules wrap) (keeps : KeepsTime rules P) (k : Setup) (x : Places) (older : List Row) (big far : World) (t : A)
-    (starts : Starts k x older big far (wrap t)) (can : CanBegin rules (P (moment_at x)) (moment_at x) t) where
+    (starts : CanSurvive k x older big far (wrap t)) (can : CanBegin rules (P (moment_at x)) (moment_at x) t) where
   abbrev lost : ℕ → Bool
   lost = loses k x.session far
 

@@ -114,7 +114,7 @@ module _ (k : Setup) (x : Places) (older : List Row) (set : IsSetForDrops k x ol
         stream = at.others c o call.0 apart call.1;
         outs = outs_at b.book.service.side t b.book.rows;
         answer = by_demo call.0 ∙ beside_answers k x o call.0 t b;
-        few = omega (arith, outs_few b.book.service.side t b.book.rows b.settled, b.few);
+        few = omega (arith, outs_few b.book.service.side t b.book.rows b.settled, b.room);
         mixed = call_mixed k x k.server ds c o b.book.service.side t b.book.rows set.only.server (inr b.at_client) b.settled b.before;
       }
 

@@ -26,7 +26,7 @@ use Rattle.history_laws.specs.rounds.Streams.{HasStream, IsAtRest}
 use Rattle.link_laws.specs.world.Setup.{quiet_rule}
 use Rattle.link_laws.specs.world.World.{Setup, World, client_deeds, server_deeds}
 use Rattle.link_laws.specs.plain_calls.Between.{HasCall, HasChannel, HasNoCall, IsClean, MayTransfer, NoneBySide, OnlyBySide, is_by_side}
-use Rattle.link_laws.specs.lossless_transfer.Shows.{AtClient, Left, Places, ServesSession, Stands, count_of}
+use Rattle.link_laws.specs.lossless_transfer.Shows.{AtClient, Left, Places, ServesSession, PairStands, count_of}
 use Rattle.link_laws.proofs.lossless_scripts.Starting.{FitsStill, IsSetup, method_id, new_client, new_server, new_places, not_both, old_places, own_name, places_for, read_not_write, same_side, service_at, sessions_before, told_time, write_not_read}
 
 -- one session more was begun
@@ -36,7 +36,7 @@ one_more Read begun Write = begun Write
 one_more Write begun Read = begun Read
 one_more Write begun Write = begun Write + 1
 
-own_more : (side : Side) (begun : Side → ℕ) → one_more side begun side ≡ begun side + 1
+pub own_more : (side : Side) (begun : Side → ℕ) → one_more side begun side ≡ begun side + 1
 own_more Read begun = refl
 own_more Write begun = refl
 
@@ -323,7 +323,7 @@ module _ (k : Setup) (setup : IsSetup k) (begun : Side → ℕ) (w : World) (cle
 
   pub clean_again : (lines : List ReportLine) (mid : World) (stage : Option Stage) (said : ℕ) → Left k x lines mid stage [] [] said → IsClean k (FitsStill k mid.sessions (one_more side begun)) mid
   clean_again lines mid stage said left =
-      let stands : Stands k x mid stage [] [] said = left.stands in
+      let stands : PairStands k x mid stage [] [] said = left.stands in
       let s : ServesSession x stands.server.memo stage = stands.server.serves in
       left_is_clean k setup (FitsStill k w.sessions begun) w clean side rest may (FitsStill k mid.sessions (one_more side begun)) mid
       (record {

@@ -30,7 +30,8 @@ use Rattle.link_laws.specs.world.World.{Setup, Transfer, World, client_deeds, cl
 use Rattle.link_laws.specs.plain_calls.Between.{IsClean, MayTransfer, side_name}
 use Rattle.link_laws.specs.plain_calls.Commands.{HasGoneWell, IsLineOf, PassesOn, RunsOn}
 use Rattle.link_laws.specs.lossless_transfer.Begins.{Begins}
-use Rattle.link_laws.specs.lossless_transfer.Finishes.{IsOver, IsSetFor, Passes, RunsOut, line_telling}
+use Rattle.link_laws.specs.world.Lines.{line_telling}
+use Rattle.link_laws.specs.lossless_transfer.Finishes.{IsOver, IsSetFor, Passes, RunsOut}
 use Rattle.link_laws.specs.lossless_transfer.Shows.{HasSaid, IsSaid, Places, packet_saying}
 use Rattle.std.proofs.Common.{◌≢◌}
 use Rattle.std.proofs.lemmas.Bool.{and_right, ne_eqb}

@@ -143,6 +143,11 @@ fresh_name ds n name names more = at (live_call ds name) refl
         let named = live_named ds name c e in
         absurd (omega (arith, more, at_place (calls ds) c named.opening names named.there, ap (λ (x : CallName). x.call) named.name_is))
 
+-- how many sessions the call of a method has had; none, where it wasn't opened
+abbrev pub had_sessions : (k : Setup) (sds cds : List Deed) (fits : Book → Type 0) (side : Side) → MayTransfer k sds cds fits side → ℕ
+had_sessions k sds cds fits side (inl none) = 0
+had_sessions k sds cds fits side (inr h) = length h.book.rows
+
 -- A SETUP OF A SCRIPT
 pub record IsSetup (k : Setup) : Type 0 where
   pub demo : IsDemo k
@@ -281,6 +286,10 @@ module _ (k : Setup) (setup : IsSetup k) where
     told_time (inl none) = 0
     told_time (inr h) = h.book.service.time
 
+    -- how many sessions each call of the transfer service had before
+    abbrev pub had_before : Side → ℕ
+    had_before other = had_sessions k sds cds (fits other) other (clean.transfers other)
+
     abbrev pub sessions_before : May → List Row
     sessions_before (inl none) = []
     sessions_before (inr h) = h.book.rows
@@ -307,6 +316,7 @@ module _ (k : Setup) (setup : IsSetup k) where
       client_opening = client_opened may;
       service = service_at k side (told_time may);
       older = length (sessions_before may);
+      had = had_before;
       server = w.server;
       client = w.client;
       server_calls = server_calls_with may;

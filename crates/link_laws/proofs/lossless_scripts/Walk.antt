@@ -141,6 +141,12 @@ module _ (s : Script) (o : IsOpenScript s) (calm : NoFlips s.losses) (now : Worl
   same_numbered =
       ends_are_quiet k run.before now (ends_rest k s.commands run.count run.before calm run.turns well_before_end.server well_before_end.client) run.ends server.lawful client.lawful
 
+  -- and no session is begun
+  pub same_sessions : now.sessions ≡ run.before.sessions
+  same_sessions =
+      ap (λ (x : World). x.sessions) run.ends.is
+      ∙ (client_keeps k (λ x. x.sessions) (λ x p. refl) (with_server k run.before run.ends.server) run.ends.client ∙ server_keeps k (λ x. x.sessions) (λ x p. refl) run.before run.ends.server)
+
   same_lines : now.lines ≡ run.before.lines
   same_lines =
       ap (λ (x : World). x.lines) run.ends.is

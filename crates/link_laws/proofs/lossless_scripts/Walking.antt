@@ -44,9 +44,10 @@ use Rattle.link_laws.proofs.plain_calls.Commands.{lacking_writes_pass, next_by, 
 use Rattle.link_laws.specs.lossless_transfer.Chunks.{is_chunk_of, names_session}
 use Rattle.link_laws.specs.lossless_scripts.Lossless.{EndsAs, LosslessRunsEndWell, chunks_of}
 use Rattle.link_laws.specs.lossless_scripts.Scripts.{IsOpenScript, LeavesOpen}
+use Rattle.link_laws.proofs.lossless_scripts.Begun.{start_counts, write_begins}
 use Rattle.link_laws.proofs.lossless_scripts.Passing.{TransferPasses, read_passes, write_passes}
 use Rattle.link_laws.proofs.lossless_scripts.Starting.{FitsStill, IsSetup}
-use Rattle.link_laws.proofs.lossless_scripts.Walk.{IsOnWay, Leads, all_end, ended_now, none_left, runs_to_end, same_numbered, script_setup, turns_join}
+use Rattle.link_laws.proofs.lossless_scripts.Walk.{IsOnWay, Leads, all_end, ended_now, none_left, runs_to_end, same_numbered, same_sessions, script_setup, turns_join}
 
 -- HOW MANY PASS A TEST
 module _ {A : Type 0} (test : A → Bool) where
@@ -88,7 +89,7 @@ module _ (k : Setup) (setup : IsSetup k) (losses : k.losses ≡ []) (commands : 
     own : AllByRecursion (λ p. (session : ℕ) → (session ≤ w.sessions) ⊎ (sessions < session) → is_chunk_of session p ≡ false) passes.said
     timeless : passes.mid.times ≡ 0
     reads : begun Read + count_by (asks_for Read) rest ≤ 256
-    writes : begun Write + count_by (asks_for Write) rest ≤ 256
+    writes : begun Write + end.sessions ≤ sessions + count_by (asks_for Read) rest + 256
 
   -- a world on the way, between two commands
   record Stands (cs : List Command) (w : World) : Type 0 where
@@ -102,7 +103,7 @@ module _ (k : Setup) (setup : IsSetup k) (losses : k.losses ≡ []) (commands : 
     fit : AllByRecursion IsCommand cs
     leave_open : AllByRecursion LeavesOpen cs
     reads : begun Read + count_by (asks_for Read) cs ≤ 256
-    writes : begun Write + count_by (asks_for Write) cs ≤ 256
+    writes : begun Write + end.sessions ≤ w.sessions + count_by (asks_for Read) cs + 256
     sessions : w.sessions + length cs < 2 ^ 32
     before : AllByRecursion (λ p. (session : ℕ) → w.sessions < session → is_chunk_of session p ≡ false) w.numbered
 
@@ -110,7 +111,7 @@ module _ (k : Setup) (setup : IsSetup k) (losses : k.losses ≡ []) (commands : 
   good cs w s = well_before k w end (turns_go_on k undamaged s.run.count w end s.run.turns) s.run.well
 
   plain : (w : World) (command : Command) (rest : List Command) (begun : Side → ℕ) → w.times ≡ 0 → PassesQuietly k (FitsStill k w.sessions begun) w end w.sessions command rest → ((told : ReportLine) (chunks : ℕ) → EndsAs k w command told chunks)
-      → begun Read + count_by (asks_for Read) rest ≤ 256 → begun Write + count_by (asks_for Write) rest ≤ 256 → CommandPasses w command rest
+      → begun Read + count_by (asks_for Read) rest ≤ 256 → begun Write + end.sessions ≤ w.sessions + count_by (asks_for Read) rest + 256 → CommandPasses w command rest
   plain w command rest begun timeless p ends reads writes = record {
     begun = begun;
     sessions = w.sessions;
@@ -136,7 +137,7 @@ module _ (k : Setup) (setup : IsSetup k) (losses : k.losses ≡ []) (commands : 
   fewer w (Close channel) told most chunks few ends = record { okay = tt; few = tt }
 
   transferred : (w : World) (command : Command) (rest : List Command) (begun : Side → ℕ) → TransferPasses k begun w end command rest
-      → begun Read + count_by (asks_for Read) rest ≤ 256 → begun Write + count_by (asks_for Write) rest ≤ 256 → CommandPasses w command rest
+      → begun Read + count_by (asks_for Read) rest ≤ 256 → begun Write + end.sessions ≤ w.sessions + 1 + count_by (asks_for Read) rest + 256 → CommandPasses w command rest
   transferred w command rest begun t reads writes = record {
     begun = begun;
     sessions = w.sessions + 1;
@@ -157,17 +158,17 @@ module _ (k : Setup) (setup : IsSetup k) (losses : k.losses ≡ []) (commands : 
 
   -- a call of demo.Demo
   plainly : (w : World) (command : Command) (rest : List Command) → Stands (command ∷ rest) w → IsPlain command → ((told : ReportLine) (chunks : ℕ) → EndsAs k w command told chunks)
-      → count_by (asks_for Read) (command ∷ rest) ≡ count_by (asks_for Read) rest → count_by (asks_for Write) (command ∷ rest) ≡ count_by (asks_for Write) rest → CommandPasses w command rest
-  plainly w command rest s is ends reads writes =
+      → count_by (asks_for Read) (command ∷ rest) ≡ count_by (asks_for Read) rest → CommandPasses w command rest
+  plainly w command rest s is ends reads =
       plain w command rest s.begun s.timeless (plain_commands_pass k (FitsStill k w.sessions s.begun) w end command rest undamaged spares setup.demo.client is s.clean s.coming s.run) ends
-      (let few = s.reads in omega (arith, few, reads)) (let few = s.writes in omega (arith, few, writes))
+      (let few = s.reads in omega (arith, few, reads)) (let few = s.writes in omega (arith, few, reads))
 
   passes : (command : Command) (rest : List Command) (w : World) → Stands (command ∷ rest) w → CommandPasses w command rest
   passes (ReadIt resource offset) rest w s =
       let t : TransferPasses k _ w end (ReadIt resource offset) rest =
       read_passes k setup losses s.begun w end s.clean s.timeless rest s.run (good (ReadIt resource offset ∷ rest) w s) resource offset s.coming (let sessions = s.sessions in omega (arith, sessions)) (let reads = s.reads in omega (arith, reads, one_read))
       s.fit.0.0 s.fit.0.1 (sizes resource) in
-      transferred w (ReadIt resource offset) rest _ t (let reads = s.reads in omega (arith, reads, one_read)) s.writes
+      transferred w (ReadIt resource offset) rest _ t (let reads = s.reads in omega (arith, reads, one_read)) (let writes = s.writes in omega (arith, writes, one_read))
     where
       one_read : count_by (asks_for Read) (ReadIt resource offset ∷ rest) ≡ 1 + count_by (asks_for Read) rest
       one_read = sum_by-cons (λ c. cond (asks_for Read c) 1 0) (ReadIt resource offset) rest
@@ -176,22 +177,31 @@ module _ (k : Setup) (setup : IsSetup k) (losses : k.losses ≡ []) (commands : 
       in_store : IsSmall (client_store k w)
       in_store = stores_stay_small k commands s.count w small each s.way
 
-      one_write : count_by (asks_for Write) (WriteIt resource offset ∷ rest) ≡ 1 + count_by (asks_for Write) rest
-      one_write = sum_by-cons (λ c. cond (asks_for Write c) 1 0) (WriteIt resource offset) rest
+      no_read : count_by (asks_for Read) (WriteIt resource offset ∷ rest) ≡ count_by (asks_for Read) rest
+      no_read = refl
+
+      -- the run has begun its session, and those of the reads to come, when it ends
+      one_write : (bytes : List ℕ) → found resource (client_store k w).full ≡ Some bytes → w.sessions + 1 + count_by (asks_for Read) rest ≤ end.sessions
+      one_write bytes has =
+          omega (
+            arith,
+            write_begins k w resource offset bytes has,
+            start_counts k s.run.count w end (WriteIt resource offset) rest s.run.turns s.run.is_last (next_by k (FitsStill k w.sessions s.begun) w (WriteIt resource offset ∷ rest) s.clean s.coming),
+          )
 
       by_bytes : (o : Option (List ℕ)) → found resource (client_store k w).full ≡ o → CommandPasses w (WriteIt resource offset) rest
       by_bytes None none =
           plain w (WriteIt resource offset) rest s.begun s.timeless (lacking_writes_pass k (FitsStill k w.sessions s.begun) w end resource offset rest undamaged spares none s.clean s.coming s.run)
-          (λ told chunks. record { okay = λ bytes has. (let never : None ≡ Some bytes = sym none ∙ has in cc never); few = λ bytes has. (let never : None ≡ Some bytes = sym none ∙ has in cc never) }) s.reads (let writes = s.writes in omega (arith, writes, one_write))
+          (λ told chunks. record { okay = λ bytes has. (let never : None ≡ Some bytes = sym none ∙ has in cc never); few = λ bytes has. (let never : None ≡ Some bytes = sym none ∙ has in cc never) }) s.reads (let writes = s.writes in omega (arith, writes, no_read))
       by_bytes (Some bytes) has =
           let t : TransferPasses k _ w end (WriteIt resource offset) rest =
-          write_passes k setup losses s.begun w end s.clean s.timeless rest s.run (good (WriteIt resource offset ∷ rest) w s) resource offset s.coming (let sessions = s.sessions in omega (arith, sessions)) (let writes = s.writes in omega (arith, writes, one_write))
+          write_passes k setup losses s.begun w end s.clean s.timeless rest s.run (good (WriteIt resource offset ∷ rest) w s) resource offset s.coming (let sessions = s.sessions in omega (arith, sessions)) (let writes = s.writes in omega (arith, writes, no_read, one_write bytes has))
           bytes has s.fit.0.0 (look_up (λ e. length e.1 ≤ MAX_RESOURCE) (is_at (nat_cmp resource)) (client_store k w).full bytes has in_store.full).holds in
-          transferred w (WriteIt resource offset) rest _ t s.reads (let writes = s.writes in omega (arith, writes, one_write))
-  passes (Echo bytes) rest w s = plainly w (Echo bytes) rest s tt (λ told chunks. record { okay = tt; few = tt }) refl refl
-  passes (Count n) rest w s = plainly w (Count n) rest s tt (λ told chunks. record { okay = tt; few = tt }) refl refl
-  passes (Sum bytes) rest w s = plainly w (Sum bytes) rest s tt (λ told chunks. record { okay = tt; few = tt }) refl refl
-  passes (Chat bytes) rest w s = plainly w (Chat bytes) rest s tt (λ told chunks. record { okay = tt; few = tt }) refl refl
+          transferred w (WriteIt resource offset) rest _ t s.reads (let writes = s.writes in omega (arith, writes, no_read))
+  passes (Echo bytes) rest w s = plainly w (Echo bytes) rest s tt (λ told chunks. record { okay = tt; few = tt }) refl
+  passes (Count n) rest w s = plainly w (Count n) rest s tt (λ told chunks. record { okay = tt; few = tt }) refl
+  passes (Sum bytes) rest w s = plainly w (Sum bytes) rest s tt (λ told chunks. record { okay = tt; few = tt }) refl
+  passes (Chat bytes) rest w s = plainly w (Chat bytes) rest s tt (λ told chunks. record { okay = tt; few = tt }) refl
   passes (Close channel) rest w s = absurd s.leave_open.0
 
   on_way : (cs : List Command) (w : World) → Stands cs w → IsOnWay k commands end cs w
@@ -212,7 +222,7 @@ module _ (k : Setup) (setup : IsSetup k) (losses : k.losses ≡ []) (commands : 
         fit = s.fit.1;
         leave_open = s.leave_open.1;
         reads = p.reads;
-        writes = p.writes;
+        writes = (let writes = p.writes in let same = p.passes.sessions_are in omega (arith, writes, same));
         sessions = (let sessions = s.sessions in let few = p.few in let same = p.passes.sessions_are in omega (arith, sessions, few, same));
         before =
             subst (AllByRecursion (λ (q : Packet). (session : ℕ) → p.passes.mid.sessions < session → is_chunk_of session q ≡ false)) (sym p.passes.numbered)
@@ -319,7 +329,7 @@ server_sizes s is resource bytes has =
     (look_up (λ e. length e.1 ≤ MAX_RESOURCE) (λ id. id == resource) (setup_of s).server_store.full bytes has fit).holds
 
 pub lossless_runs_end_well : LosslessRunsEndWell
-lossless_runs_end_well s now number command is run server client there =
+lossless_runs_end_well s now number command is run few server client there =
     let k : Setup = setup_of s in
     let o : IsOpenScript s = is.script in
     let no_flips : NoFlips s.losses = subst NoFlips (sym is.losses) tt in
@@ -340,7 +350,7 @@ lossless_runs_end_well s now number command is run server client there =
       fit = o.script.commands;
       leave_open = o.closes_none;
       reads = (let few = o.few_reads in omega (arith, few));
-      writes = (let few = o.few_writes in omega (arith, few));
+      writes = (let same = same_sessions s o no_flips now run server client in omega (arith, few, same));
       sessions = (let few = o.script.few in omega (arith, few));
       before = tt;
     }) number command there))

@@ -48,7 +48,7 @@ use Rattle.link_laws.specs.world.Setup.{quiet_rule}
 use Rattle.link_laws.specs.world.Reports.{carries_chunk}
 use Rattle.link_laws.specs.world.Sound.{AreSendable, NoFlips}
 use Rattle.link_laws.specs.world.Starts.{Started, all_added, request, starts}
-use Rattle.link_laws.specs.world.Turns.{Asks, Starts, Turn, TurnOf, ending, kind_by, next_kind, task_under, under_with, with_command, with_frame_at_server, with_task}
+use Rattle.link_laws.specs.world.Turns.{Asks, StartTurn, Turn, TurnOf, ending, kind_by, next_kind, task_under, under_with, with_command, with_frame_at_server, with_task}
 use Rattle.link_laws.specs.world.World.{Setup, Tasked, Transfer, Under, World, all_sent_by, flushed_since, moment, packets_flushed, sent_by, transferring, with_client}
 use Rattle.link_laws.proofs.one_run.Keeping.{finish_keeps}
 use Rattle.link_laws.proofs.one_run.Links.{all_back, all_front}
@@ -61,7 +61,7 @@ use Rattle.link_laws.specs.lossless_transfer.Begins.{AsksClient, Begins, BeginsO
 use Rattle.link_laws.specs.lossless_transfer.Finishes.{IsOver, IsSetFor, Passes, RunsOut}
 use Rattle.link_laws.specs.rounds.Carrying.{carrying}
 use Rattle.link_laws.proofs.one_run.Links.{frame_of}
-use Rattle.link_laws.specs.lossless_transfer.Shows.{ArePlaces, AtClient, AtServer, GoesUp, IsKept, IsUnderWay, OthersStay, Places, Shows, moment_at, tasked_with, up_packet}
+use Rattle.link_laws.specs.lossless_transfer.Shows.{ArePlaces, AtClient, AtServer, GoesUp, IsKept, IsUnderWay, OthersStay, Places, ShowsPair, moment_at, tasked_with, up_packet}
 use Rattle.link_laws.proofs.lossless_transfer.Flushing.{client_words, none_complete, undone_more}
 use Rattle.link_laws.proofs.rounds.Carrying.{all_numbered, client_carries, gone_out}
 use Rattle.link_laws.proofs.lossless_transfer.Linking.{finished_on}
@@ -71,7 +71,7 @@ use Rattle.link_laws.proofs.lossless_transfer.ServerTurns.{Settled, first_up, se
 use Rattle.link_laws.proofs.lossless_transfer.Words.{said_more, said_none, words_up}
 use Rattle.link_laws.proofs.lossless_transfer.Chain.{Begun, comes_over, further, goes_on, heard_in, here, then_passes, up_first}
 
-asks_only : (k : Setup) (w now : World) (command : Command) (rest : List Command) → AsksClient command → Starts k w command rest now → Asks k w command rest now
+asks_only : (k : Setup) (w now : World) (command : Command) (rest : List Command) → AsksClient command → StartTurn k w command rest now → Asks k w command rest now
 asks_only k w now (Close channel) rest asks t = absurd asks
 asks_only k w now (Read resource offset) rest asks t = t
 asks_only k w now (Write resource offset) rest asks t = t
@@ -479,7 +479,7 @@ module _ {A : Type 0} (rules : Rules A) (wrap : A → Transfer) (P : A → Type 
   abbrev pub first_pair : Pair A
   first_pair = first x.service rules (moment_at x) t
 
-  shows_first : (memo : Memo) (big : World) → HasBegun wrap k x (rules.opens t (moment_at x)).after words words memo big → Shows wrap k x big first_pair
+  shows_first : (memo : Memo) (big : World) → HasBegun wrap k x (rules.opens t (moment_at x)).after words words memo big → ShowsPair wrap k x big first_pair
   shows_first memo big b = record {
     stands = record {
       server = b.server.0;

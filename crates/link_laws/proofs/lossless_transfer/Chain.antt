@@ -12,15 +12,15 @@ use Rattle.transfer_resume.specs.declared.stage.Stage.{Stage}
 use Rattle.transfer_resume.specs.Hears.{session_hears}
 use Rattle.transfer_client.specs.Machine.{Rules}
 use Rattle.transfer_laws.specs.pairs.Pair.{EndsSo, LeadsTo, Pair, TakesInSilence, client_said, server_said, turn_by, words_of}
-use Rattle.link_laws.specs.world.Lines.{finished, transfer_end, transfer_line}
+use Rattle.link_laws.specs.world.Lines.{finished, line_telling, transfer_end, transfer_line}
 use Rattle.link_laws.specs.world.Sound.{AreSendable, NoFlips}
 use Rattle.link_laws.specs.world.Turns.{MakesTurn, Turns, ending, kind_by, next_kind}
 use Rattle.link_laws.specs.world.World.{Setup, Tasked, Transfer, World, reads, writes}
 use Rattle.link_laws.proofs.one_run.Parts.{GoesOn, flushed_before}
 use Rattle.link_laws.proofs.one_run.Ways.{turns_go_on}
 use Rattle.link_laws.specs.rounds.Carrying.{carrying}
-use Rattle.link_laws.specs.lossless_transfer.Shows.{IsUnderWay, Left, Places, Shows, Stands, down_packet, moment_at, tasked_with, up_packet}
-use Rattle.link_laws.specs.lossless_transfer.Finishes.{IsOver, IsSetFor, Passes, RunsOut, line_telling}
+use Rattle.link_laws.specs.lossless_transfer.Shows.{IsUnderWay, Left, Places, ShowsPair, PairStands, down_packet, moment_at, tasked_with, up_packet}
+use Rattle.link_laws.specs.lossless_transfer.Finishes.{IsOver, IsSetFor, Passes, RunsOut}
 use Rattle.link_laws.proofs.lossless_transfer.Linking.{finished_idle, finished_on, finished_over}
 use Rattle.link_laws.proofs.lossless_transfer.Machines.{IsWrapped, KeepsOn}
 use Rattle.link_laws.proofs.lossless_transfer.ServiceWords.{SessionFits}
@@ -91,14 +91,14 @@ module _ (k : Setup) (x : Places) (set : IsSetFor k x) (lines : List ReportLine)
       let t : ServerTurned k x set big b.next stage c rest [] n =
       server_turned k x set big b.next stage c rest [] n left.stands fits b.turn.turn (heard_by k set.lossless.losses b.next far b.run) in
       let after : Option Stage = (session_hears x.service true stage c).after in
-      let stands : Stands k x t.world after rest [] n = by_none (words_of (session_hears x.service true stage c).sayings) quiet t.world t.stands in
+      let stands : PairStands k x t.world after rest [] n = by_none (words_of (session_hears x.service true stage c).sayings) quiet t.world t.stands in
       let idle : t.world.under ≡ None = t.under ∙ left.idle in
       let same : b.next ≡ t.world = t.ends ∙ finished_idle k t.world (map (up_packet x) rest) [] stands.to_server stands.to_client idle in
       (subst (λ w. Left k x lines w after rest [] n) (sym same) (record { stands = stands; idle = idle; told = t.lines ∙ left.told }), t.fits)
     where
-      by_none : (ws : List Word) → ws ≡ [] → (w : World) → Stands k x w (session_hears x.service true stage c).after rest ([] ++ ws) (n + length ws)
-          → Stands k x w (session_hears x.service true stage c).after rest [] n
-      by_none [] none w stands = subst (λ m. Stands k x w (session_hears x.service true stage c).after rest [] m) (omega arith) stands
+      by_none : (ws : List Word) → ws ≡ [] → (w : World) → PairStands k x w (session_hears x.service true stage c).after rest ([] ++ ws) (n + length ws)
+          → PairStands k x w (session_hears x.service true stage c).after rest [] n
+      by_none [] none w stands = subst (λ m. PairStands k x w (session_hears x.service true stage c).after rest [] m) (omega arith) stands
       by_none (w ∷ ws) none _ stands = absurd cc
 
   pub drains : (ups : List Word) (big : World) (stage after : Option Stage) (n : ℕ) → TakesInSilence x.service stage ups after → SessionFits stage → Left k x lines big stage ups [] n
@@ -116,7 +116,7 @@ length_told k w task (writes u) status = (_, refl)
 
 -- The transfer under way has ended so: the end of the turn tells its line, and adds nothing else.
 module _ (k : Setup) (x : Places) (t : Transfer) (w now : World) (a : Option Stage) (ups downs : List Word) (m : ℕ) (s : Status) where
-  line_only : (told : ReportLine) → Stands k x w a ups downs m → w.lines ≡ x.lines → Left k x (x.lines ++ told ∷ []) (record w { under = None; lines = w.lines ++ told ∷ [] }) a ups downs m
+  line_only : (told : ReportLine) → PairStands k x w a ups downs m → w.lines ≡ x.lines → Left k x (x.lines ++ told ∷ []) (record w { under = None; lines = w.lines ++ told ∷ [] }) a ups downs m
   line_only told st lines = record {
     stands = record {
       server = st.server;
@@ -134,7 +134,7 @@ module _ (k : Setup) (x : Places) (t : Transfer) (w now : World) (a : Option Sta
     told = ap (λ (ls : List ReportLine). ls ++ told ∷ []) lines;
   }
 
-  pub over_so : Stands k x w a ups downs m → IsUnderWay x t w → now ≡ finished k w → transfer_end t ≡ Some s
+  pub over_so : PairStands k x w a ups downs m → IsUnderWay x t w → now ≡ finished k w → transfer_end t ≡ Some s
       → (bytes : ℕ) × Left k x (x.lines ++ line_telling t s bytes ∷ []) now a ups downs m
   over_so st on ends end =
       let line : ReportLine = transfer_line k w (tasked_with x t) t s in
@@ -151,7 +151,7 @@ module _ {A : Type 0} (rules : Rules A) (wrap : A → Transfer) (P : A → Type 
     (far : World) (last : Pair A) (status : Status) (over : rules.end_of last.client ≡ Some status) where
   -- the world shows the pair, whose words fit
   pub record Going (big : World) (w : Pair A) : Type 0 where
-    pub shows : Shows wrap k x big w
+    pub shows : ShowsPair wrap k x big w
     pub fits : SessionFits w.server
     pub holds : P w.client
 
@@ -265,7 +265,7 @@ turns_join k (suc n) a b c m first second = (let rest = turns_join k n first.0 b
 -- BOTH TOGETHER: the world comes to the end that the two ends come to by themselves.
 module _ {A : Type 0} (rules : Rules A) (wrap : A → Transfer) (P : A → Type 0) (k : Setup) (x : Places) (set : IsSetFor k x) (wrapped : IsWrapped rules wrap) (keeps : KeepsOn rules (moment_at x) P) where
   pub comes_over : (big far : World) (w : Pair A) (end : A) (status : Status) (session : Option Stage) (most : ℕ) → EndsSo x.service rules (moment_at x) w end session most
-      → rules.end_of end ≡ Some status → rules.end_of w.client ≡ None → Shows wrap k x big w → SessionFits w.server → P w.client → RunsOut k big far
+      → rules.end_of end ≡ Some status → rules.end_of w.client ≡ None → ShowsPair wrap k x big w → SessionFits w.server → P w.client → RunsOut k big far
       → Passes k big far (IsOver k x (wrap end) status session most)
   comes_over big far w end status session most e over going shows fits holds run =
       let first = arrives rules wrap P k x set wrapped keeps far e.last status (ap rules.end_of e.client ∙ over) e.turns big w going e.way (record { shows = shows; fits = fits; holds = holds }) run in

@@ -39,7 +39,7 @@ use Rattle.link_laws.proofs.rounds.Polling.{messages_are_polled}
 use Rattle.link_laws.proofs.transfers_fit.Names.{called_same, settles_same}
 use Rattle.link_laws.specs.rounds.Carrying.{carrying}
 use Rattle.link_laws.proofs.one_run.Links.{frame_of}
-use Rattle.link_laws.specs.lossless_transfer.Shows.{AtClient, AtServer, GoesDown, IsUnderWay, Places, Stands, down_packet, moment_at, tasked_with, up_packet}
+use Rattle.link_laws.specs.lossless_transfer.Shows.{AtClient, AtServer, GoesDown, IsUnderWay, Places, PairStands, down_packet, moment_at, tasked_with, up_packet}
 use Rattle.link_laws.specs.lossless_transfer.Finishes.{IsSetFor}
 use Rattle.link_laws.proofs.lossless_transfer.Flushing.{client_words, none_complete, undone_more}
 use Rattle.link_laws.proofs.rounds.Carrying.{all_numbered, client_carries, gone_out}
@@ -68,9 +68,9 @@ pub record Worked (k : Setup) (at : ℕ) (big now : World) (p : Packet) (ps : Li
 pub worked : (k : Setup) (at : ℕ) (big now : World) (p : Packet) (ps : List Packet) (task : Tasked) → IsSendable Client p → IsBetweenFrames big.fed_client → moment big ≡ at
     → big.under ≡ Some (transferring task) → ClientHears k big (frame_of p) (map frame_of ps) now → Worked k at big now p ps task
 worked k at big now p ps task fits between time under t =
-    let packets : t.packets ≡ p ∷ [] = heard_front Client big.fed_client (frame_of p) p t.packets fits between refl t.heard in
+    let packets : t.hears.packets ≡ p ∷ [] = heard_front Client big.fed_client (frame_of p) p t.hears.packets fits between refl t.hears.heard in
     let first : ClientTakes k.client (moment big) (p ∷ []) big.client (task_of big) t.after t.task =
-    subst (λ qs. ClientTakes k.client (moment big) qs big.client (task_of big) t.after t.task) packets t.takes in
+    subst (λ qs. ClientTakes k.client (moment big) qs big.client (task_of big) t.after t.task) packets t.hears.takes in
     let arrived : List Entry = adding big.client input_seat (Arrive p) in
     let a : ClientSettles k.client (moment big) arrived (task_of big) t.after first.1 = subst (λ h. ClientSettles k.client (moment big) arrived (task_of big) h first.1) (sym first.3.0) first.2 in
     let b : ClientSettles k.client (moment big) arrived (task_of big) t.after t.task = subst (λ u. ClientSettles k.client (moment big) arrived (task_of big) t.after u) (sym first.3.1) a in
@@ -151,11 +151,11 @@ module _ {A : Type 0} (rules : Rules A) (wrap : A → Transfer) (P : A → Type 
   pub record ClientTurned : Type 0 where
     pub world : World
     pub ends : now ≡ finished k world
-    pub stands : Stands k x world stage told rest (n + length told)
+    pub stands : PairStands k x world stage told rest (n + length told)
     pub holds : P step.after
     pub task : IsUnderWay x (wrap step.after) world
 
-  module _ (st : Stands k x big stage [] (c ∷ rest) n) (task : IsUnderWay x (wrap t) big) (holds : P t) (going : rules.end_of t ≡ None) (turn : Turn k big now) (heard : AreSendable k now) where
+  module _ (st : PairStands k x big stage [] (c ∷ rest) n) (task : IsUnderWay x (wrap t) big) (holds : P t) (going : rules.end_of t ≡ None) (turn : Turn k big now) (heard : AreSendable k now) where
     abbrev p : Packet
     p = down_packet x c
 

@@ -37,7 +37,7 @@ use Rattle.link_laws.specs.world.World.{Setup, World, flushed_since, packets_flu
 use Rattle.link_laws.proofs.one_run.Parts.{closed_by_front, finished_server, flushed_later, heard_front, server_keeps}
 use Rattle.link_laws.specs.rounds.Carrying.{carrying}
 use Rattle.link_laws.proofs.one_run.Links.{frame_of}
-use Rattle.link_laws.specs.lossless_transfer.Shows.{AtClient, AtServer, GoesDown, Places, ServesSession, Stands, down_packet, up_packet}
+use Rattle.link_laws.specs.lossless_transfer.Shows.{AtClient, AtServer, GoesDown, Places, ServesSession, PairStands, down_packet, up_packet}
 use Rattle.link_laws.specs.lossless_transfer.Finishes.{IsSetFor}
 use Rattle.link_laws.proofs.lossless_transfer.Flushing.{answer_words}
 use Rattle.link_laws.proofs.rounds.Carrying.{all_numbered, gone_out, server_carries}
@@ -64,8 +64,8 @@ pub record Settled (k : Setup) (big now : World) (p : Packet) (ps : List Packet)
 pub settled : (k : Setup) (big now : World) (p : Packet) (ps : List Packet) → IsSendable Server p → big.to_server ≡ carrying (p ∷ ps)
     → IsBetweenFrames big.fed_server → ServerHears k big (frame_of p) (map frame_of ps) now → Settled k big now p ps
 settled k big now p ps fits on between t =
-    let packets : t.packets ≡ p ∷ [] = heard_front Server big.fed_server (frame_of p) p t.packets fits between refl t.heard in
-    let takes : ServerTakes k.rule k.server (p ∷ []) big.server t.after = subst (λ qs. ServerTakes k.rule k.server qs big.server t.after) packets t.takes in
+    let packets : t.hears.packets ≡ p ∷ [] = heard_front Server big.fed_server (frame_of p) p t.hears.packets fits between refl t.hears.heard in
+    let takes : ServerTakes k.rule k.server (p ∷ []) big.server t.after = subst (λ qs. ServerTakes k.rule k.server qs big.server t.after) packets t.hears.takes in
     record {
       after = t.after;
       settles = subst (λ h. Settles k.rule k.server (adding big.server input_seat (Arrive p)) h) (sym takes.2) takes.1;
@@ -147,12 +147,12 @@ module _ (k : Setup) (x : Places) (set : IsSetFor k x) (big now : World) (stage 
   pub record ServerTurned : Type 0 where
     pub world : World
     pub ends : now ≡ finished k world
-    pub stands : Stands k x world (session_hears x.service true stage c).after rest (downs ++ words_of (session_hears x.service true stage c).sayings) (n + length (words_of (session_hears x.service true stage c).sayings))
+    pub stands : PairStands k x world (session_hears x.service true stage c).after rest (downs ++ words_of (session_hears x.service true stage c).sayings) (n + length (words_of (session_hears x.service true stage c).sayings))
     pub fits : SessionFits (session_hears x.service true stage c).after
     pub under : world.under ≡ big.under
     pub lines : world.lines ≡ big.lines
 
-  module _ (st : Stands k x big stage (c ∷ rest) downs n) (fits : SessionFits stage) (turn : Turn k big now) (heard : AreSendable k now) where
+  module _ (st : PairStands k x big stage (c ∷ rest) downs n) (fits : SessionFits stage) (turn : Turn k big now) (heard : AreSendable k now) where
     sure : Settled k big now (up_packet x c) (map (up_packet x) rest)
     sure = settled k big now (up_packet x c) (map (up_packet x) rest) st.up.0.heard st.to_server st.fed_server (first_up k big now (up_packet x c) (map (up_packet x) rest) st.to_server turn)
 

@@ -24,7 +24,7 @@ use Rattle.rpc_journal.proofs.ItemLemmas.{flushed_begin}
 use Rattle.rpc_schedule.specs.Schedule.{Settles, flush_seat, run_seat}
 use Rattle.link_laws.specs.world.Lines.{finished}
 use Rattle.link_laws.specs.world.Starts.{Started, all_added, starts}
-use Rattle.link_laws.specs.world.Turns.{Asks, Cancels, ClientHears, Closes, ServerHears, Starts, TimePasses, Turn, TurnOf, Turns, closed_by, ended_under, ending, kind_by, later, next_kind, task_of, task_under, with_command, with_frame_at_client, with_frame_at_server, with_task}
+use Rattle.link_laws.specs.world.Turns.{Asks, Cancels, ClientHears, Closes, ServerHears, StartTurn, TimePasses, Turn, TurnOf, Turns, closed_by, ended_under, ending, kind_by, later, next_kind, task_of, task_under, with_command, with_frame_at_client, with_frame_at_server, with_task}
 use Rattle.link_laws.specs.world.World.{Setup, Under, World, all_sent_by, calling, closing, first_world, flushed_since, lacking, moment, packets_flushed, sent_by, transferring, with_client, with_server}
 use Rattle.link_laws.specs.one_run.InOrder.{HasAllArrived, NothingIsLost}
 use Rattle.link_laws.proofs.one_run.Growing.{GoesOnWith, all_added_go, begins, client_opened_goes, client_settles_goes, client_takes_goes, goes_then, opened_goes, server_takes_goes, settles_goes}
@@ -211,14 +211,14 @@ module _ (k : Setup) (calm : k.losses ≡ []) where
 
   server_hears : (w now : World) (frame : List ℕ) (rest : List (List ℕ)) → w.to_server.frames ≡ frame ∷ rest → ServerHears k w frame rest now → Keeps w now
   server_hears w now frame rest front t =
-      server_worked w (with_frame_at_server w frame rest) t.packets t.after now (server_takes_goes k.rule k.server t.packets w.server t.after t.takes) t.is refl refl came
+      server_worked w (with_frame_at_server w frame rest) t.hears.packets t.after now (server_takes_goes k.rule k.server t.hears.packets w.server t.after t.hears.takes) t.is refl refl came
     where
-      came : Fits k w → Ordered w → IsOrdered k (arrivals w.server ++ t.packets) (arrivals w.client) (with_frame_at_server w frame rest)
+      came : Fits k w → Ordered w → IsOrdered k (arrivals w.server ++ t.hears.packets) (arrivals w.client) (with_frame_at_server w frame rest)
       came fits o =
           let old = oldest_of o.up w.to_server frame rest front o.to_server in
           let sent : arrivals w.server ++ (old.packet ∷ old.others) ≡ packets_flushed k.client w.client = ap (λ ps. arrivals w.server ++ ps) (sym old.are) ∙ o.sent_up in
           let fit : IsSendable Server old.packet = (all_back (IsSendable Server) (arrivals w.server) (old.packet ∷ old.others) (subst (AllByRecursion (IsSendable Server)) (sym sent) fits.up)).0 in
-          let heard : t.packets ≡ old.packet ∷ [] = heard_front Server w.fed_server frame old.packet t.packets fit o.fed_server old.is t.heard in
+          let heard : t.hears.packets ≡ old.packet ∷ [] = heard_front Server w.fed_server frame old.packet t.hears.packets fit o.fed_server old.is t.hears.heard in
           record {
             up = old.others;
             down = o.down;
@@ -232,15 +232,15 @@ module _ (k : Setup) (calm : k.losses ≡ []) where
 
   client_hears : (w now : World) (frame : List ℕ) (rest : List (List ℕ)) → w.to_client.frames ≡ frame ∷ rest → ClientHears k w frame rest now → Keeps w now
   client_hears w now frame rest front t =
-      client_worked w (with_task t.task (with_frame_at_client w frame rest)) t.packets t.after now
-      (client_takes_goes k.client (moment w) t.packets w.client (task_of w) t.after t.task t.takes) t.is refl refl came
+      client_worked w (with_task t.task (with_frame_at_client w frame rest)) t.hears.packets t.after now
+      (client_takes_goes k.client (moment w) t.hears.packets w.client (task_of w) t.after t.task t.hears.takes) t.is refl refl came
     where
-      came : Fits k w → Ordered w → IsOrdered k (arrivals w.server) (arrivals w.client ++ t.packets) (with_task t.task (with_frame_at_client w frame rest))
+      came : Fits k w → Ordered w → IsOrdered k (arrivals w.server) (arrivals w.client ++ t.hears.packets) (with_task t.task (with_frame_at_client w frame rest))
       came fits o =
           let old = oldest_of o.down w.to_client frame rest front o.to_client in
           let sent : arrivals w.client ++ (old.packet ∷ old.others) ≡ packets_flushed k.server w.server = ap (λ ps. arrivals w.client ++ ps) (sym old.are) ∙ o.sent_down in
           let fit : IsSendable Client old.packet = (all_back (IsSendable Client) (arrivals w.client) (old.packet ∷ old.others) (subst (AllByRecursion (IsSendable Client)) (sym sent) fits.down)).0 in
-          let heard : t.packets ≡ old.packet ∷ [] = heard_front Client w.fed_client frame old.packet t.packets fit o.fed_client old.is t.heard in
+          let heard : t.hears.packets ≡ old.packet ∷ [] = heard_front Client w.fed_client frame old.packet t.hears.packets fit o.fed_client old.is t.hears.heard in
           record {
             up = o.up;
             down = old.others;
@@ -329,7 +329,7 @@ module _ (k : Setup) (calm : k.losses ≡ []) where
             (client_ordered a b v t.client (begins w.client [] t.client client_goes) (none_up w v refl refl refl refl refl refl o))))));
       }
 
-  starts_keep : (w now : World) (command : Command) (rest : List Command) → Starts k w command rest now → Keeps w now
+  starts_keep : (w now : World) (command : Command) (rest : List Command) → StartTurn k w command rest now → Keeps w now
   starts_keep w now (Close channel) rest t = closes w now channel rest t
   starts_keep w now (Read resource offset) rest t = asks w now (Read resource offset) rest t
   starts_keep w now (Write resource offset) rest t = asks w now (Write resource offset) rest t

@@ -18,7 +18,7 @@ use Rattle.rpc_schedule.specs.Schedule.{Settles, flush_seat, input_seat, run_sea
 use Rattle.link_laws.specs.world.Lines.{finished}
 use Rattle.link_laws.specs.world.Sound.{AreSendable, IsSound, NoFlips, SoundWithoutFlips}
 use Rattle.link_laws.specs.world.Starts.{Started, all_added, starts}
-use Rattle.link_laws.specs.world.Turns.{Asks, Cancels, ClientHears, Closes, Ends, ServerHears, Starts, TimePasses, Turn, TurnOf, Turned, Turns, closed_by, ended_under, kind_by, later, task_of, task_under, with_command, with_frame_at_client, with_frame_at_server, with_task}
+use Rattle.link_laws.specs.world.Turns.{Asks, Cancels, ClientHears, Closes, Ends, ServerHears, StartTurn, TimePasses, Turn, TurnOf, Turned, Turns, closed_by, ended_under, kind_by, later, task_of, task_under, with_command, with_frame_at_client, with_frame_at_server, with_task}
 use Rattle.link_laws.specs.world.World.{Setup, Under, World, calling, closing, first_world, flushed_since, lacking, moment, packets_flushed, transferring, with_client, with_server}
 use Rattle.link_laws.proofs.one_run.Growing.{GoesOnWith, all_added_go, begins, client_opened_goes, client_settles_goes, client_takes_goes, goes_then, opened_goes, server_takes_goes, settles_goes}
 use Rattle.link_laws.proofs.one_run.Parts.{GoesOn, client_keeps, closed_by_front, finished_client, finished_server, flushed_before, flushed_later, heard_front, on_to, server_keeps, starts_quiet, then_on}
@@ -132,7 +132,7 @@ module _ (k : Setup) (calm : NoFlips k.losses) (up down : List Packet) (up_fits 
 
   server_hears : (w now : World) (frame : List ℕ) (rest : List (List ℕ)) → w.to_server.frames ≡ frame ∷ rest → ServerHears k w frame rest now → Carries w now
   server_hears w now frame rest front t =
-      server_worked w (with_frame_at_server w frame rest) t.packets t.after now (server_takes_goes k.rule k.server t.packets w.server t.after t.takes) t.is refl before came
+      server_worked w (with_frame_at_server w frame rest) t.hears.packets t.after now (server_takes_goes k.rule k.server t.hears.packets w.server t.after t.hears.takes) t.is refl before came
     where
       first : AreWays up down w → IsFront up w.to_server frame rest
       first ways = front_of up w.to_server frame rest front ways.to_server
@@ -149,16 +149,16 @@ module _ (k : Setup) (calm : NoFlips k.losses) (up down : List Packet) (up_fits 
             client = ways.client;
           }
 
-      came : AreWays up down w → AllByRecursion (Contains up) t.packets
+      came : AreWays up down w → AllByRecursion (Contains up) t.hears.packets
       came ways =
           let f = first ways in
           subst (AllByRecursion (Contains up))
-          (sym (heard_front Server w.fed_server frame f.packet t.packets (fits_up f.packet f.is_sent) ways.fed_server f.is t.heard)) (f.is_sent, tt)
+          (sym (heard_front Server w.fed_server frame f.packet t.hears.packets (fits_up f.packet f.is_sent) ways.fed_server f.is t.hears.heard)) (f.is_sent, tt)
 
   client_hears : (w now : World) (frame : List ℕ) (rest : List (List ℕ)) → w.to_client.frames ≡ frame ∷ rest → ClientHears k w frame rest now → Carries w now
   client_hears w now frame rest front t =
-      client_worked w (with_task t.task (with_frame_at_client w frame rest)) t.packets t.after now
-      (client_takes_goes k.client (moment w) t.packets w.client (task_of w) t.after t.task t.takes) t.is refl before came
+      client_worked w (with_task t.task (with_frame_at_client w frame rest)) t.hears.packets t.after now
+      (client_takes_goes k.client (moment w) t.hears.packets w.client (task_of w) t.after t.task t.hears.takes) t.is refl before came
     where
       first : AreWays up down w → IsFront down w.to_client frame rest
       first ways = front_of down w.to_client frame rest front ways.to_client
@@ -175,11 +175,11 @@ module _ (k : Setup) (calm : NoFlips k.losses) (up down : List Packet) (up_fits 
             client = ways.client;
           }
 
-      came : AreWays up down w → AllByRecursion (Contains down) t.packets
+      came : AreWays up down w → AllByRecursion (Contains down) t.hears.packets
       came ways =
           let f = first ways in
           subst (AllByRecursion (Contains down))
-          (sym (heard_front Client w.fed_client frame f.packet t.packets (fits_down f.packet f.is_sent) ways.fed_client f.is t.heard)) (f.is_sent, tt)
+          (sym (heard_front Client w.fed_client frame f.packet t.hears.packets (fits_down f.packet f.is_sent) ways.fed_client f.is t.hears.heard)) (f.is_sent, tt)
 
   asks : (w now : World) (command : Command) (rest : List Command) → Asks k w command rest now → Carries w now
   asks w now command rest t =
@@ -249,7 +249,7 @@ module _ (k : Setup) (calm : NoFlips k.losses) (up down : List Packet) (up_fits 
             (all_arrived (Contains up) w.server t.server [] server_goes ways.server tt) ways));
       }
 
-  starts_carry : (w now : World) (command : Command) (rest : List Command) → Starts k w command rest now → Carries w now
+  starts_carry : (w now : World) (command : Command) (rest : List Command) → StartTurn k w command rest now → Carries w now
   starts_carry w now (Close channel) rest t = closes w now channel rest t
   starts_carry w now (Read resource offset) rest t = asks w now (Read resource offset) rest t
   starts_carry w now (Write resource offset) rest t = asks w now (Write resource offset) rest t
@@ -344,14 +344,14 @@ module _ (k : Setup) (commands : List Command) (n : ℕ) (w now : World) (calm :
       (turns_carry k calm sent_up sent_down (All-from_recursion (IsSendable Server) sent_up sendable.client) (All-from_recursion (IsSendable Client) sent_down sendable.server) n (first_world commands) w turns).ways
       (record { server_sent = among_themselves sent_down; client_sent = among_themselves sent_up }) (first_ways sent_up sent_down commands)
 
-  pub server_brings : (frame : List ℕ) (rest : List (List ℕ)) → w.to_server.frames ≡ frame ∷ rest → (t : ServerHears k w frame rest now) → AllByRecursion (IsSendable Server) t.packets
+  pub server_brings : (frame : List ℕ) (rest : List (List ℕ)) → w.to_server.frames ≡ frame ∷ rest → (t : ServerHears k w frame rest now) → AllByRecursion (IsSendable Server) t.hears.packets
   server_brings frame rest front t =
       let f : IsFront sent_up w.to_server frame rest = front_of sent_up w.to_server frame rest front ways_at.to_server in
       let fits : IsSendable Server f.packet = subst (IsSendable Server) f.is_sent.2 (All-from_recursion (IsSendable Server) sent_up sendable.client f.is_sent.0 f.packet f.is_sent.1) in
-      subst (AllByRecursion (IsSendable Server)) (sym (heard_front Server w.fed_server frame f.packet t.packets fits ways_at.fed_server f.is t.heard)) (fits, tt)
+      subst (AllByRecursion (IsSendable Server)) (sym (heard_front Server w.fed_server frame f.packet t.hears.packets fits ways_at.fed_server f.is t.hears.heard)) (fits, tt)
 
-  pub client_brings : (frame : List ℕ) (rest : List (List ℕ)) → w.to_client.frames ≡ frame ∷ rest → (t : ClientHears k w frame rest now) → AllByRecursion (IsSendable Client) t.packets
+  pub client_brings : (frame : List ℕ) (rest : List (List ℕ)) → w.to_client.frames ≡ frame ∷ rest → (t : ClientHears k w frame rest now) → AllByRecursion (IsSendable Client) t.hears.packets
   client_brings frame rest front t =
       let f : IsFront sent_down w.to_client frame rest = front_of sent_down w.to_client frame rest front ways_at.to_client in
       let fits : IsSendable Client f.packet = subst (IsSendable Client) f.is_sent.2 (All-from_recursion (IsSendable Client) sent_down sendable.server f.is_sent.0 f.packet f.is_sent.1) in
-      subst (AllByRecursion (IsSendable Client)) (sym (heard_front Client w.fed_client frame f.packet t.packets fits ways_at.fed_client f.is t.heard)) (fits, tt)
+      subst (AllByRecursion (IsSendable Client)) (sym (heard_front Client w.fed_client frame f.packet t.hears.packets fits ways_at.fed_client f.is t.hears.heard)) (fits, tt)

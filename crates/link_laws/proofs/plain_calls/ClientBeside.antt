@@ -24,7 +24,8 @@ use Rattle.history_laws.specs.rounds.Streams.{IsAtRest}
 use Rattle.history_laws.proofs.rounds.RunLemmas.{none_left}
 use Rattle.history_laws.proofs.messages.Members.{all_join, all_weaken}
 use Rattle.link_laws.specs.world.Client.{ClientSettles, FlushesTo, RunsTo}
-use Rattle.link_laws.specs.world.Reports.{carries_chunk, is_message_type}
+use Rattle.history_laws.specs.messages.Messages.{is_stream}
+use Rattle.link_laws.specs.world.Reports.{carries_chunk}
 use Rattle.link_laws.specs.world.Setup.{quiet_rule}
 use Rattle.link_laws.specs.world.Starts.{is_transfer_by}
 use Rattle.link_laws.specs.world.World.{Setup, Tasked}
@@ -103,7 +104,7 @@ differ_back = refl
 pub plain_is_quiet : (n : ℕ) (p : Packet) → plain_name n p.name ≡ true → carries_chunk p ≡ false
 plain_is_quiet n p is =
     let service : p.name.service ≡ demo_id = eqb-true p.name.service demo_id (and_parts (p.name.service == demo_id) (nat_le p.name.call n) is).0 in
-    and_right (is_message_type p.ptype) (p.name.service == transfer_id) (ap (λ s. s == transfer_id) service ∙ differ_back)
+    and_right (is_stream p.ptype) (p.name.service == transfer_id) (ap (λ s. s == transfer_id) service ∙ differ_back)
 
 pub all_quiet : (n : ℕ) (ps : List Packet) → AllByRecursion (λ p. plain_name n p.name ≡ true) ps → AreQuiet ps
 all_quiet n ps all = all_weaken (λ (p : Packet). plain_name n p.name ≡ true) (λ (p : Packet). carries_chunk p ≡ false) ps (plain_is_quiet n) all

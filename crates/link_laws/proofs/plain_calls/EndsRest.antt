@@ -44,7 +44,7 @@ use Rattle.link_laws.specs.world.Client.{ClientTakes}
 use Rattle.link_laws.specs.world.Lines.{finished}
 use Rattle.link_laws.specs.world.Sound.{NoFlips}
 use Rattle.link_laws.specs.world.Starts.{Started, all_added, left_length, live_transfers, next_name, request, starts, starts_write, transfer_by}
-use Rattle.link_laws.specs.world.Turns.{Asks, Cancels, ClientHears, Closes, ServerHears, ServerTakes, Starts, TimePasses, Turn, TurnOf, Turns, closed_by, ended_under, kind_by, later, task_of, task_under, with_command, with_frame_at_client, with_frame_at_server, with_task}
+use Rattle.link_laws.specs.world.Turns.{Asks, Cancels, ClientHears, Closes, ServerHears, ServerTakes, StartTurn, TimePasses, Turn, TurnOf, Turns, closed_by, ended_under, kind_by, later, task_of, task_under, with_command, with_frame_at_client, with_frame_at_server, with_task}
 use Rattle.link_laws.specs.world.World.{Setup, Tasked, Transfer, Under, World, calling, client_deeds, client_store, closing, first_world, lacking, moment, reads, transferring, with_client, with_server, writes}
 use Rattle.link_laws.proofs.one_run.Growing.{begins, client_takes_goes, server_takes_goes}
 use Rattle.link_laws.proofs.one_run.Parts.{GoesOn, client_keeps, finished_client, finished_server, server_keeps}
@@ -344,12 +344,12 @@ module _ (k : Setup) where
 
   server_hears : (w now : World) (frame : List ℕ) (rest : List (List ℕ)) → ServerHears k w frame rest now → LawfulOf now → RestOf w → RestOf now
   server_hears w now frame rest t lawful x =
-      server_worked (with_frame_at_server w frame rest) t.after now t.is lawful (λ fits. server_takes_rest k.server k.rule t.packets w.server t.after t.takes fits x.server) x.client
+      server_worked (with_frame_at_server w frame rest) t.after now t.is lawful (λ fits. server_takes_rest k.server k.rule t.hears.packets w.server t.after t.hears.takes fits x.server) x.client
 
   client_hears : (w now : World) (frame : List ℕ) (rest : List (List ℕ)) → ClientHears k w frame rest now → LawfulOf now → RestOf w → RestOf now
   client_hears w now frame rest t lawful x =
       client_worked (with_task t.task (with_frame_at_client w frame rest)) t.after now t.is lawful
-      (λ fits. client_takes_rest k.client (moment w) t.packets w.client (task_of w) t.after t.task t.takes fits x.client) x.server
+      (λ fits. client_takes_rest k.client (moment w) t.hears.packets w.client (task_of w) t.after t.task t.hears.takes fits x.client) x.server
 
   asks : (w now : World) (command : Command) (rest : List Command) → Asks k w command rest now → LawfulOf now → RestOf w → RestOf now
   asks w now command rest t lawful x =
@@ -385,7 +385,7 @@ module _ (k : Setup) where
       server_worked y t.server now t.is lawful (λ good. opened_rests k.server k.rule w.server flush_seat (Tick (moment (later w))) t.server tt x.server t.ticks good)
       (subst (λ h. IsAtRest (history k.client h)) (sym client_is) client)
 
-  starts_rest : (w now : World) (command : Command) (rest : List Command) → Starts k w command rest now → LawfulOf now → RestOf w → RestOf now
+  starts_rest : (w now : World) (command : Command) (rest : List Command) → StartTurn k w command rest now → LawfulOf now → RestOf w → RestOf now
   starts_rest w now (Close channel) rest t lawful x = closes w now channel rest t lawful x
   starts_rest w now (Read resource offset) rest t lawful x = asks w now (Read resource offset) rest t lawful x
   starts_rest w now (Write resource offset) rest t lawful x = asks w now (Write resource offset) rest t lawful x

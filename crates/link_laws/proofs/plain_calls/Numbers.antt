@@ -8,7 +8,7 @@ use Rattle.rpc_packet.specs.declared.owned.Packet.{Packet}
 use Rattle.rpc_journal.specs.declared.entry.Entry.{Entry}
 use Rattle.link_laws.specs.world.Lines.{finished}
 use Rattle.link_laws.specs.world.Starts.{starts}
-use Rattle.link_laws.specs.world.Turns.{Asks, Starts, TimePasses, Turn, TurnOf, Turns, kind_by, later, with_command, with_frame_at_client, with_frame_at_server, with_task}
+use Rattle.link_laws.specs.world.Turns.{Asks, StartTurn, TimePasses, Turn, TurnOf, Turns, kind_by, later, with_command, with_frame_at_client, with_frame_at_server, with_task}
 use Rattle.link_laws.specs.world.World.{Setup, Under, World, calling, closing, flushed_since, lacking, transferring, with_client, with_server}
 use Rattle.link_laws.proofs.one_run.Keeping.{finish_keeps}
 use Rattle.link_laws.proofs.rounds.Carrying.{all_numbered}
@@ -38,7 +38,7 @@ module _ (k : Setup) where
   asks_grow : (w now : World) (command : Command) (rest : List Command) → Asks k w command rest now → Grows w now
   asks_grow w now command rest t = client_worked w (with_task t.task (with_command w rest (starts k w command))) now t.after refl t.is
 
-  starts_grow : (w now : World) (command : Command) (rest : List Command) → Starts k w command rest now → Grows w now
+  starts_grow : (w now : World) (command : Command) (rest : List Command) → StartTurn k w command rest now → Grows w now
   starts_grow w now (Close channel) rest t = server_worked w (with_command w rest (starts k w (Close channel))) now t.after refl t.is
   starts_grow w now (Read resource offset) rest t = asks_grow w now (Read resource offset) rest t
   starts_grow w now (Write resource offset) rest t = asks_grow w now (Write resource offset) rest t

@@ -23,7 +23,7 @@ made_length (suc n) x = omega (arith, made_length n (number_behind x))
 
 pub made_small : (stocks : List Stock) → AllByRecursion IsStock stocks → AreSmall (made_resources stocks)
 made_small [] all = tt
-made_small (s ∷ stocks) all = (omega (arith, made_length s.length s.seed, all.0.length), made_small stocks all.1)
+made_small (s ∷ stocks) all = (omega (arith, made_length s.len s.seed, all.0.len), made_small stocks all.1)
 
 pub put_in : (es rows : Resources) → AreSmall es → AreSmall rows → AreSmall (with_resources es rows)
 put_in [] rows new old = old

@@ -29,7 +29,7 @@ use Rattle.link_laws.specs.world.Lines.{finished}
 use Rattle.link_laws.specs.world.Setup.{quiet_rule}
 use Rattle.link_laws.specs.world.Sound.{AreSendable, NoFlips}
 use Rattle.link_laws.specs.world.Starts.{Started, all_added, left_length, live_transfers, message_kinds, opens_with, starts, starts_plain, starts_write, transfer_by}
-use Rattle.link_laws.specs.world.Turns.{Asks, Cancels, ClientHears, Closes, Ends, ServerHears, Starts, TimePasses, Turn, TurnOf, Turns, closed_by, ended_under, kind_by, later, task_of, task_under, with_command, with_frame_at_client, with_frame_at_server, with_task}
+use Rattle.link_laws.specs.world.Turns.{Asks, Cancels, ClientHears, Closes, Ends, ServerHears, StartTurn, TimePasses, Turn, TurnOf, Turns, closed_by, ended_under, kind_by, later, task_of, task_under, with_command, with_frame_at_client, with_frame_at_server, with_task}
 use Rattle.link_laws.specs.world.World.{Plain, Setup, Transfer, Under, World, calling, chat, client_deeds, client_store, closing, count as plain_count, echo, first_world, lacking, moment, packets_flushed, reads, sum, transferring, with_client, with_server, writes}
 use Rattle.link_laws.proofs.one_run.Growing.{GoesOnWith, all_added_go, client_opened_goes, client_settles_goes, client_takes_goes, goes_then, opened_goes, server_takes_goes, settles_goes}
 use Rattle.link_laws.proofs.one_run.Keeping.{finish_keeps}
@@ -172,7 +172,7 @@ module _ (k : Setup) (server_role : k.server.role ≡ Server) (client_role : k.c
         goes None settles = settles_goes k.rule k.server w.server t.after settles
         goes (Some count) settles = opened_goes k.rule k.server w.server run_seat (Closing channel) t.after settles
 
-    starts_step : (w now : World) (command : Command) (rest : List Command) → w.coming ≡ command ∷ rest → Starts k w command rest now → Knows w → Knows now
+    starts_step : (w now : World) (command : Command) (rest : List Command) → w.coming ≡ command ∷ rest → StartTurn k w command rest now → Knows w → Knows now
     starts_step w now (Close channel) rest c t knows = closes w now channel rest c t knows
     starts_step w now (Read resource offset) rest c t knows = asks w now (Read resource offset) rest c t knows
     starts_step w now (Write resource offset) rest c t knows = asks w now (Write resource offset) rest c t knows
@@ -181,20 +181,20 @@ module _ (k : Setup) (server_role : k.server.role ≡ Server) (client_role : k.c
     starts_step w now (Sum bytes) rest c t knows = asks w now (Sum bytes) rest c t knows
     starts_step w now (Chat bytes) rest c t knows = asks w now (Chat bytes) rest c t knows
 
-    server_hears : (w now : World) (frame : List ℕ) (rest : List (List ℕ)) (t : ServerHears k w frame rest now) → AllByRecursion (IsSendable Server) t.packets → Knows w → Knows now
+    server_hears : (w now : World) (frame : List ℕ) (rest : List (List ℕ)) (t : ServerHears k w frame rest now) → AllByRecursion (IsSendable Server) t.hears.packets → Knows w → Knows now
     server_hears w now frame rest t came knows =
         let b : World = with_frame_at_server w frame rest in
         there (with_server k b t.after) now t.after w.client w.coming t.is (server_keeps k (λ x. x.server) (λ x p. refl) b t.after) (server_keeps k (λ x. x.client) (λ x p. refl) b t.after)
         (server_keeps k (λ x. x.coming) (λ x p. refl) b t.after)
-        (arrived_then w.server t.after t.packets (server_takes_goes k.rule k.server t.packets w.server t.after t.takes) knows.server (names_in Server t.packets came)) knows.client knows.names knows.room
+        (arrived_then w.server t.after t.hears.packets (server_takes_goes k.rule k.server t.hears.packets w.server t.after t.hears.takes) knows.server (names_in Server t.hears.packets came)) knows.client knows.names knows.room
 
-    client_hears : (w now : World) (frame : List ℕ) (rest : List (List ℕ)) (t : ClientHears k w frame rest now) → AllByRecursion (IsSendable Client) t.packets → Knows w → Knows now
+    client_hears : (w now : World) (frame : List ℕ) (rest : List (List ℕ)) (t : ClientHears k w frame rest now) → AllByRecursion (IsSendable Client) t.hears.packets → Knows w → Knows now
     client_hears w now frame rest t came knows =
         let b : World = with_task t.task (with_frame_at_client w frame rest) in
-        let names = same_names w t.after (takes_same k.client client_role (moment w) t.packets w.client (task_of w) t.after t.task t.takes) knows in
+        let names = same_names w t.after (takes_same k.client client_role (moment w) t.hears.packets w.client (task_of w) t.after t.task t.hears.takes) knows in
         there (with_client k b t.after) now w.server t.after w.coming t.is (client_keeps k (λ x. x.server) (λ x p. refl) b t.after) (client_keeps k (λ x. x.client) (λ x p. refl) b t.after)
         (client_keeps k (λ x. x.coming) (λ x p. refl) b t.after) knows.server
-        (arrived_then w.client t.after t.packets (client_takes_goes k.client (moment w) t.packets w.client (task_of w) t.after t.task t.takes) knows.client (names_in Client t.packets came)) names.0 names.1
+        (arrived_then w.client t.after t.hears.packets (client_takes_goes k.client (moment w) t.hears.packets w.client (task_of w) t.after t.task t.hears.takes) knows.client (names_in Client t.hears.packets came)) names.0 names.1
 
     cancels : (w now : World) (call : ℕ) → Cancels k w call now → Knows w → Knows now
     cancels w now call t knows =

@@ -26,7 +26,7 @@ use Rattle.transfer_client.specs.Write.{new_upload}
 use Rattle.link_laws.specs.world.Client.{ClientSettles, ClientTakes, all_said_in, mail_between, task_after, task_said, transfer_polled}
 use Rattle.link_laws.specs.world.Lines.{command_ended, finished, is_still, line_of, with_line}
 use Rattle.link_laws.specs.world.Starts.{Started, all_added, left_length, live_transfers, message_kinds, opens_with, starts, starts_plain, starts_write, transfer_by}
-use Rattle.link_laws.specs.world.Turns.{Asks, Cancels, ClientHears, ServerHears, Starts, TimePasses, Turn, TurnOf, Turns, kind_by, later, task_of, task_under, under_with, with_command, with_frame_at_client, with_frame_at_server, with_task}
+use Rattle.link_laws.specs.world.Turns.{Asks, Cancels, ClientHears, ServerHears, StartTurn, TimePasses, Turn, TurnOf, Turns, kind_by, later, task_of, task_under, under_with, with_command, with_frame_at_client, with_frame_at_server, with_task}
 use Rattle.link_laws.specs.world.World.{Plain, count as plain_count, echo, chat, sum, Setup, Tasked, Transfer, Under, World, calling, client_deeds, client_store, closing, lacking, moment, reads, transferring, with_client, with_server, writes}
 use Rattle.history_laws.proofs.messages.Members.{all_weaken}
 use Rattle.link_laws.proofs.one_run.Parts.{client_keeps, server_keeps}
@@ -317,7 +317,7 @@ module _ (k : Setup) (role : k.client.role ≡ Client) where
         (starts_holds w command all.0 (idle w.sessions w.client (task_under w.under) s.holds))))
         t.settles.none_waits all.1 (omega (arith, sessions_rise w command, subst (λ l. w.sessions + length l ≤ total) c s.room))
 
-    starts_step : (w now : World) (command : Command) (rest : List Command) → w.coming ≡ command ∷ rest → Starts k w command rest now → Stands w → Stands now
+    starts_step : (w now : World) (command : Command) (rest : List Command) → w.coming ≡ command ∷ rest → StartTurn k w command rest now → Stands w → Stands now
     starts_step w now (Close channel) rest c t s =
         let st : Started = starts k w (Close channel) in
         let all : AllByRecursion IsCommand (Close channel ∷ rest) = subst (AllByRecursion IsCommand) c s.coming in
@@ -339,9 +339,9 @@ module _ (k : Setup) (role : k.client.role ≡ Client) where
     client_hears w now frame rest t s =
         let b : World = with_task t.task (with_frame_at_client w frame rest) in
         there (with_client k b t.after) now t.after w.sessions (under_with t.task w.under) w.coming t.is (client_at b t.after)
-        (under_holds w.sessions t.after t.task w.under (takes_alike t.packets (task_of w) (moment w) w.client t.after t.task t.takes)
-        (takes_holds w.sessions t.packets (task_of w) (moment w) w.client t.after t.task t.takes s.holds))
-        (takes_out t.packets (task_of w) (moment w) w.client t.after t.task t.takes s.out) s.coming s.room
+        (under_holds w.sessions t.after t.task w.under (takes_alike t.hears.packets (task_of w) (moment w) w.client t.after t.task t.hears.takes)
+        (takes_holds w.sessions t.hears.packets (task_of w) (moment w) w.client t.after t.task t.hears.takes s.holds))
+        (takes_out t.hears.packets (task_of w) (moment w) w.client t.after t.task t.hears.takes s.out) s.coming s.room
 
     time_passes : (w now : World) → TimePasses k w now → Stands w → Stands now
     time_passes w now t s =

@@ -25,7 +25,7 @@ use Rattle.link_laws.specs.world.Reports.{report_of}
 use Rattle.link_laws.specs.world.Rows.{HasRun}
 use Rattle.link_laws.specs.world.Setup.{quiet_rule, setup_of}
 use Rattle.link_laws.specs.world.Starts.{Started, all_added, starts}
-use Rattle.link_laws.specs.world.Turns.{Asks, Cancels, ClientHears, Closes, Ends, Kind, ServerHears, ServerTakes, Starts, TimePasses, TurnOf, Turns, cancelling, closed_by, ended_under, ending, later, next_kind, starting, task_of, task_under, timing, to_client, to_server, with_command, with_frame_at_client, with_frame_at_server, with_task}
+use Rattle.link_laws.specs.world.Turns.{Asks, Cancels, ClientHears, Closes, Ends, Kind, ServerHears, ServerTakes, StartTurn, TimePasses, TurnOf, Turns, cancelling, closed_by, ended_under, ending, later, next_kind, starting, task_of, task_under, timing, to_client, to_server, with_command, with_frame_at_client, with_frame_at_server, with_task}
 use Rattle.link_laws.specs.world.World.{Setup, Tasked, World, first_world, moment, with_client, with_server}
 use Rattle.link_laws.proofs.world.Working.{all_flushed, all_flushed_is, all_run, all_run_is, settled, settled_is}
 
@@ -127,10 +127,12 @@ module _ (n : ℕ) where
     server_heard_is frame rest now is =
         let taken = mapped_is (server_takes k.rule k.server (heard_with Server w.fed_server frame) w.server) (λ after. finished k (with_server k (with_frame_at_server w frame rest) after)) now is in
         record {
-          packets = heard_with Server w.fed_server frame;
-          heard = heard_more Server w.fed_server frame;
           after = taken.0;
-          takes = server_takes_is k.rule k.server (heard_with Server w.fed_server frame) w.server taken.0 taken.1;
+          hears = record {
+            packets = heard_with Server w.fed_server frame;
+            heard = heard_more Server w.fed_server frame;
+            takes = server_takes_is k.rule k.server (heard_with Server w.fed_server frame) w.server taken.0 taken.1;
+          };
           is = sym taken.2;
         }
 
@@ -144,11 +146,13 @@ module _ (n : ℕ) where
         let before : ClientAt = record { entries = w.client; task = task_of w } in
         let taken = mapped_is (client_takes k.client (moment w) (heard_with Client w.fed_client frame) before) (λ at. finished k (with_client k (with_task at.task (with_frame_at_client w frame rest)) at.entries)) now is in
         record {
-          packets = heard_with Client w.fed_client frame;
-          heard = heard_more Client w.fed_client frame;
           after = taken.0.entries;
           task = taken.0.task;
-          takes = client_takes_is k.client (moment w) (heard_with Client w.fed_client frame) before taken.0 taken.1;
+          hears = record {
+            packets = heard_with Client w.fed_client frame;
+            heard = heard_more Client w.fed_client frame;
+            takes = client_takes_is k.client (moment w) (heard_with Client w.fed_client frame) before taken.0 taken.1;
+          };
           is = sym taken.2;
         }
 
@@ -184,7 +188,7 @@ module _ (n : ℕ) where
     started (Close channel) rest = closed channel (starts k w (Close channel)) rest
     started command rest = asked (starts k w command) rest
 
-    started_is : (command : Command) (rest : List Command) (now : World) → started command rest ≡ Some now → Starts k w command rest now
+    started_is : (command : Command) (rest : List Command) (now : World) → started command rest ≡ Some now → StartTurn k w command rest now
     started_is (Close channel) rest now is = closed_is channel rest now is
     started_is (Read resource offset) rest now is = asked_is (Read resource offset) rest now is
     started_is (Write resource offset) rest now is = asked_is (Write resource offset) rest now is

@@ -1,6 +1,6 @@
 -- The sessions at the server beside the one of the transfer: older ones, which have nothing to wait for but that their end is
 -- known.
-use Rattle.std.specs.Prelude.{◌≡◌, ◌≢◌, ℕ, ◌+◌, ◌<◌, ◌≤◌, true, List, [], ◌∷◌, ◌++◌, count_by, length, map, slice_get, Option, Some, None}
+use Rattle.std.specs.Prelude.{◌≡◌, ◌≢◌, ℕ, ◌+◌, ◌<◌, ◌≤◌, true, List, [], ◌∷◌, ◌++◌, length, map, slice_get, Option, Some, None}
 use Rattle.std.specs.List.{AllByRecursion}
 use Rattle.rpc_handlers.specs.declared.event.Memo.{Memo}
 use Rattle.rpc_ids.specs.declared.method.Role.TheVariants.{Server, Client}
@@ -20,7 +20,6 @@ use Rattle.demo_services.specs.Transfer.{first_book, transfer_memo}
 use Rattle.transfer_laws.specs.losses.Drops.{at_time}
 use Rattle.transfer_laws.specs.losses.Survives.{HasSettled}
 use Rattle.link_laws.specs.world.World.{Setup}
-use Rattle.link_laws.specs.plain_calls.Between.{asks_for}
 use Rattle.link_laws.specs.lossless_transfer.Shows.{ArePlaces, Places, moment_at}
 use Rattle.link_laws.specs.dropped_transfer.Dropped.{AreDrops}
 use Rattle.link_laws.specs.dropped_transfer.Passing.{IsBesideAtClient}
@@ -51,8 +50,8 @@ pub record AreOlder (x : Places) (older : List Row) : Type 0 where
   pub before : AreBefore x.session older
   pub many : length older ≡ x.older
 
--- Another call of the transfer service at the server, all of whose sessions are older. It is open at the client too. It works as it
--- was made, but for the time, and has room for each session that the commands to come ask for.
+-- Another call of the transfer service at the server, all of whose sessions are older: it has those that it had before. It is open at
+-- the client too. It works as it was made, but for the time.
 pub record IsBesideAtServer (k : Setup) (x : Places) (o : Opening) (m : Memo) : Type 0 where
   pub book : Book
   pub memo : m ≡ transfer_memo book
@@ -62,7 +61,8 @@ pub record IsBesideAtServer (k : Setup) (x : Places) (o : Opening) (m : Memo) : 
   pub of_side : transfer_side o.method ≡ Some side
   pub service : book.service ≡ at_time (first_book side k.server.seed).service book.service.time
   pub past : book.service.time ≤ moment_at x
-  pub few : length book.rows + count_by (asks_for side) x.coming ≤ 256
+  pub few : length book.rows ≤ x.had side
+  pub room : length book.rows ≤ 256
   pub at_client : IsBesideAtClient k x o.name
 
 -- each other call of a ticking method is such a call, and there is one at most

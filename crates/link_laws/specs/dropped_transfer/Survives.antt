@@ -20,7 +20,8 @@ use Rattle.transfer_laws.specs.losses.Survives.{IsSettled}
 use Rattle.link_laws.specs.declared.world.limits.TheConstants.{TURN_OF_TIME}
 use Rattle.link_laws.specs.world.World.{Setup, Transfer, World, reads, writes}
 use Rattle.link_laws.specs.lossless_transfer.Begins.{AsksClient, BeginsOnNew, BeginsOnOld}
-use Rattle.link_laws.specs.lossless_transfer.Finishes.{Passes, ReadFits, RunsOut, line_telling}
+use Rattle.link_laws.specs.world.Lines.{line_telling}
+use Rattle.link_laws.specs.lossless_transfer.Finishes.{Passes, ReadFits, RunsOut}
 use Rattle.link_laws.specs.lossless_transfer.Shows.{Places, moment_at}
 use Rattle.link_laws.specs.dropped_transfer.Dropped.{DropsFew}
 use Rattle.link_laws.specs.dropped_transfer.Sessions.{IsSetForDrops, at_turn, book_with}
@@ -62,7 +63,7 @@ pub record HasSurvived (k : Setup) (x : Places) (t : Transfer) (status : Status)
   pub left : LeftDropping k (at_turn x time times server) older (x.lines ++ line_telling t status bytes ∷ []) mid session [] [] said
 
 -- what each transfer begins with in a run
-pub record Starts (k : Setup) (x : Places) (older : List Row) (big far : World) (t : Transfer) : Type 0 where
+pub record CanSurvive (k : Setup) (x : Places) (older : List Row) (big far : World) (t : Transfer) : Type 0 where
   pub set : IsSetForDrops k x older
   pub early : moment_at x + 4 * TIMEOUT < 2 ^ 63
   pub past : x.service.time ≤ moment_at x
@@ -74,7 +75,7 @@ pub record Starts (k : Setup) (x : Places) (older : List Row) (big far : World) 
 abbrev pub ReadsSurviveDrops : Type 0
 ReadsSurviveDrops =
     (k : Setup) (x : Places) (older : List Row) (big far : World) (resource offset window chunk : ℕ) (bytes : List ℕ) → let d = new_download resource offset window chunk in
-    Starts k x older big far (reads d) → x.service.side ≡ Read → x.client_opening.name.method ≡ name_id (codes "Read") → first_of resource x.service.shelf.full ≡ Some bytes → resource < 2 ^ 32
+    CanSurvive k x older big far (reads d) → x.service.side ≡ Read → x.client_opening.name.method ≡ name_id (codes "Read") → first_of resource x.service.shelf.full ≡ Some bytes → resource < 2 ^ 32
     → IsTuning window chunk → length bytes ≤ MAX_RESOURCE → offset ≤ length bytes
     → Passes k big far (HasSurvived k x (reads (read_ended d offset)) Okay)
 
@@ -82,7 +83,7 @@ ReadsSurviveDrops =
 abbrev pub WritesSurviveDrops : Type 0
 WritesSurviveDrops =
     (k : Setup) (x : Places) (older : List Row) (big far : World) (resource offset : ℕ) (bytes : List ℕ) → let u = new_upload resource bytes offset in
-    Starts k x older big far (writes u) → x.service.side ≡ Write → resource < 2 ^ 32 → IsTuning x.service.window x.service.chunk → length bytes ≤ MAX_RESOURCE → offset ≤ length bytes
+    CanSurvive k x older big far (writes u) → x.service.side ≡ Write → resource < 2 ^ 32 → IsTuning x.service.window x.service.chunk → length bytes ≤ MAX_RESOURCE → offset ≤ length bytes
     → Passes k big far (HasSurvived k x (writes (write_ended u (agreed_offset x.service.shelf resource offset))) Okay)
 
 -- A READ THAT THE SERVICE CAN'T SERVE IS REFUSED all the same, of a resource that it doesn't list, or from an offset past the end
@@ -90,5 +91,5 @@ WritesSurviveDrops =
 abbrev pub RefusalsSurviveDrops : Type 0
 RefusalsSurviveDrops =
     (k : Setup) (x : Places) (older : List Row) (big far : World) (resource offset window chunk : ℕ) (status : Status) → let d = new_download resource offset window chunk in
-    Starts k x older big far (reads d) → ReadFits d → x.service.side ≡ Read → offer_of x.service.shelf resource offset ≡ Err status
+    CanSurvive k x older big far (reads d) → ReadFits d → x.service.side ≡ Read → offer_of x.service.shelf resource offset ≡ Err status
     → Passes k big far (HasSurvived k x (reads (read_refused d status)) status)

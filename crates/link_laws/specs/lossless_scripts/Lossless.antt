@@ -17,7 +17,7 @@ use Rattle.link_laws.specs.world.World.{Setup, World, client_store}
 use Rattle.link_laws.specs.one_run.InOrder.{HasAllArrived}
 use Rattle.link_laws.specs.plain_calls.Ended.{EndsOkay, HasEnded}
 use Rattle.link_laws.specs.lossless_transfer.Chunks.{is_chunk_of}
-use Rattle.link_laws.specs.lossless_scripts.Scripts.{IsOpenScript}
+use Rattle.link_laws.specs.lossless_scripts.Scripts.{BeginsFewWrites, IsOpenScript}
 
 -- how many frames of a run carry a chunk of this session
 abbrev pub chunks_of : ℕ → World → ℕ
@@ -44,12 +44,12 @@ pub record IsLosslessScript (s : Script) : Type 0 where
   pub script : IsOpenScript s
   pub losses : s.losses ≡ []
 
--- EACH COMMAND OF SUCH A SCRIPT COMES TO ITS LINE, in each run of it, and each transfer to a line with OK within its bound of
--- chunks. The session of a transfer is the next one.
+-- EACH COMMAND OF SUCH A SCRIPT COMES TO ITS LINE, in each run of it that begins few writes, and each transfer to a line with OK
+-- within its bound of chunks. The session of a transfer is the next one.
 abbrev pub LosslessRunsEndWell : Type 0
 LosslessRunsEndWell =
     (s : Script) (now : World) (number : ℕ) (command : Command) → IsLosslessScript s → Turned (setup_of s) s.commands now
-    → IsLegal demo_rule (setup_of s).server now.server → IsLegal quiet_rule (setup_of s).client now.client
+    → BeginsFewWrites s.commands now → IsLegal demo_rule (setup_of s).server now.server → IsLegal quiet_rule (setup_of s).client now.client
     → slice_get s.commands number ≡ Some command
     → HasEnded (setup_of s) s.commands now number command (λ start told. EndsAs (setup_of s) start command told (chunks_of (start.sessions + 1) now))
 

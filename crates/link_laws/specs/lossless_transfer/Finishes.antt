@@ -2,7 +2,6 @@
 use Rattle.std.specs.Prelude.{◌≡◌, ℕ, ◌+◌, ◌<◌, ◌≤◌, ◌^◌, List, [], ◌∷◌, ◌++◌, length, Option, Some, Err}
 use Rattle.link_io.specs.Resources.{first_of}
 use Rattle.link_script.specs.declared.report.ReportLine.{ReportLine}
-use Rattle.link_script.specs.declared.report.ReportLine.TheVariants as line
 use Rattle.rpc_ids.specs.declared.Status.{Status}
 use Rattle.rpc_ids.specs.declared.Status.TheVariants.{Okay}
 use Rattle.transfer_base.specs.declared.limits.TheConstants.{MAX_CHUNK, MAX_RESOURCE, MAX_WINDOW, TIMEOUT}
@@ -10,11 +9,12 @@ use Rattle.transfer_resume.specs.declared.side.Side.TheVariants.{Read, Write}
 use Rattle.transfer_resume.specs.declared.stage.Stage.{Stage}
 use Rattle.transfer_resume.specs.declared.stage.Stage.TheVariants as stage
 use Rattle.transfer_resume.specs.Opening.{agreed_offset, offer_of}
-use Rattle.transfer_client.specs.Read.{Download, new_download, read_offset, read_rules}
-use Rattle.transfer_client.specs.Write.{Upload, new_upload, write_offset, write_rules}
+use Rattle.transfer_client.specs.Read.{Download, new_download, read_rules}
+use Rattle.transfer_client.specs.Write.{Upload, new_upload, write_rules}
 use Rattle.transfer_laws.specs.pairs.Pair.{EndsSo, first}
 use Rattle.transfer_laws.specs.pairs.Bound.{bound}
 use Rattle.transfer_laws.specs.pairs.EndsWell.{IsTuning, read_ended, read_refused, write_ended}
+use Rattle.link_laws.specs.world.Lines.{line_telling}
 use Rattle.link_laws.specs.world.Sound.{AreSendable}
 use Rattle.link_laws.specs.world.Turns.{Turns, ending, next_kind}
 use Rattle.link_laws.specs.world.World.{Setup, Transfer, World, reads, writes}
@@ -35,11 +35,6 @@ pub record Passes (k : Setup) (big far : World) (P : World → Type 0) : Type 0 
   pub way : Turns k many big mid
   pub rest : RunsOut k mid far
   pub holds : P mid
-
--- the line of a transfer that has ended so, with so many bytes
-abbrev pub line_telling : Transfer → Status → ℕ → ReportLine
-line_telling (reads d) status bytes = line.Read d.resource (read_offset d) status bytes
-line_telling (writes u) status bytes = line.Write u.resource (write_offset u) status bytes
 
 -- The line of this transfer was told, with this status; nothing is on its way, and the session stands so. No more words were said
 -- than so many, each in a numbered frame.

@@ -21,6 +21,7 @@ use Rattle.rpc_journal.specs.Kinds.{streams_down, streams_up}
 use Rattle.history_laws.specs.rounds.Streams.{HasStream, IsAtRest}
 use Rattle.transfer_words.specs.Word.{Word}
 use Rattle.transfer_words.specs.Spoken.{FitsChunk, text_in}
+use Rattle.transfer_resume.specs.declared.side.Side.{Side}
 use Rattle.transfer_resume.specs.declared.stage.Stage.{Stage}
 use Rattle.transfer_resume.specs.Session.{Service}
 use Rattle.transfer_resume.specs.Book.{Book, stage_of}
@@ -51,6 +52,8 @@ pub record Places : Type 0 where
   -- what the sessions of the server's call share, and how many it had before
   pub service : Service
   pub older : ℕ
+  -- how many sessions each call of the transfer service had before
+  pub had : Side → ℕ
   -- both histories
   pub server : List Entry
   pub client : List Entry
@@ -160,7 +163,7 @@ module _ (x : Places) where
   tasked_with t = record { call = x.at_client; session = x.session; transfer = t }
 
 -- The ends and the link: the session stands so at the server, these words are on their way, and so many were said.
-pub record Stands (k : Setup) (x : Places) (big : World) (stage : Option Stage) (ups downs : List Word) (said : ℕ) : Type 0 where
+pub record PairStands (k : Setup) (x : Places) (big : World) (stage : Option Stage) (ups downs : List Word) (said : ℕ) : Type 0 where
   pub server : AtServer k x big.server stage
   pub client : AtClient k x big.client
   pub to_server : big.to_server ≡ carrying (map (up_packet x) ups)
@@ -178,12 +181,12 @@ pub record IsUnderWay (x : Places) (t : Transfer) (big : World) : Type 0 where
   pub lines : big.lines ≡ x.lines
 
 -- THE WORLD SHOWS THIS PAIR
-pub record Shows {A : Type 0} (wrap : A → Transfer) (k : Setup) (x : Places) (big : World) (w : Pair A) : Type 0 where
-  pub stands : Stands k x big w.server w.to_server w.to_client w.said
+pub record ShowsPair {A : Type 0} (wrap : A → Transfer) (k : Setup) (x : Places) (big : World) (w : Pair A) : Type 0 where
+  pub stands : PairStands k x big w.server w.to_server w.to_client w.said
   pub task : IsUnderWay x (wrap w.client) big
 
 -- What stands once its line was told: no command is under way.
 pub record Left (k : Setup) (x : Places) (lines : List ReportLine) (big : World) (stage : Option Stage) (ups downs : List Word) (said : ℕ) : Type 0 where
-  pub stands : Stands k x big stage ups downs said
+  pub stands : PairStands k x big stage ups downs said
   pub idle : big.under ≡ None
   pub told : big.lines ≡ lines

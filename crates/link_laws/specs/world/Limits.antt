@@ -85,16 +85,17 @@ abbrev pub adding_stops : List EntryKind → List Entry → Bool
 adding_stops [] h = false
 adding_stops (kind ∷ kinds) h = is_full h || adding_stops kinds (adding h run_seat kind)
 
--- a turn stops at an entry without room
-pub record ServerHearingStops (k : Setup) (w : World) (frame : List ℕ) : Type 0 where
+-- behind these bytes a frame comes to the server, and with its packets it stops at an entry without room
+pub record ServerHearingStops (rule : HandlerRule) (set : Setting) (before : List Entry) (fed frame : List ℕ) : Type 0 where
   pub packets : List Packet
-  pub heard : heard_packets Server (w.fed_server ++ frame) ≡ heard_packets Server w.fed_server ++ packets
-  pub stops : ServerTakingStops k.rule k.server packets w.server
+  pub heard : heard_packets Server (fed ++ frame) ≡ heard_packets Server fed ++ packets
+  pub stops : ServerTakingStops rule set packets before
 
-pub record ClientHearingStops (k : Setup) (w : World) (frame : List ℕ) : Type 0 where
+-- the same at the client, at a moment, while this task speaks
+pub record ClientHearingStops (set : Setting) (now : ℕ) (before : List Entry) (task : Option Tasked) (fed frame : List ℕ) : Type 0 where
   pub packets : List Packet
-  pub heard : heard_packets Client (w.fed_client ++ frame) ≡ heard_packets Client w.fed_client ++ packets
-  pub stops : ClientTakingStops k.client (moment w) packets w.client (task_of w)
+  pub heard : heard_packets Client (fed ++ frame) ≡ heard_packets Client fed ++ packets
+  pub stops : ClientTakingStops set now packets before task
 
 abbrev pub AskingStops : Setup → World → Command → Type 0
 AskingStops k w command =
@@ -124,8 +125,8 @@ EndStops k w =
     ⊎ ClientStops k.client (moment w) (adding w.client input_seat EndIn) None
 
 abbrev pub StopsIn : Setup → World → Kind → Type 0
-StopsIn k w (to_server frame rest) = ServerHearingStops k w frame
-StopsIn k w (to_client frame rest) = ClientHearingStops k w frame
+StopsIn k w (to_server frame rest) = ServerHearingStops k.rule k.server w.server w.fed_server frame
+StopsIn k w (to_client frame rest) = ClientHearingStops k.client (moment w) w.client (task_of w) w.fed_client frame
 StopsIn k w (starting command rest) = StartStops k w command
 StopsIn k w (cancelling call) = ClientStops k.client (moment w) (adding w.client run_seat (Cancel call)) None
 StopsIn k w timing = TimeStops k w

@@ -40,6 +40,11 @@ message_in _ = []
 abbrev pub calls_named : CallName → List Deed → List ℕ
 calls_named name ds = made_from 0 (λ c o. same_name o.name name) (λ c o. c) (calls ds)
 
+-- the line of a transfer that has ended so, with this length
+abbrev pub line_telling : Transfer → Status → ℕ → ReportLine
+line_telling (reads d) status size = line.Read d.resource (read_offset d) status size
+line_telling (writes u) status size = line.Write u.resource (write_offset u) status size
+
 module _ (k : Setup) (w : World) where
   -- what a session of the client's call has made whole in the client's store, and else 0
   abbrev pub length_read : Tasked → ℕ
@@ -54,10 +59,14 @@ module _ (k : Setup) (w : World) where
   abbrev pub length_written : Tasked → ℕ
   length_written t = length_written_by t.session (call_at (client_deeds k w) t.call)
 
+  -- the length that a transfer has made whole: at the client what was read, at the server what was written
+  abbrev pub length_made : Tasked → Transfer → ℕ
+  length_made t (reads d) = length_read t
+  length_made t (writes u) = length_written t
+
   -- the line of a transfer that has ended so
   abbrev pub transfer_line : Tasked → Transfer → Status → ReportLine
-  transfer_line t (reads d) status = line.Read d.resource (read_offset d) status (length_read t)
-  transfer_line t (writes u) status = line.Write u.resource (write_offset u) status (length_written t)
+  transfer_line t transfer status = line_telling transfer status (length_made t transfer)
 
   -- the messages that came to a call
   abbrev pub messages_run : ℕ → List (List ℕ)

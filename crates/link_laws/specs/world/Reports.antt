@@ -1,21 +1,15 @@
 -- What is told of a run.
-use Rattle.std.specs.Prelude.{◌==◌, ◌&&◌, Bool, true, false, length, count_by}
+use Rattle.std.specs.Prelude.{◌==◌, ◌&&◌, Bool, length, count_by}
 use Rattle.link_io.specs.Resources.{lengths_of}
 use Rattle.link_script.specs.declared.report.Report.{Report}
 use Rattle.rpc_packet.specs.declared.owned.Packet.{Packet}
-use Rattle.rpc_packet.specs.declared.packet_type.PacketType.{PacketType}
-use Rattle.rpc_packet.specs.declared.packet_type.PacketType.TheVariants.{ClientStream, ServerStream}
+use Rattle.history_laws.specs.messages.Messages.{is_stream}
 use Rattle.demo_services.specs.Methods.{transfer_id}
 use Rattle.link_laws.specs.world.World.{Setup, World, client_store, server_store}
 
-abbrev pub is_message_type : PacketType → Bool
-is_message_type ClientStream = true
-is_message_type ServerStream = true
-is_message_type _ = false
-
 -- a message of the transfer service is a chunk
 abbrev pub carries_chunk : Packet → Bool
-carries_chunk p = is_message_type p.ptype && (p.name.service == transfer_id)
+carries_chunk p = is_stream p.ptype && (p.name.service == transfer_id)
 
 -- THE REPORT OF A WORLD
 abbrev pub report_of : Setup → World → Report

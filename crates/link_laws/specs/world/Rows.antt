@@ -29,7 +29,7 @@ abbrev pub IsRow : Row → Type 0
 IsRow r = HasRun r.script r.report
 
 abbrev pub stock : ℕ → ℕ → Stock
-stock id length = record { id = id; length = length; seed = 1 }
+stock id size = record { id = id; len = size; seed = 1 }
 
 -- the server has resource 7, with so many bytes, and the client reads it from the start on; some frames are lost
 abbrev pub reading : ℕ → List (ℕ × Loss) → Script

@@ -21,7 +21,7 @@ made_bytes zero x = []
 made_bytes (suc n) x = number_behind x / 2 ^ 56 ∷ made_bytes n (number_behind x)
 
 abbrev pub made_resources : List Stock → Resources
-made_resources stocks = map (λ s. (s.id, made_bytes s.length s.seed)) stocks
+made_resources stocks = map (λ s. (s.id, made_bytes s.len s.seed)) stocks
 
 -- a store with these whole resources, and these that were left
 abbrev pub stocked : List Stock → List Stock → Stored

@@ -12,12 +12,12 @@ use Rattle.rpc_handlers.specs.HandlerRule.{empty_memo}
 use Rattle.rpc_journal.specs.declared.entry.Entry.{Entry}
 use Rattle.rpc_journal.specs.declared.entry.EntryKind.{EntryKind}
 use Rattle.rpc_journal.specs.declared.entry.EntryKind.TheVariants.{Invoke, Say, Done}
+use Rattle.rpc_journal.specs.declared.setting.Setting.{Setting}
 use Rattle.rpc_journal.specs.Calls.{call_count, calls, has_end}
 use Rattle.rpc_journal.specs.Effect.{Deed, Opening}
 use Rattle.rpc_journal.specs.Entries.{close_effect, made_from}
 use Rattle.rpc_journal.specs.History.{adding}
 use Rattle.rpc_journal.specs.Rows.{channels_in}
-use Rattle.rpc_ids.specs.declared.method.Role.TheVariants.{Server}
 use Rattle.rpc_channel.specs.Rising.{has_id}
 use Rattle.rpc_schedule.specs.Schedule.{run_seat}
 use Rattle.demo_services.specs.Methods.{demo_id, transfer_id}
@@ -70,6 +70,10 @@ transfer_by w (c ∷ cs) opening next t = record {
   sessions = w.sessions + 1;
 }
 
+-- how many calls end where a channel is closed, if that is in
+abbrev pub ended_by_close : Setting → List Deed → ℕ → Option ℕ
+ended_by_close set ds channel = if has_id (channels_in set ds) channel then Some (length (close_effect set.role ds channel).ends) else None
+
 module _ (k : Setup) (w : World) where
   abbrev pub starts_transfer : List ℕ → Transfer → Started
   starts_transfer method t =
@@ -106,12 +110,6 @@ module _ (k : Setup) (w : World) where
     sessions = w.sessions;
   }
 
-  -- how many calls of the server end where it closes a channel, if that is in
-  abbrev pub ended_by_close : ℕ → Option ℕ
-  ended_by_close channel =
-      let ds = server_deeds k w in
-      if has_id (channels_in k.server ds) channel then Some (length (close_effect Server ds channel).ends) else None
-
   -- THE DEFINITION OF A START
   abbrev pub starts : Command → Started
   starts (Read resource offset) = starts_read resource offset
@@ -120,4 +118,4 @@ module _ (k : Setup) (w : World) where
   starts (Count n) = starts_plain count (codes "Count") (n ∷ []) None
   starts (Sum bytes) = starts_plain sum (codes "Sum") [] (Some bytes)
   starts (Chat bytes) = starts_plain chat (codes "Chat") [] (Some bytes)
-  starts (Close channel) = unasked w (closing channel (ended_by_close channel))
+  starts (Close channel) = unasked w (closing channel (ended_by_close k.server (server_deeds k w) channel))

@@ -82,22 +82,30 @@ abbrev pub with_frame_at_client : World → List ℕ → List (List ℕ) → Wor
 with_frame_at_client w frame rest =
     record w { to_client = record w.to_client { frames = rest }; fed_client = w.fed_client ++ frame; delivered = w.delivered + 1 }
 
--- A frame is delivered to the server. The packets that are heard with it arrive: those heard in all bytes so far behind
--- those heard without it.
-pub record ServerHears (k : Setup) (w : World) (frame : List ℕ) (rest : List (List ℕ)) (now : World) : Type 0 where
+-- Behind these bytes a frame comes to the server. The packets that are heard with it arrive: those heard in all bytes so far
+-- behind those heard without it.
+pub record HeardAtServer (rule : HandlerRule) (set : Setting) (before after : List Entry) (fed frame : List ℕ) : Type 0 where
   pub packets : List Packet
-  pub heard : heard_packets Server (w.fed_server ++ frame) ≡ heard_packets Server w.fed_server ++ packets
+  pub heard : heard_packets Server (fed ++ frame) ≡ heard_packets Server fed ++ packets
+  pub takes : ServerTakes rule set packets before after
+
+-- the same at the client, at a moment, while this task speaks
+pub record HeardAtClient (set : Setting) (now : ℕ) (before : List Entry) (task : Option Tasked) (after : List Entry) (next : Option Tasked) (fed frame : List ℕ) : Type 0 where
+  pub packets : List Packet
+  pub heard : heard_packets Client (fed ++ frame) ≡ heard_packets Client fed ++ packets
+  pub takes : ClientTakes set now packets before task after next
+
+-- a frame is delivered to the server
+pub record ServerHears (k : Setup) (w : World) (frame : List ℕ) (rest : List (List ℕ)) (now : World) : Type 0 where
   pub after : List Entry
-  pub takes : ServerTakes k.rule k.server packets w.server after
+  pub hears : HeardAtServer k.rule k.server w.server after w.fed_server frame
   pub is : now ≡ finished k (with_server k (with_frame_at_server w frame rest) after)
 
--- the same at the client
+-- a frame is delivered to the client
 pub record ClientHears (k : Setup) (w : World) (frame : List ℕ) (rest : List (List ℕ)) (now : World) : Type 0 where
-  pub packets : List Packet
-  pub heard : heard_packets Client (w.fed_client ++ frame) ≡ heard_packets Client w.fed_client ++ packets
   pub after : List Entry
   pub task : Option Tasked
-  pub takes : ClientTakes k.client (moment w) packets w.client (task_of w) after task
+  pub hears : HeardAtClient k.client (moment w) w.client (task_of w) after task w.fed_client frame
   pub is : now ≡ finished k (with_client k (with_task task (with_frame_at_client w frame rest)) after)
 
 -- a command is under way
@@ -129,9 +137,9 @@ pub record Closes (k : Setup) (w : World) (channel : ℕ) (rest : List Command) 
   pub settles : Settles k.rule k.server (closed_by channel (ended_under (starts k w (Close channel)).under) w.server) after
   pub is : now ≡ finished k (with_server k (with_command w rest (starts k w (Close channel))) after)
 
-abbrev pub Starts : Setup → World → Command → List Command → World → Type 0
-Starts k w (Close channel) rest now = Closes k w channel rest now
-Starts k w command rest now = Asks k w command rest now
+abbrev pub StartTurn : Setup → World → Command → List Command → World → Type 0
+StartTurn k w (Close channel) rest now = Closes k w channel rest now
+StartTurn k w command rest now = Asks k w command rest now
 
 -- The plain call of the command under way is cancelled.
 pub record Cancels (k : Setup) (w : World) (call : ℕ) (now : World) : Type 0 where
@@ -156,7 +164,7 @@ pub record TimePasses (k : Setup) (w : World) (now : World) : Type 0 where
 abbrev pub TurnOf : Setup → World → Kind → World → Type 0
 TurnOf k w (to_server frame rest) now = ServerHears k w frame rest now
 TurnOf k w (to_client frame rest) now = ClientHears k w frame rest now
-TurnOf k w (starting command rest) now = Starts k w command rest now
+TurnOf k w (starting command rest) now = StartTurn k w command rest now
 TurnOf k w (cancelling call) now = Cancels k w call now
 TurnOf k w timing now = TimePasses k w now
 TurnOf k w ending now = ⊥

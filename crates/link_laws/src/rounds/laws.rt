@@ -11,7 +11,7 @@ pub fn tasks_begin()
     ensures { TasksBegin }
 {}
 
-/// A task that speaks through a call that is opened for it is polled without mail, and what it says goes out behind the packet
+/// A task that speaks through a call that is opened for it is polled without mail, and what it says goes out after the packet
 /// that opens the call.
 pub fn calls_open()
     ensures { CallsOpen }

@@ -12,7 +12,7 @@ pub fn offsets_are_agreed()
     ensures { OffsetsAreAgreed }
 {}
 
-/// The end OK that a client hears of a call of Write stands behind the session's Commit, among all that has gone out at any
+/// The end OK that a client hears of a call of Write stands after the session's Commit, among all that has gone out at any
 /// moment.
 pub fn ends_follow_commits()
     ensures { EndsFollowCommits }

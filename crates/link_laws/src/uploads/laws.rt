@@ -20,7 +20,7 @@ pub fn others_store_nothing()
     ensures { OthersStoreNothing }
 {}
 
-/// A call of Write tells the end OK of a session only behind the Commit of that session, but where the client itself has
+/// A call of Write tells the end OK of a session only after the Commit of that session, but where the client itself has
 /// told it: whatever comes to its sessions, and so in each legal history.
 pub fn okay_follows_commit()
     ensures sessions { OkayFollowsCommit }

@@ -21,7 +21,7 @@ abbrev pub two_numbers : ℕ → ℕ → List ℕ
 two_numbers n m = decimal n ++ (codes " " ++ decimal m)
 
 abbrev pub stock_text : Stock → List ℕ
-stock_text s = decimal s.id ++ (codes " " ++ two_numbers s.length s.seed)
+stock_text s = decimal s.id ++ (codes " " ++ two_numbers s.len s.seed)
 
 -- the line says how chunks are asked for, or what a store has
 abbrev pub IsSettingLine : List ℕ → Setting → Type 0

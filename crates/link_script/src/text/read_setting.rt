@@ -64,10 +64,10 @@ fn read_stock(text: &[u8]) -> Option<Stock>
     ensures only { (stock : Stock) → text.now ≡ stock_text stock → IsStock stock → result ≡ Some stock }
 {
     let (id, rest) = number_field(text)?;
-    let (length, seed) = number_field(rest)?;
+    let (len, seed) = number_field(rest)?;
     let seed = number(seed)?;
-    if length > MAX_STOCK {
+    if len > MAX_STOCK {
         return None;
     }
-    Some(Stock { id, length, seed })
+    Some(Stock { id, len, seed })
 }

@@ -1,4 +1,4 @@
-//! Whether a line may stand behind those before it, and what it adds to them.
+//! Whether a line may stand after those before it, and what it adds to them.
 ghost use Rattle.std.specs.Prelude.{◌≡◌, ◌==◌, OnOk, is_some};
 ghost use Rattle.std.specs.List.{list_any};
 ghost use Rattle.link_script.specs.text.Standing as spec;
@@ -8,7 +8,7 @@ use crate::{Losses, MAX_FULL, Script, Stock, Stocks};
 use rpc_ids::Role;
 use std::alloc::AllocError;
 
-/// Whether a line may stand behind the lines of the script so far.
+/// Whether a line may stand after the lines of the script so far.
 pub(crate) fn may_stand(script: &Script, line: &Line) -> bool
     ensures { result ≡ spec.may_stand script.now line.now }
 {
@@ -97,7 +97,7 @@ fn has_loss(losses: &Losses, frame: u32) -> bool
     losses.as_slice().iter().any(|loss| loss.0 == frame)
 }
 
-/// Adds what a line says, behind what the lines before it said.
+/// Adds what a line says, after what the lines before it said.
 pub(crate) fn add_line(script: &mut Script, line: Line) -> Result<(), AllocError>
     ensures { OnOk result (script.new ≡ spec.with_line script.old line) }
 {

@@ -1,9 +1,10 @@
 //! Both directions run beside each other.
-ghost use Rattle.std.specs.Prelude.{None};
+ghost use Rattle.std.specs.Prelude.{◌≡◌, false, None};
 
-use super::{TO_82, TO_123};
+use super::{TO_82, TO_123, ended_by};
 use frame_router::bridge::bridge;
 use link_io::{Failed, Linker, Sink, Source, Why};
+use std::process::Abort;
 use std::sync::atomic::{AtomicU64, Ordering};
 use std::test::Fail;
 use std::time::Duration;
@@ -94,6 +95,27 @@ impl<'a> Sink for Counting<'a> {
     }
 }
 
+// The ends of a link over which this frame comes.
+fn ends_of<'a, R>(
+    rt: &'a R,
+    frame: &'static [u8],
+    side: &'a Side,
+) -> (AfterWrite<'a, R>, Counting<'a>)
+    ensures { result.1.is_finished ≡ false }
+{
+    let link_in = AfterWrite {
+        rt,
+        frame,
+        is_given: false,
+        side,
+    };
+    let link_out = Counting {
+        side,
+        is_finished: false,
+    };
+    (link_in, link_out)
+}
+
 // Connects to the left side with a frame to 123, and then to the right one with a frame to 82.
 #[derive(Drop)]
 struct TwoSides<'a, R> {
@@ -128,22 +150,11 @@ impl<'a, R: time::Clock + Sync> Linker for TwoSides<'a, R> {
             return Err(Failed);
         }
         self.out += 1;
-        let (frame, side) = if path == "left" {
-            (TO_123, self.left)
+        if path == "left" {
+            Ok(ends_of(self.rt, TO_123, self.left))
         } else {
-            (TO_82, self.right)
-        };
-        let link_in = AfterWrite {
-            rt: self.rt,
-            frame,
-            is_given: false,
-            side,
-        };
-        let link_out = Counting {
-            side,
-            is_finished: false,
-        };
-        Ok((link_in, link_out))
+            Ok(ends_of(self.rt, TO_82, self.right))
+        }
     }
 
     fn back(&mut self, _link_in: AfterWrite<'a, R>, _link_out: Counting<'a>) {
@@ -163,12 +174,19 @@ fn both_directions_run_at_once(rt: HostRuntime) -> Result<(), Fail> {
         faults: 0,
     };
     let done = bridge(&rt, rt.alloc(), &mut net, "left", "right", 123, 82)?;
-    assert_eq!(rt; done.why(), Why::Settled);
-    assert_eq!(rt;
-        (done.from_left.tally.passed, done.from_right.tally.passed),
-        (1, 1)
+    ended_by(&rt, "at once", &done, Why::Settled);
+    number_is(&rt, "from the left", done.from_left.tally.passed, 1);
+    number_is(&rt, "from the right", done.from_right.tally.passed, 1);
+    number_is(&rt, "late at the left", left.late.load(Ordering::SeqCst), 0);
+    number_is(
+        &rt,
+        "late at the right",
+        right.late.load(Ordering::SeqCst),
+        0,
     );
-    assert_eq!(rt; left.late.load(Ordering::SeqCst), 0);
-    assert_eq!(rt; right.late.load(Ordering::SeqCst), 0);
     Ok(())
+}
+
+fn number_is(rt: &impl Abort, row: &str, number: u64, want: u64) {
+    assert_eq!(rt; number, want, "{row}");
 }

@@ -101,34 +101,37 @@ fn one_store_holds_a_folder(rt: HostRuntime) -> Result<(), Fail> {
     Ok(())
 }
 
+// What a run has left that was killed.
+const LEFT: &[(&str, &[u8])] = &[
+    ("left-7", &[1, 2, 3]),
+    ("work-0-1-7", &[1, 2, 3, 4]),
+    ("left-8", &[1, 2, 3]),
+    ("work-3-2-8", &[9, 9, 9]),
+    ("work-4294967295-0-9", &[5]),
+    ("work-0-3-10", &[]),
+    ("work-0-1", &[6]),
+    ("work-0-01-11", &[6]),
+];
+
+const TAKEN_UP: &[(&str, Option<&[u8]>)] = &[
+    ("left-7", Some(&[1, 2, 3, 4])),
+    ("work-0-1-7", None),
+    ("left-8", Some(&[1, 2, 3])),
+    ("work-3-2-8", None),
+    ("left-9", Some(&[5])),
+    ("work-4294967295-0-9", None),
+    ("work-0-3-10", None),
+    // These are no files of a store.
+    ("work-0-1", Some(&[6])),
+    ("work-0-01-11", Some(&[6])),
+];
+
 #[test]
 fn what_a_killed_run_left_is_taken_up(rt: HostRuntime) -> Result<(), Fail> {
-    let files = [
-        ("left-7", [1, 2, 3].as_slice()),
-        ("work-0-1-7", &[1, 2, 3, 4]),
-        ("left-8", &[1, 2, 3]),
-        ("work-3-2-8", &[9, 9, 9]),
-        ("work-4294967295-0-9", &[5]),
-        ("work-0-3-10", &[]),
-        ("work-0-1", &[6]),
-        ("work-0-01-11", &[6]),
-    ];
-    let folder = folder_of(&rt, &files)?;
+    let folder = folder_of(&rt, LEFT)?;
     let mut store = FolderStore::new(rt.alloc(), &rt, &folder)?;
     left_row(&rt, &mut store, &[(7, 4), (8, 3), (9, 1)])?;
-    let rows = [
-        ("left-7", Some([1, 2, 3, 4].as_slice())),
-        ("work-0-1-7", None),
-        ("left-8", Some(&[1, 2, 3])),
-        ("work-3-2-8", None),
-        ("left-9", Some(&[5])),
-        ("work-4294967295-0-9", None),
-        ("work-0-3-10", None),
-        // These are no files of a store.
-        ("work-0-1", Some(&[6])),
-        ("work-0-01-11", Some(&[6])),
-    ];
-    for (name, bytes) in rows {
+    for &(name, bytes) in TAKEN_UP {
         file_row(&rt, &folder, name, bytes)?;
     }
     fs::remove_dir_all(&rt, &folder)?;

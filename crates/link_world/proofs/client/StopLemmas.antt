@@ -20,7 +20,7 @@ use Rattle.link_laws.specs.world.Setup.{client_setting}
 use Rattle.link_laws.specs.world.World.{Tasked}
 use Rattle.link_world.proofs.server.HeardLemmas.{heard_further}
 use Rattle.link_world.specs.declared.client.under.Under.{Under}
-use Rattle.link_world.specs.client.ClientSide.{ClientHearingStops}
+use Rattle.link_world.specs.client.ClientSide.{ClientStopsHearing}
 use Rattle.link_world.specs.client.Underway.{task_seen}
 use Rattle.link_world.specs.client.Working.{TakesMore}
 
@@ -49,7 +49,7 @@ module _ (now : ℕ) (first : Serving) (u0 : Option Under) (old : Serving) (u1 :
       ∙ append_assoc (heard_packets Client fed) takes.packets (p ∷ []))
 
   hearing_stops : (p : Packet) → heard_packets Client (fed ++ take count frame) ≡ arrivals old.table.entries ++ p ∷ []
-      → StopsAt client_setting now p old.table.entries (task_seen u1) → ClientHearingStops now first u0 fed frame
+      → StopsAt client_setting now p old.table.entries (task_seen u1) → ClientStopsHearing now first u0 fed frame
   hearing_stops p upto stops =
       let all = heard_further Client fed (take count frame) (drop count frame) (takes.packets ++ p ∷ []) (heard_upto p upto) in
       record {
@@ -61,14 +61,14 @@ module _ (now : ℕ) (first : Serving) (u0 : Option Under) (old : Serving) (u1 :
 
   -- it was refused
   pub packet_stops : (mid : Serving) → HasHeard (heard_packets Client (fed ++ take count frame)) mid → is_full old.table.entries ≡ true
-      → mid ≡ refusing old JournalFull → ClientHearingStops now first u0 fed frame
+      → mid ≡ refusing old JournalFull → ClientStopsHearing now first u0 fed frame
   packet_stops mid heard full refused =
       let last = (subst (HasHeard (heard_packets Client (fed ++ take count frame))) refused heard).but_one refl in
       hearing_stops last.0 last.1 (inl full)
 
   -- it arrived, and the work behind it stopped
   pub work_stops : (mid : Serving) → HasHeard (heard_packets Client (fed ++ take count frame)) mid → old.refused ≡ None → TakesPacket old mid
-      → ClientStops client_setting now mid.table.entries (task_seen u1) → ClientHearingStops now first u0 fed frame
+      → ClientStops client_setting now mid.table.entries (task_seen u1) → ClientStopsHearing now first u0 fed frame
   work_stops mid heard accepted packet stops =
       let arrived = (subst (HasHeard (heard_packets Client (fed ++ take count frame))) packet.adds heard).all accepted in
       hearing_stops packet.packet (arrived ∙ arrivals-push old.table.entries (entry_by input_seat (Arrive packet.packet)))

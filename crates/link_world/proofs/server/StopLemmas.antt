@@ -23,7 +23,7 @@ use Rattle.link_laws.specs.world.Turns.{ServerTakes}
 use Rattle.link_world.specs.declared.server.stopped.Stopped.TheVariants.{Journal}
 use Rattle.link_world.specs.server.Stops.{stopped_by}
 use Rattle.link_world.specs.server.Resting.{IsResting, StopsWithin, TakesMore}
-use Rattle.link_world.specs.server.ServerSide.{ServerHearingStops}
+use Rattle.link_world.specs.server.ServerSide.{ServerStopsHearing}
 use Rattle.link_world.proofs.server.HeardLemmas.{heard_further}
 
 -- an error that is handed on as this one
@@ -95,7 +95,7 @@ module _ (rule : HandlerRule) (heard : List ℕ → List Packet) (first now : Se
       (inr (settling_stops rule (with_entry now input_seat (Arrive p)) new (subst (λ s. StopsFull rule s new) came.adds stops)))
 
 -- WHERE IT STOPS WITHIN A FRAME, IT STOPS AT A PACKET OF THE FRAME
-pub hearing_stops : (rule : HandlerRule) (s : Serving) (fed frame : List ℕ) → StopsWithin rule (heard_packets Server) s fed frame → ServerHearingStops rule s fed frame
+pub hearing_stops : (rule : HandlerRule) (s : Serving) (fed frame : List ℕ) → StopsWithin rule (heard_packets Server) s fed frame → ServerStopsHearing rule s fed frame
 hearing_stops rule s fed frame within =
     let further = heard_further Server fed (take within.count frame) (drop within.count frame) within.packets within.are_heard in
     record {

@@ -2,8 +2,6 @@
 use Rattle.std.specs.Prelude.{◌≡◌, ℕ, ◌≤◌, ◌<◌, List, ◌++◌, Option, IfSome}
 use Rattle.link_io.specs.Stored.{Stored}
 use Rattle.rpc_ids.specs.declared.method.Role.TheVariants.{Client}
-use Rattle.rpc_packet.specs.declared.owned.Packet.{Packet}
-use Rattle.rpc_frames.specs.Heard.{heard_packets}
 use Rattle.rpc_handlers.specs.declared.event.Event.{Event}
 use Rattle.rpc_journal.specs.declared.entry.Entry.{Entry}
 use Rattle.rpc_journal.specs.declared.item.Item.{Item}
@@ -13,10 +11,10 @@ use Rattle.rpc_journal.specs.States.{finished_since}
 use Rattle.rpc_schedule.specs.Kept.{kept}
 use Rattle.rpc_schedule.specs.Serving.{Serving, deeds}
 use Rattle.rpc_schedule.specs.ends.EndState.{EndState}
-use Rattle.link_laws.specs.world.Client.{ClientSettles, ClientTakes}
-use Rattle.link_laws.specs.world.Limits.{ClientTakingStops}
+use Rattle.link_laws.specs.world.Client.{ClientSettles}
+use Rattle.link_laws.specs.world.Limits.{ClientHearingStops}
 use Rattle.link_laws.specs.world.Setup.{client_setting}
-use Rattle.link_laws.specs.world.Turns.{under_with}
+use Rattle.link_laws.specs.world.Turns.{HeardAtClient, under_with}
 use Rattle.link_laws.specs.world.World.{Tasked}
 use Rattle.link_world.specs.server.Resting.{IsResting}
 use Rattle.link_world.specs.server.Wiring.{GoesOut, Wiring}
@@ -62,14 +60,10 @@ pub record ClientWorks (now : ℕ) (before : List Entry) (old : Option Under) (a
 -- Behind these bytes a frame was fed, at a moment: the packets that are heard with it arrived, and the client did its work
 -- behind each.
 pub record ClientHears (now : ℕ) (before : Serving) (old : Option Under) (after : Serving) (new : Option Under) (fed frame : List ℕ) : Type 0 where
-  pub packets : List Packet
-  pub heard : heard_packets Client (fed ++ frame) ≡ heard_packets Client fed ++ packets
   pub next : Option Tasked
-  pub takes : ClientTakes client_setting now packets before.table.entries (task_seen old) after.table.entries next
+  pub hears : HeardAtClient client_setting now before.table.entries (task_seen old) after.table.entries next fed frame
   pub under : under_seen new ≡ under_with next (under_seen old)
 
 -- behind these bytes the frame was fed up to a packet that has no room, or whose work has none
-pub record ClientHearingStops (now : ℕ) (before : Serving) (old : Option Under) (fed frame : List ℕ) : Type 0 where
-  pub packets : List Packet
-  pub heard : heard_packets Client (fed ++ frame) ≡ heard_packets Client fed ++ packets
-  pub stops : ClientTakingStops client_setting now packets before.table.entries (task_seen old)
+abbrev pub ClientStopsHearing : ℕ → Serving → Option Under → List ℕ → List ℕ → Type 0
+ClientStopsHearing now before old fed frame = ClientHearingStops client_setting now before.table.entries (task_seen old) fed frame

@@ -1,9 +1,6 @@
 -- A transfer of the client as a task that speaks through a call.
 use Rattle.std.specs.Prelude.{◌≡◌, ℕ, ◌≤◌, Bool, true, false, List, [], flat_map, Option, Some, None}
 use Rattle.slab.specs.Slab.{get}
-use Rattle.link_script.specs.declared.report.ReportLine.{ReportLine}
-use Rattle.link_script.specs.declared.report.ReportLine.TheVariants as line
-use Rattle.rpc_ids.specs.declared.status.Status.{Status}
 use Rattle.rpc_handlers.specs.declared.answer.Out.{Out}
 use Rattle.rpc_handlers.specs.declared.event.Event.{Event}
 use Rattle.rpc_journal.specs.declared.entry.Entry.{Entry}
@@ -42,11 +39,6 @@ resource_in (writes u) = u.resource
 abbrev pub offset_in : Transfer → ℕ
 offset_in (reads d) = read_offset d
 offset_in (writes u) = write_offset u
-
--- the line of a transfer that has ended so, with this length
-abbrev pub line_with : Transfer → Status → ℕ → ReportLine
-line_with (reads d) status length = line.Read d.resource (read_offset d) status length
-line_with (writes u) status length = line.Write u.resource (write_offset u) status length
 
 abbrev pub transfer_in : Way → Transfer
 transfer_in (Read r) = reads r.download

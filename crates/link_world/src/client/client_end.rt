@@ -14,7 +14,7 @@ ghost use Rattle.link_laws.specs.world.Limits.{AskingStops, ClientStops};
 ghost use Rattle.link_laws.specs.world.Setup.{client_setting, quiet_rule};
 ghost use Rattle.link_laws.specs.world.World.{Setup, World};
 ghost use Rattle.link_world.specs.client.Asking.{ClientAsks, IsAsked, IsClientOf};
-ghost use Rattle.link_world.specs.client.ClientSide.{Attends, ClientHearingStops, ClientHears, ClientMoves, ClientRests, ClientWorks};
+ghost use Rattle.link_world.specs.client.ClientSide.{Attends, ClientHears, ClientMoves, ClientRests, ClientStopsHearing, ClientWorks};
 ghost use Rattle.link_world.specs.client.Working.{IsKept, Settled};
 ghost use Rattle.link_world.specs.client.Underway.{task_seen};
 
@@ -84,7 +84,7 @@ impl ClientEnd {
         (client.into_calls().into_journal(), store)
     }
 
-    /// A frame comes: each packet that is heard in it arrives, and the client does its work behind it. After an `Err` the
+    /// A frame comes: each packet that is heard in it arrives, and the client does its work after it. After an `Err` the
     /// world is to be given up.
     pub fn deliver(
         &mut self,
@@ -100,7 +100,7 @@ impl ClientEnd {
         ensures hears { OnOk result ((fed : List ℕ) → WasFed client_role self.old.end fed → ClientHears now self.old.end.serving under.old self.new.end.serving under.new fed frame.now) }
         ensures fed { OnOk result ((fed : List ℕ) → WasFed client_role self.old.end fed → WasFed client_role self.new.end (fed ++ frame.now)) }
         ensures moves { OnOk result (ClientMoves self.old wires.old self.new wires.new) }
-        ensures full { IfErr result (λ why. why ≡ Stopped.Journal → (fed : List ℕ) → WasFed client_role self.old.end fed → ClientHearingStops now self.old.end.serving under.old fed frame.now) }
+        ensures full { IfErr result (λ why. why ≡ Stopped.Journal → (fed : List ℕ) → WasFed client_role self.old.end fed → ClientStopsHearing now self.old.end.serving under.old fed frame.now) }
     {
         feed_all(
             &mut self.client,

@@ -1,8 +1,8 @@
 //! A transfer under way: its task, and how it is polled.
 ghost use Rattle.std.specs.Prelude.{◌≡◌, ◌≤◌, None, IfOk};
 ghost use Rattle.link_laws.specs.world.Client.{task_polled, transfer_says};
-ghost use Rattle.link_laws.specs.world.Lines.{transfer_end};
-ghost use Rattle.link_world.specs.client.Speaking.{is_read, line_with, mail_among, resource_in, session_in, transfer_in};
+ghost use Rattle.link_laws.specs.world.Lines.{line_telling, transfer_end};
+ghost use Rattle.link_world.specs.client.Speaking.{is_read, mail_among, resource_in, session_in, transfer_in};
 
 use crate::client::polling::{poll_once, post_all, take_outs};
 use crate::client::transfer_task::{TransferTask, Way};
@@ -81,6 +81,7 @@ impl Speaker {
         self.call
     }
 
+    /// The id of the session that the transfer speaks in.
     pub fn session(&self) -> u32
         ensures { result ≡ self.now.task.session }
     {
@@ -103,7 +104,7 @@ impl Speaker {
 
     /// The line that tells of it where it has ended so, with this length.
     pub fn line(&self, status: Status, length: u64) -> ReportLine
-        ensures { result ≡ line_with self.now.task.transfer status length }
+        ensures { result ≡ line_telling self.now.task.transfer status length }
     {
         let resource = self.resource;
         let way = &self.tasks.task(self.key).way;

@@ -16,7 +16,7 @@ ghost use Rattle.link_laws.specs.world.Setup.{client_setting};
 ghost use Rattle.link_laws.specs.world.Turns.{under_with};
 ghost use Rattle.link_world.specs.server.Resting.{IsResting};
 ghost use Rattle.link_world.specs.server.Wiring.{GoesOut};
-ghost use Rattle.link_world.specs.client.ClientSide.{ClientHearingStops};
+ghost use Rattle.link_world.specs.client.ClientSide.{ClientStopsHearing};
 ghost use Rattle.link_world.specs.client.Speaking.{SayingStops, polled_with, said_with};
 ghost use Rattle.link_world.specs.client.Underway.{call_seen, last_poll, task_seen, under_seen};
 ghost use Rattle.link_world.specs.client.Working.{ClientFlushes, ClientRuns, ClientRunsFull, ClientSays, IsKept, Settled, TakesMore, stop_of};
@@ -32,7 +32,7 @@ use rpc_ids::Role;
 use rpc_journal::{Item, StartRefused};
 use std::alloc::AllocError;
 
-/// Feeds a frame, and does the client's work behind each packet that is heard in it.
+/// Feeds a frame, and does the client's work after each packet that is heard in it.
 pub(crate) fn feed_all<S: Store>(
     client: &mut Client<Quiet>,
     frame: &[u8],
@@ -55,7 +55,7 @@ pub(crate) fn feed_all<S: Store>(
     ensures out { OnOk result (GoesOut client_role items.old.items wires.old items.new.items wires.new) }
     ensures holds { OnOk result ((st : Option Stored) → Holds items.old.items st (S.holds store.old) → Holds items.new.items st (S.holds store.new)) }
     ensures fed { OnOk result ((bytes : List ℕ) → WasFed client_role client.old bytes → WasFed client_role client.new (bytes ++ frame.now)) }
-    ensures full { IfErr result (λ why. why ≡ Stopped.Journal → (bytes : List ℕ) → WasFed client_role client.old bytes → ClientHearingStops now client.old.serving under.old bytes frame.now) }
+    ensures full { IfErr result (λ why. why ≡ Stopped.Journal → (bytes : List ℕ) → WasFed client_role client.old bytes → ClientStopsHearing now client.old.serving under.old bytes frame.now) }
 {
     let mut done = 0;
     'frames: while done < frame.len() {

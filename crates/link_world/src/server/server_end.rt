@@ -16,7 +16,8 @@ ghost use Rattle.link_laws.specs.world.Turns.{closed_by};
 ghost use Rattle.rpc_schedule.specs.Schedule.{Settles, flush_seat, input_seat};
 ghost use Rattle.rpc_schedule.specs.Serving.{deeds};
 ghost use Rattle.rpc_schedule.specs.ends.EndState.{WasFed};
-ghost use Rattle.link_world.specs.server.ServerSide.{ServerHearingStops, ServerHears, ServerMoves, ServerRests, ended_at_close};
+ghost use Rattle.link_laws.specs.world.Starts.{ended_by_close};
+ghost use Rattle.link_world.specs.server.ServerSide.{ServerHears, ServerMoves, ServerRests, ServerStopsHearing};
 
 use crate::server::channels::world_channels;
 use crate::server::progress::committed;
@@ -89,8 +90,8 @@ impl ServerEnd {
         ensures settles { IfOk result (λ ended. Settles demo_rule self.old.end.serving.table.setting (closed_by channel ended self.old.end.serving.table.entries) self.new.end.serving.table.entries) }
         ensures fed { OnOk result ((fed : List ℕ) → WasFed server_role self.old.end fed → WasFed server_role self.new.end fed) }
         ensures moves { OnOk result (ServerMoves self.old wires.old self.new wires.new) }
-        ensures counts { IfOk result (λ ended. ended ≡ ended_at_close self.old.end.serving.table.setting (deeds self.old.end.serving) channel) }
-        ensures full { IfErr result (λ why. why ≡ Stopped.Journal → (is_full self.old.end.serving.table.entries ≡ true) ⊎ ServerStops demo_rule self.old.end.serving.table.setting (closed_by channel (ended_at_close self.old.end.serving.table.setting (deeds self.old.end.serving) channel) self.old.end.serving.table.entries)) }
+        ensures counts { IfOk result (λ ended. ended ≡ ended_by_close self.old.end.serving.table.setting (deeds self.old.end.serving) channel) }
+        ensures full { IfErr result (λ why. why ≡ Stopped.Journal → (is_full self.old.end.serving.table.entries ≡ true) ⊎ ServerStops demo_rule self.old.end.serving.table.setting (closed_by channel (ended_by_close self.old.end.serving.table.setting (deeds self.old.end.serving) channel) self.old.end.serving.table.entries)) }
     {
         let ended = match self.server.close_channel(channel) {
             Ok(ended) => Some(ended),
@@ -127,7 +128,7 @@ impl ServerEnd {
         ensures hears { OnOk result ((fed : List ℕ) → WasFed server_role self.old.end fed → ServerHears demo_rule self.old.end.serving self.new.end.serving fed frame.now) }
         ensures fed { OnOk result ((fed : List ℕ) → WasFed server_role self.old.end fed → WasFed server_role self.new.end (fed ++ frame.now)) }
         ensures moves { OnOk result (ServerMoves self.old wires.old self.new wires.new) }
-        ensures full { IfErr result (λ why. why ≡ Stopped.Journal → (fed : List ℕ) → WasFed server_role self.old.end fed → ServerHearingStops demo_rule self.old.end.serving fed frame.now) }
+        ensures full { IfErr result (λ why. why ≡ Stopped.Journal → (fed : List ℕ) → WasFed server_role self.old.end fed → ServerStopsHearing demo_rule self.old.end.serving fed frame.now) }
     {
         feed_all(
             &mut self.server,

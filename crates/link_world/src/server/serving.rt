@@ -17,7 +17,7 @@ use rpc_journal::{Item, StartRefused};
 use rpc_schedule::{Serves, make_action};
 use std::alloc::AllocError;
 
-/// Feeds a frame, and settles behind each packet that is heard in it.
+/// Feeds a frame, and settles after each packet that is heard in it.
 pub(crate) fn feed_all<T: Serves, S: Store>(
     server: &mut T,
     frame: &[u8],

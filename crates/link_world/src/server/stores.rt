@@ -11,11 +11,11 @@ use std::alloc::{AllocError, Global};
 
 /// The bytes of a resource: the highest byte of each number that the generator gives, from the seed on.
 pub fn stock_bytes(alloc: Global, stock: Stock) -> Result<Bytes, AllocError>
-    ensures { IfOk result (λ bytes. bytes ≡ made_bytes stock.length stock.seed) }
+    ensures { IfOk result (λ bytes. bytes ≡ made_bytes stock.len stock.seed) }
 {
     let mut bytes = Vec::new(alloc);
     let mut x = stock.seed;
-    for _made in 0..stock.length {
+    for _made in 0..stock.len {
         x = next_number(x);
         bytes.push((x >> 56) as u8)?;
     }

@@ -2,7 +2,8 @@
 ghost use Rattle.std.specs.Prelude.{◌≡◌, ◌∷◌, [], IfOk, OnOk, IfNone, ◌++◌, option_to_list, length, count_by};
 ghost use Rattle.link_script.specs.lossy.Link.{new_link, released};
 ghost use Rattle.rpc_journal.specs.Items.{packet_of};
-ghost use Rattle.link_laws.specs.world.Reports.{carries_chunk, is_message_type};
+ghost use Rattle.history_laws.specs.messages.Messages.{is_stream};
+ghost use Rattle.link_laws.specs.world.Reports.{carries_chunk};
 ghost use Rattle.link_world.specs.server.Wiring.{with_all_sent, with_sent};
 
 use bytes::Bytes;
@@ -103,13 +104,14 @@ impl Wires {
         self.to_client.take_frame()
     }
 
-    /// Both directions.
+    /// The link to the server.
     pub fn to_server(&self) -> &LossyLink
         ensures { result.now ≡ self.now.to_server }
     {
         &self.to_server
     }
 
+    /// The link to the client.
     pub fn to_client(&self) -> &LossyLink
         ensures { result.now ≡ self.now.to_client }
     {
@@ -139,11 +141,11 @@ impl Wires {
 fn carries_chunk(packet: &Packet) -> bool
     ensures { result ≡ carries_chunk packet.now }
 {
-    is_message_type(packet.ptype) && packet.name.service == ids::TRANSFER
+    is_stream(packet.ptype) && packet.name.service == ids::TRANSFER
 }
 
-fn is_message_type(ptype: PacketType) -> bool
-    ensures { result ≡ is_message_type ptype }
+fn is_stream(ptype: PacketType) -> bool
+    ensures { result ≡ is_stream ptype }
 {
     match ptype {
         PacketType::ClientStream | PacketType::ServerStream => true,

@@ -10,7 +10,7 @@ use rpc_handlers::Handler;
 use rpc_journal::{Entry, EntryKind};
 
 impl<H: Handler> Calls<H> {
-    /// The input has ended: `Ended(UNAVAILABLE)` waits for each live call, behind its other events. It is never refused,
+    /// The input has ended: `Ended(UNAVAILABLE)` waits for each live call, after its other events. It is never refused,
     /// and takes no memory.
     pub fn end_in(&mut self, seat: u32)
         requires { IsInputOpen self.old.setting self.old.entries seat }

@@ -90,7 +90,7 @@ impl IndexedStates {
         self.index.change(call, was, is);
     }
 
-    /// The server ends the call: its end waits behind its other events. There is a place for it.
+    /// The server ends the call: its end waits after its other events. There is a place for it.
     pub fn end(&mut self, call: u32, at: u64, status: Status)
         requires there { call < length self.old.calls.items }
         requires live { (r : CallState) → slice_get self.old.calls.items call ≡ Some r → r.status ≡ None }

@@ -24,7 +24,7 @@ impl<H: Handler> Client<H> {
     /// # Errors
     ///
     /// Where the journal has no room for a run, or memory is wanting. A run that began before memory was wanting is kept,
-    /// and the next call goes on with it.
+    /// and the next `work` goes on with it.
     pub fn work(&mut self) -> Result<Option<(u32, Event)>, StartRefused>
         ensures step { WorksOn H.rule self.old.serving result self.new.serving }
         ensures listener { self.new.listener ≡ self.old.listener }

@@ -38,7 +38,7 @@ pub enum Move {
     Complete(usize),
     /// At a client the packet is of no live call: a reply of no call goes out.
     Stray,
-    /// At a client the call ends with this status, behind what waits for it.
+    /// At a client the call ends with this status, after what waits for it.
     End(usize, Status),
     /// At a client the call ends, as its method has no such stream, and the server is told.
     Refuse(usize),

@@ -65,7 +65,7 @@ impl CallStates {
         state.close(at, status);
     }
 
-    /// An arrival ends the call with this status, behind what waits for it.
+    /// An arrival ends the call with this status, after what waits for it.
     pub fn end(&mut self, at: u64, call: usize, status: Status)
         requires room { HasRoomAt self.old.calls.items call }
         requires live { IsOpenAt self.old.calls.items call }

@@ -77,7 +77,7 @@ impl CallState {
         self.waiting.push_back_reserved(Waiting { at, event });
     }
 
-    /// The peer ends the call: its end waits behind what waits. There must be room for it.
+    /// The peer ends the call: its end waits after what waits. There must be room for it.
     pub fn end(&mut self, at: u64, status: Status)
         requires open_call { self.old.status ≡ None }
         requires room { deque_len self.old.waiting < deque_capacity self.old.waiting }
@@ -90,7 +90,7 @@ impl CallState {
         });
     }
 
-    /// The peer ends the call with a last message: it waits behind what waits, and then the end. There must be room
+    /// The peer ends the call with a last message: it waits after what waits, and then the end. There must be room
     /// for both.
     pub fn answer(&mut self, at: u64, payload: Bytes, status: Status)
         requires open_call { self.old.status ≡ None }

@@ -11,7 +11,7 @@ use rpc_schedule::RUNS;
 
 impl<M: Maker> Server<M> {
     /// Closes a channel: its live calls end with `ABORTED`, each client is told so, and the channel is in no longer. A
-    /// handler that runs goes on. Answers how many calls ended. It may also be called behind `end_in`.
+    /// handler that runs goes on. Answers how many calls ended. It may also be called after `end_in`.
     ///
     /// # Errors
     ///

@@ -21,7 +21,7 @@ impl<M: Maker> Server<M> {
     ///
     /// # Errors
     ///
-    /// Where the packet was refused. It didn't arrive then, and each later call answers the same.
+    /// Where the packet was refused. It didn't arrive then, and each later `feed` answers the same.
     pub fn feed(&mut self, piece: &[u8]) -> Result<usize, StartRefused>
         requires open { input_ended (deeds self.old.serving) ≡ false }
         requires idle { is_idle self.old.serving ≡ true }
@@ -78,7 +78,7 @@ impl<M: Maker> Server<M> {
         }
     }
 
-    /// The input has ended: each live call is told so, behind its other events. It is never refused, and takes no memory.
+    /// The input has ended: each live call is told so, after its other events. It is never refused, and takes no memory.
     pub fn end_in(&mut self)
         requires open { input_ended (deeds self.old.serving) ≡ false }
         ensures step { EndsInput self.old.serving self.new.serving }

@@ -23,7 +23,7 @@ impl<M: Maker> Server<M> {
     /// # Errors
     ///
     /// Where the journal has no room for a run, or memory is wanting. A run that began before memory was wanting is kept,
-    /// and the next call goes on with it.
+    /// and the next `work` goes on with it.
     pub fn work(&mut self) -> Result<bool, StartRefused>
         ensures step { Works M.H.rule self.old.serving result self.new.serving }
         ensures listener { self.new.listener ≡ self.old.listener }

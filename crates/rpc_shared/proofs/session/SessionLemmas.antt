@@ -35,6 +35,7 @@ use Rattle.rpc_shared.specs.declared.session.item_log.ItemLog.{ItemLog}
 use Rattle.rpc_shared.specs.declared.session.parcel.Parcel.{Parcel}
 use Rattle.rpc_shared.specs.declared.session.parcel.Parcel.TheVariants.{End}
 use Rattle.rpc_shared.specs.session.Crew.{AllWorked, AreOf, AreWorkers, IsLate, Lock, Reader, ReaderEnded, Seat, Stands, Worker, is_feeding, is_pumps, is_readers, is_stop, is_want, is_workers}
+use Rattle.rpc_shared.specs.session.Leaving.{HasEnd}
 use Rattle.rpc_shared.specs.session.Ring.{HaltsFor, PumpEnded, Takes, WriterEnded, closed, parcels}
 use Rattle.rpc_shared.specs.session.Sessions.{AreLate, AreOfSession, is_entry_of, is_halted, is_halting, runs_handlers}
 use Rattle.rpc_shared.proofs.session.PassLemmas.{late_still, own_there}
@@ -166,6 +167,9 @@ module _ (rule : HandlerRule) (r : Lock) (workers : ℕ) (q0 q1 qw : Seat) (qs :
 
   pump_fits : FitsValue log_of seat_of base_of 1 q1 t
   pump_fits = c.fits.each 1 q1 refl
+
+  pub pump_begins : IsPrefix q1.view.known.seen t.entries
+  pump_begins = pump_fits.begins
 
   -- one of the passes, and what it is
   record Part (k : ℕ) (q : Seat) : Type 0 where
@@ -499,3 +503,21 @@ module _ (rule : HandlerRule) (r : Lock) (w0 w : Option (List ℕ)) (d0 d : Opti
       }
       at (inl whole) (inr cut) = absurd (calmw cut.1)
       at (inr cut_short) end = absurd (calm1 cut_short.2)
+
+-- no end stands among items
+no_end : (xs ys : List Item) (rest : List Parcel) → closed xs ++ rest ≡ parcels ys → ⊥
+no_end [] [] rest is = cc is
+no_end [] (y ∷ ys) rest is = cc is
+no_end (x ∷ xs) [] rest is = cc is
+no_end (x ∷ xs) (y ∷ ys) rest is = no_end xs ys rest (cc is)
+
+-- where the end came through the ring the table was settled
+pub settled_then : (rule : HandlerRule) (r : Lock) (put got known : List Parcel) (q1 : Seat) → PumpEnded rule r put q1 → got ++ known ≡ put → HasEnd got → is_settled (history r.base q1.view.known.seen) ≡ true
+settled_then rule r put got known q1 x fifo end = at x.cause
+  where
+    at : ((put ≡ closed x.items) × (is_settled (history r.base q1.view.known.seen) ≡ true)) ⊎ ((hand : List Parcel) × (put ++ hand ≡ parcels x.items) × (is_halted r.base q1.view.known.seen ≡ true))
+        → is_settled (history r.base q1.view.known.seen) ≡ true
+    at (inl whole) = whole.1
+    at (inr cut) =
+        absurd (no_end end.0 x.items (known ++ cut.0)
+        (sym (append_assoc (closed end.0) known cut.0) ∙ (ap (λ ps. (ps ++ known) ++ cut.0) (sym end.1) ∙ (ap (λ ps. ps ++ cut.0) fifo ∙ cut.1))))

@@ -4,6 +4,8 @@ use Rattle.std.specs.Io.KnownBytes.{Consumes}
 use mathlib.Core.List.{IsPrefix}
 use Rattle.link_io.specs.declared.shelf.Shelf.{Shelf}
 use Rattle.link_io.specs.Stored.{Stored, shelf_of}
+use Rattle.link_io.specs.declared.why.Why.{Why}
+use Rattle.link_io.specs.declared.why.Why.TheVariants as reason
 use Rattle.rpc_ids.specs.declared.method.Role.TheVariants.{Server}
 use Rattle.rpc_frames.specs.declared.counts.Counts.{Counts}
 use Rattle.rpc_frames.specs.Heard.{heard_packets}
@@ -17,7 +19,7 @@ use Rattle.rpc_schedule.specs.OneThread.{HasRoom, IsFullBeginning, IsOneThreadHi
 use Rattle.rpc_schedule.proofs.ScheduleLemmas.{one_history}
 use Rattle.demo_services.specs.DemoRule.{demo_rule}
 use Rattle.pw_run.specs.declared.command.Command.{Command}
-use Rattle.pw_run.specs.declared.command.Command.TheVariants.{Replay, Text, Load}
+use Rattle.pw_run.specs.declared.command.Command.TheVariants.{Replay, Text, Load, Dump}
 use Rattle.pw_run.specs.declared.command.Form.{Form}
 use Rattle.pw_run.specs.declared.outcome.Outcome.{Outcome}
 use Rattle.pw_run.specs.declared.outcome.Outcome.TheVariants.{Done, NoMemory, BadWords, SourceFault, SinkFault, StoreFault, LinkFault, BadLine, InputLimit, JournalLimit, FrameLimit, NotOkay}
@@ -25,13 +27,15 @@ use Rattle.pw_run.specs.declared.text_command.TextCommand.{TextCommand}
 use Rattle.pw_run.specs.declared.told.Found.{Found}
 use Rattle.pw_run.specs.declared.told.Found.TheVariants as found
 use Rattle.pw_run.specs.Demo.{demo_setting}
+use Rattle.pw_run.specs.Dump.{DidDump}
 use Rattle.pw_run.specs.Load.{DidLoad, ServesLoad}
-use Rattle.pw_run.specs.Outcome.{code_of, outcome_of}
+use Rattle.pw_run.specs.Outcome.{code_of, outcome_for, outcome_of}
 use Rattle.pw_run.specs.Recorded.{Did, EndsWith}
 use Rattle.pw_run.specs.Replay.{DidReplay, ListsNothing, RunsReplay, ServesDemo, ServesStream}
 use Rattle.pw_run.specs.Tells.{DidText, ReadsText, Tells}
 use Rattle.pw_run.specs.Texts.{FailsToRead, MeetsLimit, limit_of, outcome_on}
 use Rattle.pw_run.specs.Writes.{Writes, WritesOrFails}
+use Rattle.stream_dump.specs.Ends.{IsEnding}
 use Rattle.run_laws.specs.statuses.CalmCrews.{setting_over}
 use Rattle.run_laws.specs.statuses.Statuses.{HasRoomIn, HasShortRun, IsBlameless, IsShorter, IsWell, RecordedEndWell, RecordedHadRoom}
 use Rattle.run_laws.proofs.statuses.CrewLemmas.{all_taken, shelf_is}
@@ -263,6 +267,35 @@ load_well calls seed written_old written_new outcome did none = at outcome did n
     at FrameLimit did none = by FrameLimit did none
     at NotOkay did none = by NotOkay did none
 
+-- ---- dumps
+
+module _ (input : List ℕ) (left_new written_old written_new : Option (List ℕ)) (outcome : Outcome)
+    (did : DidDump (Some input) left_new written_old written_new outcome) where
+  dump_well : Blameless outcome → length input < INPUT_LIMIT → EndsSo outcome
+  dump_well none short = at did.why did.own did.ending did.dumps.at_limit
+    where
+      at : (why : Why) → outcome ≡ outcome_for why → IsEnding why → (why ≡ reason.InputLimit → length did.dumps.bytes ≡ INPUT_LIMIT) → EndsSo outcome
+      at reason.Settled own ending limit = inl own
+      at reason.Source own ending limit = absurd (none.source own)
+      at reason.Sink own ending limit = absurd (none.sink own)
+      at reason.Store own ending limit = absurd ending
+      at reason.InputLimit own ending limit = absurd (not_all input did.dumps.bytes left_new INPUT_LIMIT did.dumps.taken (limit refl) short)
+      at reason.JournalLimit own ending limit = absurd ending
+      at reason.Memory own ending limit = absurd ending
+
+  dump_had_room : outcome ≡ Done → length input < INPUT_LIMIT
+  dump_had_room is = at did.why (sym is ∙ did.own) did.dumps.below (λ settled. all_taken input did.dumps.bytes left_new did.dumps.taken (did.dumps.at_end settled))
+    where
+      at : (why : Why) → Done ≡ outcome_for why → (why ≡ reason.Settled → length did.dumps.bytes < INPUT_LIMIT) → (why ≡ reason.Settled → did.dumps.bytes ≡ input)
+          → length input < INPUT_LIMIT
+      at reason.Settled own below all = subst (λ t. length t < INPUT_LIMIT) (all refl) (below refl)
+      at reason.Source own below all = absurd (cc own)
+      at reason.Sink own below all = absurd (cc own)
+      at reason.Store own below all = absurd (cc own)
+      at reason.InputLimit own below all = absurd (cc own)
+      at reason.JournalLimit own below all = absurd (cc own)
+      at reason.Memory own below all = absurd (cc own)
+
 -- ---- all recorded commands
 
 pub recorded_end_well : RecordedEndWell
@@ -277,6 +310,9 @@ recorded_end_well (Text command) status left_old left written_old written_new st
     (λ said. good within.input said within.left_is))
 recorded_end_well (Load calls seed) status left_old left written_old written_new store_old store_new ends none within good =
     well status ends.0 ends.1 (load_well calls seed written_old written_new ends.0 ends.2 (blameless status ends.0 ends.1 none))
+recorded_end_well Dump status left_old left written_old written_new store_old store_new ends none within good =
+    let did = subst (λ x. DidDump x left written_old written_new ends.0) within.1 ends.2 in
+    well status ends.0 ends.1 (dump_well within.0 left written_old written_new ends.0 did (blameless status ends.0 ends.1 none) within.2)
 
 did_done : (command : Command) (status : ℕ) (left_old left written_old written_new : Option (List ℕ)) (store_old store_new : Option Stored)
     → EndsWith status (Did command left_old left written_old written_new store_old store_new) → status ≡ code_of Done
@@ -303,3 +339,6 @@ recorded_had_room (Text command) status left_old left written_old written_new st
     let did = did_done (Text command) status left_old left written_old written_new store_old store_new ends is in
     text_had_room command input left written_old written_new (subst (λ x. DidText command x left written_old written_new Done) left_is did)
 recorded_had_room (Load calls seed) status left_old left written_old written_new store_old store_new ends is = tt
+recorded_had_room Dump status left_old left written_old written_new store_old store_new ends is = λ input left_is.
+    let did = did_done Dump status left_old left written_old written_new store_old store_new ends is in
+    dump_had_room input left written_old written_new Done (subst (λ x. DidDump x left written_old written_new Done) left_is did) refl

@@ -15,7 +15,7 @@ use Rattle.live_client.specs.declared.ask.LiveAsk.{LiveAsk}
 use Rattle.run_report.specs.declared.live_report.LiveLine.{LiveLine}
 use Rattle.pw_run.specs.declared.client_command.ClientCommand.{ClientCommand}
 use Rattle.pw_run.specs.declared.command.Command.{Command}
-use Rattle.pw_run.specs.declared.command.Command.TheVariants.{Replay, Text, Load}
+use Rattle.pw_run.specs.declared.command.Command.TheVariants.{Replay, Text, Load, Dump}
 use Rattle.pw_run.specs.declared.live_command.LiveCommand.{LiveCommand}
 use Rattle.pw_run.specs.declared.live_command.LiveCommand.TheVariants.{Crew, Serve, Bridge, Client}
 use Rattle.pw_run.specs.declared.outcome.Outcome.TheVariants as outcome
@@ -64,12 +64,13 @@ pub record IsShortText (command : TextCommand) (left : Option (List ℕ)) : Type
   pub short : length input < limit_of command
   pub runs : HasShortRun command input
 
--- No limit is met by a recorded command over what is left of this input, and over this store. A text asks for no store, and a load for
--- neither.
+-- No limit is met by a recorded command over what is left of this input, and over this store. A text and a dump ask for no store, and a
+-- load for neither.
 abbrev pub IsWithinLimits : Command → Option (List ℕ) → Option Stored → Type 0
 IsWithinLimits (Replay form) left held = IsShortStream left held
 IsWithinLimits (Text command) left held = IsShortText command left
 IsWithinLimits (Load calls seed) left held = Unit {0}
+IsWithinLimits Dump left held = (input : List ℕ) × (left ≡ Some input) × (length input < INPUT_LIMIT)
 
 -- no line of a text is bad
 abbrev pub HasGoodLines : Command → Option (List ℕ) → Type 0
@@ -98,6 +99,7 @@ abbrev pub HadRoom : Command → Option (List ℕ) → Option Stored → Type 0
 HadRoom (Replay form) left held = IsShorter INPUT_LIMIT left × HasRoomIn left held
 HadRoom (Text command) left held = IsShorter (limit_of command) left
 HadRoom (Load calls seed) left held = Unit {0}
+HadRoom Dump left held = IsShorter INPUT_LIMIT left
 
 abbrev pub RecordedHadRoom : Type 0
 RecordedHadRoom =

@@ -46,7 +46,7 @@ fn a_text_of_nothing_says_nothing(rt: HostRuntime) -> Result<(), Fail> {
 
 const HIGH: &[Stock] = &[Stock {
     id: 4_294_967_295,
-    length: 65_536,
+    len: 65_536,
     seed: 18_446_744_073_709_551_615,
 }];
 
@@ -77,7 +77,7 @@ fn the_highest_numbers(rt: HostRuntime) -> Result<(), Fail> {
 
 const LOW: &[Stock] = &[Stock {
     id: 0,
-    length: 0,
+    len: 0,
     seed: 0,
 }];
 

@@ -39,7 +39,7 @@ pub fn empty_store(alloc: Global) -> Result<MemStore, Fail> {
 pub fn filled_store(alloc: Global) -> Result<MemStore, Fail> {
     let stock = Stock {
         id: 7,
-        length: 1_000,
+        len: 1_000,
         seed: 1,
     };
     Ok(store_of(alloc, &[stock], &[])?)

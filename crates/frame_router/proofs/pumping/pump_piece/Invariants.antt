@@ -1,5 +1,5 @@
 use Rattle.std.proofs.Common.{◌≡◌, ◌-◌, ◌≤◌, false, length, take}
-use Rattle.frame_router.specs.Pumping.{PumpsOn}
+use Rattle.frame_router.specs.Steps.{PumpsOn}
 use Rattle.frame_router.proofs.pumping.pump_piece.Given as goal
 
 abbrev pub invariant-segments : goal.invariant-segments

@@ -1,8 +1,8 @@
 use Rattle.std.proofs.Common.{◌≡◌, ◌<◌, ◌≤◌, [], ◌++◌, ◌∙◌, ap, sym, subst, length, take, drop, arith, length-take}
 use Rattle.std.proofs.lemmas.List.{take-append-le, length-take-le}
 use Rattle.frame_router.specs.Pumped.{Pumps}
-use Rattle.frame_router.specs.Pumping.{PumpsOn, StopsIn}
-use Rattle.frame_router.specs.Stops.{tally_in}
+use Rattle.frame_router.specs.Steps.{PumpsOn, StopsIn}
+use Rattle.frame_router.specs.Steps.{tally_in}
 use Rattle.frame_router.proofs.PumpEnds.{pumps_to_end, pumps_to_stop, take_none, taken_more}
 use Rattle.frame_router.proofs.pumping.pump_stream.Goals as goal
 

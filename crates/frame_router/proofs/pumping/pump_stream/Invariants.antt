@@ -1,5 +1,5 @@
 use Rattle.std.proofs.Common.{◌≡◌, ◌-◌, ◌≤◌, false}
-use Rattle.frame_router.specs.Pumping.{HasTaken}
+use Rattle.frame_router.specs.Steps.{HasTaken}
 use Rattle.frame_router.proofs.pumping.pump_stream.Given as goal
 
 abbrev pub invariant-pieces : goal.invariant-pieces

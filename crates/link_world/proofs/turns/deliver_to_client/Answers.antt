@@ -1,6 +1,6 @@
 use Rattle.std.proofs.Common.{refl, subst}
 use Rattle.std.proofs.lemmas.Result.{IfErr-at_err}
-use Rattle.link_world.specs.client.ClientSide.{ClientHearingStops, ClientHears}
+use Rattle.link_world.specs.client.ClientSide.{ClientStopsHearing, ClientHears}
 use Rattle.link_world.proofs.MakeLemmas.{on_ok_four}
 use Rattle.link_world.proofs.ClientLemmas.{delivered_down}
 use Rattle.link_world.proofs.StopLemmas.{down_stops}
@@ -20,5 +20,5 @@ returns-clause-turn c =
 pub returns-clause-journal : goal.returns-clause-journal
 returns-clause-journal c = λ is k commands w rest shows course.
     down_stops k commands w c.args.frame.now c.args.client.now c.args.course.now shows course
-    (subst (λ at. ClientHearingStops at c.args.client.now.end.serving c.args.course.now.under w.fed_client c.args.frame.now) c.moment-now.ensures
+    (subst (λ at. ClientStopsHearing at c.args.client.now.end.serving c.args.course.now.under w.fed_client c.args.frame.now) c.moment-now.ensures
     (IfErr-at_err _ is c.deliver.ensures.full refl w.fed_client shows.fed))

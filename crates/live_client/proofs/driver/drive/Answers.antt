@@ -1,9 +1,10 @@
-use Rattle.std.proofs.Common.{true, false, refl, sym, subst, inl, arith, le_refl}
+use Rattle.std.proofs.Common.{true, false, refl, sym, subst, inl, inr, arith, le_refl}
 use Rattle.turn_cell.proofs.Calls.{same_trans}
 use Rattle.live_client.proofs.asks.TellLemmas.{on_err_map, on_ok_map}
 use Rattle.live_client.specs.Driving.{Works, is_flushing}
 use Rattle.live_client.proofs.StepsOf.{can_on}
-use Rattle.live_client.proofs.WorkLemmas.{finish_fails, works_failed, works_finished}
+use Rattle.rpc_shared.proofs.session.LeavingLemmas.{hangs_up_from}
+use Rattle.live_client.proofs.WorkLemmas.{finish_fails, rose_from, worked_kept, works_failed, works_finished}
 use Rattle.live_client.proofs.driver.drive.Goals as goal
 
 pub wind_up-requires-clause-can : goal.wind_up-requires-clause-can
@@ -99,8 +100,25 @@ returns-in-Err-end_output-clause-uncut g c = λ opening all start w0 d0 f0 g0 ea
 pub returns-in-Err-end_output-clause-faults : goal.returns-in-Err-end_output-clause-faults
 returns-in-Err-end_output-clause-faults g c = (omega (arith, c.converse.ensures.faults.0, c.end_output.ensures.later), c.converse.ensures.faults.1)
 
+pub returns-in-Ok-end_output-clause-hangs_up : goal.returns-in-Ok-end_output-clause-hangs_up
+returns-in-Ok-end_output-clause-hangs_up g c = inl c.wind_up.ensures.closed
+
+pub returns-in-Err-end_output-clause-hangs_up : goal.returns-in-Err-end_output-clause-hangs_up
+returns-in-Err-end_output-clause-hangs_up g c =
+    inr (rose_from (g.O.Sink.faults c.args.output.now) (g.O.Sink.faults c.converse.new.output) (g.O.Sink.faults c.end_output.new.output) c.converse.ensures.faults.0 c.in-Err-end_output.ensures.failed)
+
 pub returns-in-Err-clause-worked : goal.returns-in-Err-clause-worked
-returns-in-Err-clause-worked g c = λ opening all start w0 d0 f0 g0 early so. c.in-Err.ensures.worked opening all start w0 d0 f0 g0 early so
+returns-in-Err-clause-worked g c = λ opening all start w0 d0 f0 g0 early so.
+    worked_kept g.W.Errand.watches opening c.args.table.now c.args.call w0 d0 f0 g0 (λ some. g.W.Errand.did c.converse.new.errand some start (g.C.Clock.last c.converse.new.clock))
+    (g.O.Sink.written c.converse.new.output) (g.O.Sink.written c.hang_up.new.link) (g.S.Store.holds c.converse.new.store) (g.O.Sink.faults c.converse.new.output) (g.O.Sink.faults c.hang_up.new.link) (g.S.Store.faults c.converse.new.store) c.converse.new.pass
+    c.hang_up.ensures.bytes c.hang_up.ensures.later (c.in-Err.ensures.worked opening all start w0 d0 f0 g0 early so)
 
 pub returns-in-Err-clause-uncut : goal.returns-in-Err-clause-uncut
 returns-in-Err-clause-uncut g c = λ opening all start w0 d0 f0 g0 early so. c.converse.ensures.uncut
+
+pub returns-in-Err-clause-hangs_up : goal.returns-in-Err-clause-hangs_up
+returns-in-Err-clause-hangs_up g c =
+    hangs_up_from (g.O.Sink.finished c.hang_up.new.link) (g.O.Sink.faults c.args.output.now) (g.O.Sink.faults c.converse.new.output) (g.O.Sink.faults c.hang_up.new.link) c.converse.ensures.faults.0 c.hang_up.ensures.hangs_up
+
+pub returns-in-Err-clause-faults : goal.returns-in-Err-clause-faults
+returns-in-Err-clause-faults g c = (omega (arith, c.converse.ensures.faults.0, c.hang_up.ensures.later), c.converse.ensures.faults.1)

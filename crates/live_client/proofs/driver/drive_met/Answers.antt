@@ -3,7 +3,7 @@ use Rattle.live_client.specs.Driving.{is_saying}
 use Rattle.live_client.proofs.FeedLemmas.{of_err_is, of_ok_is}
 use Rattle.live_client.proofs.StepsOf.{can_on}
 use Rattle.live_client.proofs.TalkLemmas.{say_uncancelled, talks_calm}
-use Rattle.live_client.proofs.WorkLemmas.{says_wants, works_ended, works_talks}
+use Rattle.live_client.proofs.WorkLemmas.{says_wants, worked_kept, works_ended, works_talks}
 use Rattle.live_client.proofs.driver.drive_met.Goals as goal
 
 pub returns-then-reader_begins-clause-drove : goal.returns-then-reader_begins-clause-drove
@@ -35,7 +35,9 @@ returns-clause-drove g c = record {
       let calm = c.give_up.ensures.calm in
       let now = works_talks watches opening r c.args.call w0 d0 f0 g0 did did false false is_saying written holds f k c.args.pass.now q says_wants calm.adds
       (λ items t. talks_calm watches opening r c.args.call did did items true false is_saying c.args.pass.now q say_uncancelled calm (λ cut events outs ended x. x) t) so in
-      works_ended watches opening r c.args.call w0 d0 f0 g0 all (λ some. g.W.Errand.did c.args.errand.now some start last) true false false now.items written holds f k q now.talks now.made now.causes;
+      worked_kept watches opening r c.args.call w0 d0 f0 g0 (λ some. g.W.Errand.did c.args.errand.now some start last) written (g.O.Sink.written c.hang_up.new.link) holds f (g.O.Sink.faults c.hang_up.new.link) k q
+      c.hang_up.ensures.bytes c.hang_up.ensures.later
+      (works_ended watches opening r c.args.call w0 d0 f0 g0 all (λ some. g.W.Errand.did c.args.errand.now some start last) true false false now.items written holds f k q now.talks now.made now.causes);
   uncut = λ opening all start w0 d0 f0 g0 early so. c.requires.uncut;
 }
 
@@ -43,4 +45,4 @@ pub returns-clause-later : goal.returns-clause-later
 returns-clause-later g c = omega arith
 
 pub returns-clause-faults : goal.returns-clause-faults
-returns-clause-faults g c = (omega arith, omega arith)
+returns-clause-faults g c = (c.hang_up.ensures.later, omega arith)

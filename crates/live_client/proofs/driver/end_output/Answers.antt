@@ -29,3 +29,6 @@ returns-in-Err-clause-store g c = λ halts. at (halts_halt Link Depot _ c.args.p
     at : HaltsFor Depot c.args.pass.now.view.known.mine ⊎ (Link ≡ Depot) → HaltsFor Depot c.args.pass.now.view.known.mine
     at (inl halts) = halts
     at (inr is) = absurd (cc is)
+
+pub returns-in-Err-clause-failed : goal.returns-in-Err-clause-failed
+returns-in-Err-clause-failed g c = c.in-Err.ensures.cause.failed

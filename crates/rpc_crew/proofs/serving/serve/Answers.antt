@@ -6,12 +6,13 @@ use Rattle.rpc_journal.specs.Items.{halt_reason, moments}
 use Rattle.rpc_journal.specs.Laws.{seat_of}
 use Rattle.rpc_shared.specs.Steps.{base_of, log_of}
 use Rattle.rpc_shared.specs.session.Crew.{Seat}
+use Rattle.rpc_shared.specs.session.Leaving.{LeavesLink}
 use Rattle.rpc_shared.specs.session.Reasons.{reason_of}
 use Rattle.rpc_shared.specs.session.Sessions.{Begins, Explains, IsSessionHistory, LeavesNoneDue, is_halted, session_setting}
 use Rattle.rpc_crew.proofs.PumpLemmas.{pumps_none}
 use Rattle.rpc_shared.proofs.session.ReaderLemmas.{fed_nothing}
 use Rattle.rpc_shared.proofs.session.SessionLemmas.{given_out, new_pump, new_reader, new_stands}
-use Rattle.rpc_crew.proofs.WholeSession.{Whole, back_idle, began_before, begins, ended_history, explains, is_told, none_left_due, read_all, read_below, read_failed, read_limit, sink_halted, store_halted, ticks_between, whole_of}
+use Rattle.rpc_crew.proofs.WholeSession.{Whole, back_idle, began_before, begins, ended_history, explains, is_told, leaves_link, none_left_due, read_all, read_below, read_failed, read_limit, sink_halted, store_halted, ticks_between, whole_of}
 use Rattle.rpc_crew.proofs.WorkerLists.{worked_length}
 use Rattle.rpc_shared.proofs.session.WriterLemmas.{writes_none}
 use Rattle.rpc_crew.proofs.serving.serve.Given.{Over}
@@ -205,9 +206,15 @@ pub returns-clause-setting : goal.returns-clause-setting
 returns-clause-setting g c =
     c.close-calls.ensures.setting ∙ base_is g c
 
-pub returns-clause-open : goal.returns-clause-open
-returns-clause-open g c =
-    c.run_threads-done.ensures.open
+pub returns-clause-leaves : goal.returns-clause-leaves
+returns-clause-leaves g c =
+    let e = c.run_threads-done.ensures in
+    subst (λ set. LeavesLink set c.close-calls.result.entries (g.O.Sink.finished c.run_threads-done.new.link_out) (g.O.Sink.faults c.args.link_out.now) (g.O.Sink.faults c.run_threads-done.new.link_out)) (base_is g c)
+    (leaves_link g.M.H.Handler.rule c.in_ok-shared.shared c.args.workers (g.I.Source.left c.args.link_in.now) (g.I.Source.left c.run_threads-done.new.link_in) (g.O.Sink.written c.args.link_out.now) (g.O.Sink.written c.run_threads-done.new.link_out) (g.S.Store.holds c.args.store.now) (g.S.Store.holds c.run_threads-done.new.store) c.args.log.now c.run_threads-done.new.log c.run_threads-done.new.listener c.counts.result c.run_threads-done.result.1.ending c.run_threads-done.result.1.read c.run_threads-done.result.0 c.close-calls.result
+    c.run_threads-done.new.reader c.run_threads-done.new.pumper c.run_threads-done.new.writer c.run_threads-done.new.workers.passes.items (whole g c)
+    (g.O.Sink.finished c.run_threads-done.new.link_out) (g.O.Sink.faults c.args.link_out.now) (g.O.Sink.faults c.run_threads-done.new.link_out)
+    (sent c.run_threads-done.new.ring) (received c.run_threads-done.new.end) (known_items c.slots_beside.new.self) e.pump.0
+    (ap (λ got. got ++ known_items c.slots_beside.new.self) (sym c.slots_beside.ensures.looked.1) ∙ (c.slots_beside.ensures.fifo ∙ c.slots_beside.ensures.producer.1)) e.leaves)
 
 pub returns-clause-later : goal.returns-clause-later
 returns-clause-later g c =

@@ -1,5 +1,6 @@
 use Rattle.std.proofs.Common.{◌≡◌, false, sym, subst}
 use Rattle.rpc_journal.specs.Items.{moments}
+use Rattle.rpc_shared.specs.session.Leaving.{LeavesLink}
 use Rattle.rpc_shared.specs.session.Sessions.{Begins, Explains, IsSessionHistory, LeavesNoneDue, TicksBetween, is_halted, session_setting}
 use Rattle.rpc_crew.proofs.serving.session.Goals as goal
 
@@ -23,3 +24,8 @@ returns-clause-ticks g c =
 pub returns-clause-due : goal.returns-clause-due
 returns-clause-due g c =
     subst (λ h. is_halted (session_setting c.args.channels c.args.registry (g.M.Maker.seed_memo c.args.maker.now)) h ≡ false → LeavesNoneDue c.in_ok-served.served.began (g.C.Clock.last c.serve.new.clock) (moments h)) (sym c.into_journal.ensures.entries) c.in_ok-served.ensures.due
+
+pub returns-clause-leaves : goal.returns-clause-leaves
+returns-clause-leaves g c =
+    subst (λ h. LeavesLink (session_setting c.args.channels c.args.registry (g.M.Maker.seed_memo c.args.maker.now)) h (g.O.Sink.finished c.serve.new.link_out) (g.O.Sink.faults c.args.link_out.now) (g.O.Sink.faults c.serve.new.link_out))
+    (sym c.into_journal.ensures.entries) c.in_ok-served.ensures.leaves

@@ -1,10 +1,12 @@
-use Rattle.std.proofs.Common.{◌∷◌, [], ◌++◌, sym, ap, ◌∙◌, subst, arith, le_refl}
+use Rattle.std.proofs.Common.{◌∷◌, [], ◌++◌, sym, ap, ◌∙◌, subst, inl, inr, arith, le_refl}
 use Rattle.link_io.specs.declared.why.Why.TheVariants.{Sink as Link, Store as Depot}
 use Rattle.rtrb.specs.Ring.{received}
 use Rattle.turn_cell.proofs.Calls.{same_self, same_trans}
+use Rattle.rpc_shared.specs.declared.session.parcel.Parcel.TheVariants.{End}
 use Rattle.rpc_shared.specs.session.Crew.{is_stop}
 use Rattle.rpc_shared.specs.session.Ring.{Writes}
 use Rattle.rpc_crew.proofs.RingLemmas.{end_self, end_trans}
+use Rattle.rpc_shared.proofs.session.LeavingLemmas.{hangs_up_from, some_kept, writer_kept}
 use Rattle.rpc_shared.proofs.session.StepLemmas.{look_adds, look_halted, look_mine}
 use Rattle.rpc_shared.proofs.session.WriterLemmas.{no_halt, writer_closed, writer_failed, writer_halted, writes_looked, writes_more}
 use Rattle.rpc_crew.proofs.writing.write.Goals as goal
@@ -46,9 +48,9 @@ returns-in-Err-put-clause-ended g c =
     let written = g.O.Sink.written in
     let holds = g.S.Store.holds in
     let came = c.in-Ok-Put.ensures.ok.0 ∙ ap (λ x. received c.loop.ring ++ x ∷ []) c.in-Ok-Put.field-0-is in
-    writer_failed rule r (written c.args.output.now) (written c.loop.output) (written c.put.new.output) (holds c.args.store.now) (holds c.loop.store) (holds c.put.new.store)
+    writer_failed rule r (written c.args.output.now) (written c.loop.output) (written c.hang_up.new.link) (holds c.args.store.now) (holds c.loop.store) (holds c.put.new.store)
     c.args.log.now c.loop.log c.put.new.log (received c.loop.ring) (received c.pop.new.self) c.loop.done c.loop.pass c.halt.new.pass c.in-Ok-Put.item c.loop.invariant.writes came
-    c.in-Err-put.ensures.begun c.in-Err-put.ensures.kept.0 c.in-Err-put.ensures.kept.1 (c.halt.ensures.adds is_stop c.in-Err-put.ensures.why.0) c.halt.ensures.halted
+    (some_kept (written c.loop.output) (written c.put.new.output) (written c.hang_up.new.link) _ c.in-Err-put.ensures.begun c.hang_up.ensures.bytes) c.in-Err-put.ensures.kept.0 c.in-Err-put.ensures.kept.1 (c.halt.ensures.adds is_stop c.in-Err-put.ensures.why.0) c.halt.ensures.halted
 
 pub returns-in-Err-put-clause-same : goal.returns-in-Err-put-clause-same
 returns-in-Err-put-clause-same g c =
@@ -72,9 +74,11 @@ returns-then-not-waits-clause-ended g c =
     let looked = writes_looked rule r (written c.args.output.now) (written c.loop.output) (holds c.args.store.now) (holds c.loop.store) c.args.log.now c.loop.log
     (received c.loop.ring) (received c.pop.new.self) c.loop.done c.loop.pass c.look.new.pass c.loop.invariant.writes (look_adds rule r c.loop.pass c.look.new.pass c.look.result did is_stop)
     (look_mine rule r c.loop.pass c.look.new.pass c.look.result did) c.in-Err.ensures.empty.0 in
-    writer_halted rule r (written c.args.output.now) (written c.loop.output) (holds c.args.store.now) (holds c.loop.store) c.args.log.now c.loop.log
+    writer_kept rule r (written c.args.output.now) (written c.loop.output) (written c.hang_up-then-not-waits.new.link) (holds c.args.store.now) (holds c.loop.store) c.args.log.now c.loop.log
+    (received c.pop.new.self) c.loop.done c.look.new.pass c.hang_up-then-not-waits.ensures.bytes
+    (writer_halted rule r (written c.args.output.now) (written c.loop.output) (holds c.args.store.now) (holds c.loop.store) c.args.log.now c.loop.log
     (received c.pop.new.self) (received c.pop.new.self) c.loop.done c.look.new.pass c.look.new.pass looked
-    (look_halted rule r c.loop.pass c.look.new.pass c.look.result did (c.waits.ensures c.if-not-waits.true))
+    (look_halted rule r c.loop.pass c.look.new.pass c.look.result did (c.waits.ensures c.if-not-waits.true)))
 
 pub returns-then-not-waits-clause-sink : goal.returns-then-not-waits-clause-sink
 returns-then-not-waits-clause-sink g c = λ halts.
@@ -104,3 +108,26 @@ loop-preserved g c =
       store_later = c.loop.invariant.store_later;
       more = c.loop.invariant.more;
     }
+
+pub returns-in-Err-put-clause-leaves : goal.returns-in-Err-put-clause-leaves
+returns-in-Err-put-clause-leaves g c =
+    let faults = g.O.Sink.faults in
+    inr (
+      c.halt.ensures.halted,
+      hangs_up_from (g.O.Sink.finished c.hang_up.new.link) (faults c.args.output.now) (faults c.put.new.output) (faults c.hang_up.new.link)
+          (omega (arith, c.loop.invariant.sink_later, c.in-Err-put.ensures.later.0)) c.hang_up.ensures.hangs_up,
+    )
+
+pub returns-in-Ok-End-clause-leaves : goal.returns-in-Ok-End-clause-leaves
+returns-in-Ok-End-clause-leaves g c =
+    let came = c.in-Ok-End.ensures.ok.0 ∙ ap (λ x. received c.loop.ring ++ x ∷ []) c.in-Ok-End.field-0-is in
+    inl ((c.loop.invariant.writes.items, came ∙ ap (λ ps. ps ++ End ∷ []) c.loop.invariant.writes.received), c.loop.invariant.more)
+
+pub returns-then-not-waits-clause-leaves : goal.returns-then-not-waits-clause-leaves
+returns-then-not-waits-clause-leaves g c =
+    let faults = g.O.Sink.faults in
+    inr (
+      look_halted g.H.Handler.rule c.args.shared.now c.loop.pass c.look.new.pass c.look.result c.look.ensures.did (c.waits.ensures c.if-not-waits.true),
+      hangs_up_from (g.O.Sink.finished c.hang_up-then-not-waits.new.link) (faults c.args.output.now) (faults c.loop.output) (faults c.hang_up-then-not-waits.new.link) c.loop.invariant.sink_later
+          c.hang_up-then-not-waits.ensures.hangs_up,
+    )

@@ -5,7 +5,7 @@ use Rattle.frame_router.specs.declared.routes.Route.{Route}
 use Rattle.std.proofs.Common.{List, []}
 use Rattle.frame_router.proofs.router.Router.new.Goals as goal
 
-both : (routes : List Route) (left right : LaneView) → ((rs : List Route) (from : Port) → HasRouted rs from left [] [] []) → ((rs : List Route) (from : Port) → HasRouted rs from right [] [] []) → (from : Port) → HasRouted routes from (lane_from (record { routes = routes; left = left; right = right }) from) [] [] []
+both : (routes : List Route) (left right : LaneView) → ((rs : List Route) (from : Port) → HasRouted rs from left [] [] []) → ((rs : List Route) (from : Port) → HasRouted rs from right [] [] []) → (from : Port) → HasRouted routes from (lane_from (record { routes = routes; from_left = left; from_right = right }) from) [] [] []
 both routes left right l r Left = l routes Left
 both routes left right l r Right = r routes Right
 

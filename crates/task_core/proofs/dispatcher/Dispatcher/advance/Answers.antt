@@ -12,6 +12,6 @@ returns-clause-advances g c =
     λ log stands.
     let before : StandsFor b log = subst (λ v. StandsFor v log) (sym c.self.view_is) stands in
     subst
-    (λ (cx : Context). StandsFor (record { moment = cx.moment; places = c.ring_all.new.places; outs = all_outs cx }) (advanced c.args.now ∷ log))
+    (λ (cx : Context). StandsFor (record { moment = cx.moment; places = c.come_all.new.places; outs = all_outs cx }) (advanced c.args.now ∷ log))
     (sym {b = record c.self.inside.cx { moment = c.args.now }} c.set_moment.ensures)
-    (advanced_stands b c.ring_all.new.places log c.args.now before later c.ring_all.ensures.rung)
+    (advanced_stands b c.come_all.new.places log c.args.now before later c.come_all.ensures.come)

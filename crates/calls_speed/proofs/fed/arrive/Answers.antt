@@ -1,5 +1,0 @@
-use Rattle.calls_speed.proofs.FedSteps.{fed_arrived}
-use Rattle.calls_speed.proofs.fed.arrive.Goals as goal
-
-pub returns : goal.returns
-returns c = fed_arrived _ _ _ _ c.arrive.ensures.setting c.arrive.ensures.did c.requires.fed

@@ -1,0 +1,5 @@
+//! Tests of stream_dump through its public names.
+#![tactic(auto)]
+
+#[cfg(test)]
+mod rows;

@@ -1,0 +1,26 @@
+-- What a run of `dump` read and wrote.
+use Rattle.std.specs.Prelude.{◌≡◌, ℕ, List, [], ◌∷◌, codes, Option}
+use Rattle.link_io.specs.declared.why.Why.{Why}
+use Rattle.stream_dump.specs.Dumps.{Dumps}
+use Rattle.stream_dump.specs.Ends.{IsEnding}
+use Rattle.stream_dump.specs.Names.{Name}
+use Rattle.pw_run.specs.declared.outcome.Outcome.{Outcome}
+use Rattle.pw_run.specs.Outcome.{outcome_for}
+
+-- the methods that the program knows
+abbrev pub known_names : List Name
+known_names =
+    record { service = codes "demo.Demo"; method = codes "Echo" } ∷
+    record { service = codes "demo.Demo"; method = codes "Count" } ∷
+    record { service = codes "demo.Demo"; method = codes "Sum" } ∷
+    record { service = codes "demo.Demo"; method = codes "Chat" } ∷
+    record { service = codes "demo.Log"; method = codes "Text" } ∷
+    record { service = codes "pw.transfer.Transfer"; method = codes "Read" } ∷
+    record { service = codes "pw.transfer.Transfer"; method = codes "Write" } ∷ []
+
+-- the input was dumped, and the outcome is that of the reason for which that ended, which is no want of memory
+pub record DidDump (left_old left_new written_old written_new : Option (List ℕ)) (outcome : Outcome) : Type 0 where
+  pub why : Why
+  pub own : outcome ≡ outcome_for why
+  pub ending : IsEnding why
+  pub dumps : Dumps known_names left_old left_new written_old written_new why

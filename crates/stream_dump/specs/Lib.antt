@@ -1,0 +1,11 @@
+pub mod Chunks
+pub mod Counting
+pub mod Dump
+pub mod Dumps
+pub mod Ends
+pub mod Lines
+pub mod Names
+pub mod Packets
+pub mod Progress
+pub mod Steps
+pub mod Words
