@@ -1,0 +1,111 @@
+//! A server and a client over a socket of the system.
+
+use super::checks::{is_so, status_is, told};
+use super::{Ran, run_over};
+use bytes::Bytes;
+use link_io::{Fulls, MemStore, UnixLinker, WallClock};
+use std::alloc::{AllocError, Global};
+use std::env;
+use std::fs::{self, Files};
+use std::net::Net;
+use std::sync::Wait;
+use std::test::Fail;
+use std::thread::{self, Threads, join};
+use std::time::{self, Duration};
+
+// The client looks at most so often for the socket's file, a millisecond each time.
+const LOOKS: u32 = 10_000;
+
+const LENGTH: usize = 3_000;
+
+// The bytes of the resource that is served.
+fn resource(alloc: Global) -> Result<Vec<u8>, AllocError> {
+    let mut bytes = Vec::new(alloc);
+    for place in 0..LENGTH {
+        bytes.push((place % 251) as u8)?;
+    }
+    Ok(bytes)
+}
+
+// Runs a command over the sockets of the system.
+fn run_at<R: Threads + Wait + Sync + Net + Files + time::Clock>(
+    rt: &R,
+    alloc: Global,
+    line: &str,
+    store: &mut MemStore,
+) -> Result<Ran, AllocError> {
+    let mut net = UnixLinker::new(alloc, rt);
+    let mut clock = WallClock::new(rt);
+    run_over(rt, alloc, line, store, &mut net, &mut clock, &[])
+}
+
+// A store with resource 7, or with none.
+fn store_of(alloc: Global, resource: Option<&[u8]>) -> Result<MemStore, AllocError> {
+    let mut full = Fulls::new(alloc);
+    if let Some(bytes) = resource {
+        full.push((7, Bytes::copy_from_slice(alloc, bytes)?))?;
+    }
+    MemStore::new(alloc, full, Fulls::new(alloc), Vec::new(alloc))
+}
+
+// Serves one client the resource.
+fn serve_one<R: Threads + Wait + Sync + Net + Files + time::Clock>(
+    rt: &R,
+    alloc: Global,
+    path: &str,
+) -> Result<u8, AllocError> {
+    let mut store = store_of(alloc, Some(&resource(alloc)?))?;
+    let line = format!(in alloc; "serve {path} 2 1")?;
+    Ok(run_at(rt, alloc, line.as_str(), &mut store)?.status)
+}
+
+// Waits until the file stands, and not for ever.
+fn await_file<R: Files + time::Clock>(rt: &R, path: &str) {
+    for _ in 0..LOOKS {
+        if matches!(fs::exists(rt, path), Ok(true)) {
+            return;
+        }
+        thread::sleep(rt, Duration::from_millis(1));
+    }
+}
+
+fn has_all(store: &MemStore, wanted: &[u8]) -> bool {
+    match store.full(7) {
+        Some(bytes) => bytes.as_slice() == wanted,
+        None => false,
+    }
+}
+
+// Fetches the resource once the socket's file stands. Whether all of it came.
+fn fetch<R: Threads + Wait + Sync + Net + Files + time::Clock>(
+    rt: &R,
+    alloc: Global,
+    path: &str,
+) -> Result<(Ran, bool), AllocError> {
+    await_file(rt, path);
+    let mut store = store_of(alloc, None)?;
+    let line = format!(in alloc; "get {path} 7 0")?;
+    let ran = run_at(rt, alloc, line.as_str(), &mut store)?;
+    let came = has_all(&store, &resource(alloc)?);
+    Ok((ran, came))
+}
+
+#[test]
+fn a_resource_is_fetched_over_a_socket(rt: HostRuntime) -> Result<(), Fail> {
+    let alloc = rt.alloc();
+    let now = time::Clock::since_1970(&rt)?.as_nanos();
+    let base = env::temp_dir(&rt)?;
+    let base = base.as_str();
+    let path = format!(in alloc; "{base}/pw-run-socket-{now}")?;
+    let path = path.as_str();
+    let (served, got) = join(
+        &rt,
+        || serve_one(&rt, alloc, path),
+        || fetch(&rt, alloc, path),
+    );
+    let (ran, came) = got?;
+    status_is(&rt, "serve", served?, 0);
+    told(&rt, "get", &ran, 0, b"get 7 0 OK 3000\ndone\n");
+    is_so(&rt, "all came", came);
+    Ok(())
+}

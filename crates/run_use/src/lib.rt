@@ -1,5 +1,0 @@
-//! Tests of pw_run, through their public names.
-#![tactic(auto)]
-
-#[cfg(test)]
-mod runs;
