@@ -9,9 +9,14 @@ use std::process::Abort;
 use std::sync::Wait;
 use std::thread::Threads;
 
-// A store that has resource 8, of one byte more than a resource may have.
-fn large_store(alloc: Global) -> Result<MemStore, AllocError> {
-    let bytes = vec![in alloc; 0; 16_777_217]?;
+// So many zeros. The number stays out of what is known of them.
+fn zeros(alloc: Global, length: usize) -> Result<Vec<u8>, AllocError> {
+    vec![in alloc; 0; length]
+}
+
+// A store that has resource 8, of so many bytes.
+fn store_of_eight(alloc: Global, length: usize) -> Result<MemStore, AllocError> {
+    let bytes = zeros(alloc, length)?;
     let mut full = Fulls::new(alloc);
     full.push((8, Bytes::copy_from_slice(alloc, &bytes)?))?;
     MemStore::new(alloc, full, Fulls::new(alloc), Vec::new(alloc))
@@ -24,7 +29,8 @@ fn makes_no_link<R: Threads + Wait + Sync + Abort>(
     written: &[u8],
 ) -> Result<(), AllocError> {
     let mut net = one_link(alloc, Vec::new(alloc))?;
-    let mut store = large_store(alloc)?;
+    // One byte more than a resource may have.
+    let mut store = store_of_eight(alloc, 16_777_217)?;
     let ran = run_client(rt, alloc, line, &mut store, &mut net, &[])?;
     told(rt, line, &ran, 9, written);
     gone_are(rt, line, &net, 0);
