@@ -1,2 +1,4 @@
 pub mod Drops
+pub mod Rounds
 pub mod Survives
+pub mod InTime

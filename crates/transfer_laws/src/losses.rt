@@ -1,3 +1,3 @@
-//! Both ends of a transfer, over links that lose a few words. It has laws, which are functions that do nothing and promise
+//! Both ends of a transfer, over links that lose words. It has laws, which are functions that do nothing and promise
 //! something of the definitions. Enter at [`laws::reads_survive`].
 pub mod laws;

@@ -118,8 +118,8 @@ module _ {A : Type 0} (rules : Rules A) (wrap : A → Transfer) (P : A → Type 
       now = refl;
       time = refl;
       lost =
-          subst (AllByRecursion (IsLostIn k x big)) (sym (append-nil (missing lossy 0 told)))
-          (lost_up k x big far x.numbered more told 0 set.places.session b.numbered grown nothing set.service_is fits);
+          subst (AllByRecursion (IsLostIn k x big)) (sym (append-nil (missing lossy (moment_at x) 0 told)))
+          (lost_up k x big far x.numbered more told (moment_at x) 0 set.places.session b.numbered grown nothing set.service_is fits);
     }
 
   -- THE RUN MAKES ITS START

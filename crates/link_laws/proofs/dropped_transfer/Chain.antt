@@ -15,7 +15,7 @@ use Rattle.transfer_resume.specs.declared.stage.Stage.{Stage}
 use Rattle.transfer_resume.specs.Session.{Row, Service}
 use Rattle.transfer_resume.specs.Hears.{session_hears}
 use Rattle.transfer_laws.specs.pairs.Pair.{words_of}
-use Rattle.transfer_laws.specs.losses.Drops.{LeadsTo, LossyPair, at_time, client_heard, kept, missing, server_heard, session_ticks, step, step_by, time_passed, waits_by}
+use Rattle.transfer_laws.specs.losses.Drops.{LeadsTo, Lost, LossyPair, at_time, client_heard, kept, missing, server_heard, session_ticks, step, step_by, time_passed, waits_by}
 use Rattle.link_laws.specs.declared.world.limits.TheConstants.{TURN_OF_TIME}
 use Rattle.link_laws.specs.world.Lines.{finished, line_telling, transfer_end, transfer_line}
 use Rattle.link_laws.specs.world.Turns.{ending, kind_by, next_kind}
@@ -47,7 +47,7 @@ late_first big t none_up none_down under last =
     let no_down : kind_by [] [] big.under big.coming ≡ ending = subst (λ (l : Link). kind_by [] l.frames big.under big.coming ≡ ending) none_down no_up in
     absurd cc (subst (λ (u : Option Under). kind_by [] [] u big.coming ≡ ending) under no_down)
 
-abbrev pub lossy : {A : Type 0} → Option Stage → A → List Word → List Word → ℕ → List Word → ℕ → ℕ → LossyPair A
+abbrev pub lossy : {A : Type 0} → Option Stage → A → List Word → List Word → ℕ → List Lost → ℕ → ℕ → LossyPair A
 lossy a b ups downs m lost now time =
     record { pair = record { server = a; client = b; to_server = ups; to_client = downs; said = m }; lost = lost; now = now; time = time }
 
@@ -96,7 +96,7 @@ grows k big far f w ends =
       sym (finished_numbered k w) ∙ (sym (ap (λ (z : World). z.numbered) ends) ∙ grown.1),
     )
 
-same_lost : (k : Setup) (x : Places) (a b : World) → b.numbered ≡ a.numbered → (v : Word) → IsLostIn k x a v → IsLostIn k x b v
+same_lost : (k : Setup) (x : Places) (a b : World) → b.numbered ≡ a.numbered → (v : Lost) → IsLostIn k x a v → IsLostIn k x b v
 same_lost k x a b same v lost = record {
   place = lost.place;
   type = lost.type;
@@ -164,7 +164,7 @@ module _ {A : Type 0} (rules : Rules A) (wrap : A → Transfer) (P : ℕ → A �
   lost_number = loses k x.session far
 
   -- the world shows these ends, so many turns of time on
-  pub record Stood (big : World) (older : List Row) (a : Option Stage) (b : A) (ups : List Word) (downs : List Passing) (lost : List Word) (m time times : ℕ) (server : List Entry) : Type 0 where
+  pub record Stood (big : World) (older : List Row) (a : Option Stage) (b : A) (ups : List Word) (downs : List Passing) (lost : List Lost) (m time times : ℕ) (server : List Entry) : Type 0 where
     pub set : IsSetForDrops k (at_turn x time times server) older
     pub stands : StandsDropping k (at_turn x time times server) older big a ups downs m
     pub task : IsUnderWay (at_turn x time times server) (wrap b) big
@@ -180,7 +180,7 @@ module _ {A : Type 0} (rules : Rules A) (wrap : A → Transfer) (P : ℕ → A �
 
   abbrev pub From : ℕ → Type 0
   From n =
-      (big : World) (older : List Row) (a : Option Stage) (b : A) (ups : List Word) (downs : List Passing) (lost : List Word) (m time times : ℕ) (server : List Entry) → rules.end_of b ≡ None
+      (big : World) (older : List Row) (a : Option Stage) (b : A) (ups : List Word) (downs : List Passing) (lost : List Lost) (m time times : ℕ) (server : List Entry) → rules.end_of b ≡ None
       → Leads n (lossy a b ups (own_words downs) m lost (TURN_OF_TIME * times) time) → Stood big older a b ups downs lost m time times server → RunsOut k big far → Passes k big far Comes
 
   -- the client has ended: no step of the pair comes behind that
@@ -189,14 +189,14 @@ module _ {A : Type 0} (rules : Rules A) (wrap : A → Transfer) (P : ℕ → A �
   ended_here (suc n) w s end leads = absurd (none_some (rules.end_of w.pair.client) s leads.0 end)
 
   -- what was lost in a world and in a turn from it is lost behind the turn
-  lost_both : (big w : World) (f : Begun k big far) (new old : List Word) → f.next ≡ finished k w → AllByRecursion (IsLostIn k x w) new → AllByRecursion (IsLostIn k x big) old
+  lost_both : (big w : World) (f : Begun k big far) (new old : List Lost) → f.next ≡ finished k w → AllByRecursion (IsLostIn k x w) new → AllByRecursion (IsLostIn k x big) old
       → AllByRecursion (IsLostIn k x w) (new ++ old)
   lost_both big w f new old ends first second =
       let grown = grows k big far f w ends in
       all_join (IsLostIn k x w) new old first (all_still_lost k x big w grown.0 grown.1 old second)
 
   -- THE RUN IS AT THE PAIR
-  come_here : (big : World) (older : List Row) (a : Option Stage) (b : A) (ups : List Word) (downs : List Passing) (lost : List Word) (m time times : ℕ) (server : List Entry)
+  come_here : (big : World) (older : List Row) (a : Option Stage) (b : A) (ups : List Word) (downs : List Passing) (lost : List Lost) (m time times : ℕ) (server : List Entry)
       → lossy a b ups (own_words downs) m lost (TURN_OF_TIME * times) time ≡ last → IsSetForDrops k (at_turn x time times server) older → SessionFits a → AllByRecursion (IsLostIn k x big) lost
       → ((status : Status) → rules.end_of b ≡ Some status
       → (bytes : ℕ) × LeftDropping k (at_turn x time times server) older (x.lines ++ line_telling (wrap b) status bytes ∷ []) big a ups downs m)
@@ -217,7 +217,7 @@ module _ {A : Type 0} (rules : Rules A) (wrap : A → Transfer) (P : ℕ → A �
       })
 
   -- BEHIND A TURN the transfer goes on, or its line is told
-  behind : (n : ℕ) → From n → (big w : World) (f : Begun k big far) (older : List Row) (a : Option Stage) (b : A) (ups : List Word) (downs : List Passing) (lost : List Word) (m time times : ℕ) (server : List Entry)
+  behind : (n : ℕ) → From n → (big w : World) (f : Begun k big far) (older : List Row) (a : Option Stage) (b : A) (ups : List Word) (downs : List Passing) (lost : List Lost) (m time times : ℕ) (server : List Entry)
       → f.next ≡ finished k w → Leads n (lossy a b ups (own_words downs) m lost (TURN_OF_TIME * times) time) → Stood w older a b ups downs lost m time times server → Passes k big far Comes
   behind n more big w f older a b ups downs lost m time times server ends leads stood = by_end (rules.end_of b) refl
     where
@@ -242,7 +242,7 @@ module _ {A : Type 0} (rules : Rules A) (wrap : A → Transfer) (P : ℕ → A �
           (here k f.next far Comes f.run
           (told_so s end (over_so k (at_turn x time times server) (wrap b) older w f.next a ups downs m s stood.stands stood.task ends (wrapped.ends b ∙ end))))
 
-  server_step : (n : ℕ) → From n → (big : World) (older : List Row) (a : Option Stage) (b : A) (c : Word) (rest : List Word) (downs : List Passing) (lost : List Word) (m time times : ℕ) (server : List Entry) → rules.end_of b ≡ None
+  server_step : (n : ℕ) → From n → (big : World) (older : List Row) (a : Option Stage) (b : A) (c : Word) (rest : List Word) (downs : List Passing) (lost : List Lost) (m time times : ℕ) (server : List Entry) → rules.end_of b ≡ None
       → Leads n (server_heard lost_number (lossy a b (c ∷ rest) (own_words downs) m lost (TURN_OF_TIME * times) time) rest (session_hears (at_time x.service time) true a c))
       → Stood big older a b (c ∷ rest) downs lost m time times server → RunsOut k big far → Passes k big far Comes
   server_step n more big older a b c rest downs lost m time times server going leads s run =
@@ -252,7 +252,7 @@ module _ {A : Type 0} (rules : Rules A) (wrap : A → Transfer) (P : ℕ → A �
       server_turned k y older s.set (keeps.early (TURN_OF_TIME * times) b s.holds) big f.next far a c rest downs m s.stands s.fits f.turn.turn f.run in
       let told : List Word = words_of (session_hears (at_time x.service time) true a c).sayings in
       let after : Option Stage = (session_hears (at_time x.service time) true a c).after in
-      let gone : List Word = missing lost_number m told ++ lost in
+      let gone : List Lost = missing lost_number (TURN_OF_TIME * times) m told ++ lost in
       behind n more big t.world f older after b rest (downs ++ map own (kept lost_number m told)) gone (m + length told) time times server t.ends
       (subst (λ (ws : List Word). Leads n (lossy after b rest ws (m + length told) gone (TURN_OF_TIME * times) time)) (sym (own_joined downs (map own (kept lost_number m told)) ∙ ap (λ (ws : List Word). own_words downs ++ ws) (own_all (kept lost_number m told)))) leads)
       (record {
@@ -262,11 +262,11 @@ module _ {A : Type 0} (rules : Rules A) (wrap : A → Transfer) (P : ℕ → A �
         fits = t.fits;
         holds = s.holds;
         lost_are =
-            lost_both big t.world f (missing lost_number m told) lost t.ends
-            (all_weaken (IsLostIn k y t.world) (IsLostIn k x t.world) (missing lost_number m told) (lost_before x time times server k t.world) t.lost) s.lost_are;
+            lost_both big t.world f (missing lost_number (TURN_OF_TIME * times) m told) lost t.ends
+            (all_weaken (IsLostIn k y t.world) (IsLostIn k x t.world) (missing lost_number (TURN_OF_TIME * times) m told) (lost_before x time times server k t.world) t.lost) s.lost_are;
       })
 
-  client_step : (n : ℕ) → From n → (big : World) (older : List Row) (a : Option Stage) (b : A) (c : Word) (rest : List Passing) (lost : List Word) (m time times : ℕ) (server : List Entry) → rules.end_of b ≡ None
+  client_step : (n : ℕ) → From n → (big : World) (older : List Row) (a : Option Stage) (b : A) (c : Word) (rest : List Passing) (lost : List Lost) (m time times : ℕ) (server : List Entry) → rules.end_of b ≡ None
       → Leads n (client_heard lost_number (lossy a b [] (c ∷ own_words rest) m lost (TURN_OF_TIME * times) time) (own_words rest) (rules.hears b c (TURN_OF_TIME * times)))
       → Stood big older a b [] (own c ∷ rest) lost m time times server → RunsOut k big far → Passes k big far Comes
   client_step n more big older a b c rest lost m time times server going leads s run =
@@ -275,7 +275,7 @@ module _ {A : Type 0} (rules : Rules A) (wrap : A → Transfer) (P : ℕ → A �
       let t : ClientTurned rules wrap (P (TURN_OF_TIME * times)) k y older s.set (keeps.early (TURN_OF_TIME * times) b s.holds) wrapped (keeps.keeps (TURN_OF_TIME * times)) big f.next far a b c rest m =
       client_turned rules wrap (P (TURN_OF_TIME * times)) k y older s.set (keeps.early (TURN_OF_TIME * times) b s.holds) wrapped (keeps.keeps (TURN_OF_TIME * times)) big f.next far a b c rest m s.stands s.task s.holds going f.turn.turn f.run in
       let told : List Word = words_of (rules.hears b c (TURN_OF_TIME * times)).sayings in
-      behind n more big t.world f older a (rules.hears b c (TURN_OF_TIME * times)).after (kept lost_number m told) rest (missing lost_number m told ++ lost) (m + length told) time times server t.ends leads
+      behind n more big t.world f older a (rules.hears b c (TURN_OF_TIME * times)).after (kept lost_number m told) rest (missing lost_number (TURN_OF_TIME * times) m told ++ lost) (m + length told) time times server t.ends leads
       (record {
         set = s.set;
         stands = t.stands;
@@ -283,11 +283,11 @@ module _ {A : Type 0} (rules : Rules A) (wrap : A → Transfer) (P : ℕ → A �
         fits = s.fits;
         holds = t.holds;
         lost_are =
-            lost_both big t.world f (missing lost_number m told) lost t.ends
-            (all_weaken (IsLostIn k y t.world) (IsLostIn k x t.world) (missing lost_number m told) (lost_before x time times server k t.world) t.lost) s.lost_are;
+            lost_both big t.world f (missing lost_number (TURN_OF_TIME * times) m told) lost t.ends
+            (all_weaken (IsLostIn k y t.world) (IsLostIn k x t.world) (missing lost_number (TURN_OF_TIME * times) m told) (lost_before x time times server k t.world) t.lost) s.lost_are;
       })
 
-  time_step : (n : ℕ) → From n → (big : World) (older : List Row) (a : Option Stage) (b : A) (lost : List Word) (m time times : ℕ) (server : List Entry) → rules.end_of b ≡ None
+  time_step : (n : ℕ) → From n → (big : World) (older : List Row) (a : Option Stage) (b : A) (lost : List Lost) (m time times : ℕ) (server : List Entry) → rules.end_of b ≡ None
       → Leads n (time_passed lost_number (lossy a b [] [] m lost (TURN_OF_TIME * times) time) (TURN_OF_TIME * times + TIMEOUT) (rules.ticks b (TURN_OF_TIME * times + TIMEOUT))
       (session_ticks x.service.side (TURN_OF_TIME * times + TIMEOUT) a))
       → Stood big older a b [] [] lost m time times server → RunsOut k big far → Passes k big far Comes
@@ -298,7 +298,7 @@ module _ {A : Type 0} (rules : Rules A) (wrap : A → Transfer) (P : ℕ → A �
       let tick : Stepped (Option Stage) = session_ticks x.service.side t a in
       let ups : List Word = words_of polls.sayings in
       let told : List Word = words_of tick.sayings in
-      let gone : List Word = missing lost_number (m + length ups) told ++ (missing lost_number m ups ++ lost) in
+      let gone : List Lost = missing lost_number t (m + length ups) told ++ (missing lost_number t m ups ++ lost) in
       let said : ℕ = m + length ups + length told in
       let next : LossyPair A = lossy tick.after polls.after (kept lost_number m ups) (kept lost_number (m + length ups) told) said gone t t in
       let moment : t ≡ TURN_OF_TIME * (times + 1) = omega arith in
@@ -306,7 +306,7 @@ module _ {A : Type 0} (rules : Rules A) (wrap : A → Transfer) (P : ℕ → A �
       let f : Begun k big far = goes_on k big far (late_first big (tasked_with x (wrap b)) s.stands.to_server s.stands.to_client s.task.under) run in
       let passed : TimePassed rules wrap P k y older s.set wrapped keeps big f.next far a b m =
       passing.time_passed rules wrap P k y older s.set wrapped keeps big f.next far a b m s.stands s.fits s.task s.holds going in_time f.turn.turn f.run in
-      let here_lost : (ws : List Word) → AllByRecursion (IsLostIn k y passed.world) ws → AllByRecursion (IsLostIn k x passed.world) ws =
+      let here_lost : (ws : List Lost) → AllByRecursion (IsLostIn k y passed.world) ws → AllByRecursion (IsLostIn k x passed.world) ws =
       λ ws. all_weaken (IsLostIn k y passed.world) (IsLostIn k x passed.world) ws (lost_before x time times server k passed.world) in
       behind n more big passed.world f (ticked_rows x.service.side t older) tick.after polls.after (kept lost_number m ups) passed.downs gone said t (times + 1) passed.server passed.ends
       (subst (λ (ws : List Word). Leads n (lossy tick.after polls.after (kept lost_number m ups) ws said gone (TURN_OF_TIME * (times + 1)) t)) (sym passed.own_are)
@@ -318,11 +318,11 @@ module _ {A : Type 0} (rules : Rules A) (wrap : A → Transfer) (P : ℕ → A �
         fits = passed.fits;
         holds = subst (λ now. P now polls.after) moment passed.holds;
         lost_are =
-            all_join (IsLostIn k x passed.world) (missing lost_number (m + length ups) told) (missing lost_number m ups ++ lost) (here_lost (missing lost_number (m + length ups) told) passed.lost_down)
-            (lost_both big passed.world f (missing lost_number m ups) lost passed.ends (here_lost (missing lost_number m ups) passed.lost_up) s.lost_are);
+            all_join (IsLostIn k x passed.world) (missing lost_number t (m + length ups) told) (missing lost_number t m ups ++ lost) (here_lost (missing lost_number t (m + length ups) told) passed.lost_down)
+            (lost_both big passed.world f (missing lost_number t m ups) lost passed.ends (here_lost (missing lost_number t m ups) passed.lost_up) s.lost_are);
       })
 
-  one_step : (n : ℕ) → From n → (big : World) (older : List Row) (a : Option Stage) (b : A) (ups : List Word) (downs : List Passing) (lost : List Word) (m time times : ℕ) (server : List Entry) → rules.end_of b ≡ None
+  one_step : (n : ℕ) → From n → (big : World) (older : List Row) (a : Option Stage) (b : A) (ups : List Word) (downs : List Passing) (lost : List Lost) (m time times : ℕ) (server : List Entry) → rules.end_of b ≡ None
       → Leads n (step_by x.service rules lost_number (lossy a b ups (own_words downs) m lost (TURN_OF_TIME * times) time) ups (own_words downs)) → Stood big older a b ups downs lost m time times server → RunsOut k big far
       → Passes k big far Comes
   one_step n more big older a b (c ∷ rest) downs lost m time times server going leads s run = server_step n more big older a b c rest downs lost m time times server going leads s run

@@ -58,7 +58,7 @@ module _ {A : Type 0} (rules : Rules A) (wrap : A → Transfer) (P : A → Type 
     pub holds : P heard_step.after
     pub task : IsUnderWay x (wrap heard_step.after) world
     pub numbered : world.numbered ≡ big.numbered ++ map (up_packet x) told
-    pub lost : AllByRecursion (IsLostIn k x world) (missing (loses k x.session far) n told)
+    pub lost : AllByRecursion (IsLostIn k x world) (missing (loses k x.session far) (moment_at x) n told)
 
   module _ (st : StandsDropping k x older big stage [] (own c ∷ rest) n) (task : IsUnderWay x (wrap t) big) (holds : P t) (unended : rules.end_of t ≡ None) (turn : Turn k big now) (run : RunsOut k now far) where
     ready : IsSetFor (calm k) x
@@ -144,5 +144,5 @@ module _ {A : Type 0} (rules : Rules A) (wrap : A → Transfer) (P : A → Type 
       holds = does.0;
       task = record { under = under_is; lines = client_keeps k (λ z. z.lines) (λ z q. refl) v sure.after ∙ task.lines };
       numbered = numbered;
-      lost = lost_up k x world far big.numbered grown.0 told n set.places.session numbered grown.1 st.said_are set.service_is told_fit;
+      lost = lost_up k x world far big.numbered grown.0 told (moment_at x) n set.places.session numbered grown.1 st.said_are set.service_is told_fit;
     }

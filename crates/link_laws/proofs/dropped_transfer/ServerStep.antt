@@ -69,7 +69,7 @@ module _ (k : Setup) (x : Places) (older : List Row) (set : IsSetForDrops k x ol
     pub under : world.under ≡ big.under
     pub lines : world.lines ≡ big.lines
     pub numbered : world.numbered ≡ big.numbered ++ map (down_packet x) told
-    pub lost : AllByRecursion (IsLostIn k x world) (missing (loses k x.session far) n told)
+    pub lost : AllByRecursion (IsLostIn k x world) (missing (loses k x.session far) (moment_at x) n told)
 
   module _ (st : StandsDropping k x older big stage (c ∷ rest) downs n) (fits : SessionFits stage) (turn : Turn k big now) (run : RunsOut k now far) where
     ready : IsSetFor (calm k) x
@@ -156,5 +156,5 @@ module _ (k : Setup) (x : Places) (older : List Row) (set : IsSetForDrops k x ol
       under = server_keeps k (λ z. z.under) (λ z q. refl) v sure.after;
       lines = server_keeps k (λ z. z.lines) (λ z q. refl) v sure.after;
       numbered = numbered;
-      lost = lost_down_alone k x world far big.numbered grown.0 told n set.places numbered grown.1 st.said_are set.service_is told_fit;
+      lost = lost_down_alone k x world far big.numbered grown.0 told (moment_at x) n set.places numbered grown.1 st.said_are set.service_is told_fit;
     }

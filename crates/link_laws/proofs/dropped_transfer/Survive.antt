@@ -18,12 +18,13 @@ use Rattle.transfer_resume.specs.declared.stage.Stage.TheVariants as stage
 use Rattle.transfer_resume.specs.Opening.{agreed_offset}
 use Rattle.transfer_resume.specs.Session.{Row, Service}
 use Rattle.transfer_laws.specs.pairs.EndsWell.{read_ended, read_refused, write_ended}
-use Rattle.transfer_laws.specs.losses.Drops.{LeadsTo, LossyPair, begun, step, steps}
-use Rattle.transfer_laws.specs.losses.Survives.{Ends, HasEndedWell, IsNoConfirmation, IsSettled, LosesFew, SparesConfirmations}
+use Rattle.transfer_laws.specs.losses.Drops.{LeadsTo, Lost, LossyPair, begun, lost_at}
+use Rattle.transfer_laws.specs.losses.Survives.{Ends, HasEndedWell, IsNoConfirmation, IsSettled, IsSoon, KeepsARoundClean, LosesFew, SaysNoConfirmation, SparesConfirmations}
+use Rattle.transfer_laws.proofs.losses.FewLosses.{few_losses_keep_a_round_clean}
 use Rattle.transfer_laws.proofs.losses.Numbers.{numbers_lose_few}
-use Rattle.transfer_laws.proofs.losses.ReadSurvival.{reads_survive}
+use Rattle.transfer_laws.proofs.losses.ReadLaws.{reads_survive}
 use Rattle.transfer_laws.proofs.losses.RefusalSurvival.{refusals_survive}
-use Rattle.transfer_laws.proofs.losses.WriteSurvival.{writes_survive}
+use Rattle.transfer_laws.proofs.losses.WriteLaws.{writes_survive}
 use Rattle.link_laws.specs.world.World.{Setup, Transfer, World, reads, writes}
 use Rattle.link_laws.specs.world.Lines.{line_telling}
 use Rattle.link_laws.specs.lossless_transfer.Finishes.{Passes, ReadFits, WriteFits}
@@ -46,11 +47,6 @@ use Rattle.link_laws.proofs.dropped_transfer.Numbers.{all_still_lost, lost_few}
 use Rattle.link_laws.proofs.dropped_transfer.Tail.{drains}
 use Rattle.link_laws.proofs.dropped_transfer.TimeStep.{KeepsTime}
 
--- the steps that lead there
-leads_steps : {A : Type 0} (rules : Rules A) (service : Service) (lost : ℕ → Bool) (n : ℕ) (w last : LossyPair A) → LeadsTo service rules lost n w last → steps service rules lost n w ≡ last
-leads_steps rules service lost zero w last same = same
-leads_steps rules service lost (suc n) w last leads = leads_steps rules service lost n (step service rules lost w) last leads.1
-
 well_settled : (o : Option Stage) → HasEndedWell o → IsSettled o
 well_settled None well = absurd well
 well_settled (Some (stage.Opening o)) well = absurd well
@@ -59,21 +55,24 @@ well_settled (Some (stage.Receiving r)) well = well
 well_settled (Some (stage.Ended status)) well = tt
 
 -- what was lost in a read is no confirmation
-spared_word : (k : Setup) (x : Places) (far : World) → DropsFew k far → x.client_opening.name.method ≡ name_id (codes "Read") → x.session < 2 ^ 32 → (w : Word) → IsLostIn k x far w → IsNoConfirmation w
-spared_word k x far drops named small (confirmation ask) lost =
-    absurd (both (x.client_opening.name.method == name_id (codes "Read")) (eq-eqb x.client_opening.name.method (name_id (codes "Read")) named)
-    (sym (ap (λ (r : Result Chunk ℕ). (x.client_opening.name.method == name_id (codes "Read")) && is_confirmation r) (words_are_heard x.session (confirmation ask) small lost.fits).read)
-    ∙ drops.spares lost.place _ lost.there lost.dropped))
+spared_word : (k : Setup) (x : Places) (far : World) → DropsFew k far → x.client_opening.name.method ≡ name_id (codes "Read") → x.session < 2 ^ 32 → (l : Lost) → IsLostIn k x far l → IsNoConfirmation l
+spared_word k x far drops named small l lost = by l.word lost
   where
     both : (b : Bool) → b ≡ true → (b && true) ≡ false → ⊥
     both true is none = cc
     both false is none = cc
-spared_word k x far drops named small (start resource offset) lost = tt
-spared_word k x far drops named small (start_ack offset) lost = tt
-spared_word k x far drops named small (parameters ask) lost = tt
-spared_word k x far drops named small (data_comes p) lost = tt
-spared_word k x far drops named small (completion status) lost = tt
-spared_word k x far drops named small completion_ack lost = tt
+
+    by : (w : Word) → IsLostIn k x far (lost_at l.moment w) → SaysNoConfirmation w
+    by (confirmation ask) lost =
+        absurd (both (x.client_opening.name.method == name_id (codes "Read")) (eq-eqb x.client_opening.name.method (name_id (codes "Read")) named)
+        (sym (ap (λ (r : Result Chunk ℕ). (x.client_opening.name.method == name_id (codes "Read")) && is_confirmation r) (words_are_heard x.session (confirmation ask) small lost.fits).read)
+        ∙ drops.spares lost.place _ lost.there lost.dropped))
+    by (start resource offset) lost = tt
+    by (start_ack offset) lost = tt
+    by (parameters ask) lost = tt
+    by (data_comes p) lost = tt
+    by (completion status) lost = tt
+    by completion_ack lost = tt
 
 module _ {A : Type 0} (rules : Rules A) (wrap : A → Transfer) (P : ℕ → A → Type 0) (wrapped : IsWrapped rules wrap) (keeps : KeepsTime rules P) (k : Setup) (x : Places) (older : List Row) (big far : World) (t : A)
     (starts : CanSurvive k x older big far (wrap t)) (can : CanBegin rules (P (moment_at x)) (moment_at x) t) where
@@ -84,24 +83,21 @@ module _ {A : Type 0} (rules : Rules A) (wrap : A → Transfer) (P : ℕ → A �
   abbrev w : LossyPair A
   w = begun x.service rules lost (moment_at x) x.service.time t
 
-  -- no more words are lost than frames are dropped
-  pub loses_few : LosesFew x.service rules lost w
-  loses_few count =
-      omega (arith, starts.drops.few, lost_few k x.session far, numbers_lose_few rules x.service (lost_numbers k x.session far) (moment_at x) x.service.time t count)
-
-  -- so it is over in time
-  in_time : (n : ℕ) (last : LossyPair A) → LeadsTo x.service rules lost n w last → last.now ≤ moment_at x + TIMEOUT * length last.lost → last.now ≤ moment_at x + TIMEOUT * 3
-  in_time n last leads soon =
-      let many : length last.lost ≤ 3 = subst (λ (v : LossyPair A). length v.lost ≤ 3) (leads_steps rules x.service lost n w last leads) (loses_few n) in
-      omega (arith, soon, many)
+  -- no more words are lost than frames are dropped, so one of the first four rounds is clean
+  pub rounds_clean : KeepsARoundClean x.service rules lost (moment_at x) w
+  rounds_clean = few_losses_keep_a_round_clean rules x.service lost (moment_at x) w loses_few
+    where
+      loses_few : LosesFew x.service rules lost w
+      loses_few count =
+          omega (arith, starts.drops.few, lost_few k x.session far, numbers_lose_few rules x.service (lost_numbers k x.session far) (moment_at x) x.service.time t count)
 
   -- THE RUN COMES TO EACH PAIR that it leads to in time
-  comes : (n : ℕ) (last : LossyPair A) → LeadsTo x.service rules lost n w last → last.now ≤ moment_at x + TIMEOUT * length last.lost → Passes k big far (Come rules wrap k x last)
+  comes : (n : ℕ) (last : LossyPair A) → LeadsTo x.service rules lost n w last → IsSoon x.service rules lost (moment_at x) last → Passes k big far (Come rules wrap k x last)
   comes n last leads soon =
       then_passes k big far (λ next. ShowsLossy wrap k x older [] next w) (Come rules wrap k x last)
       (begins_so rules wrap (P (moment_at x)) k x older starts.set wrapped (keeps.keeps (moment_at x)) t can big far starts.drops starts.begins starts.run)
       (λ next shows run.
-      follows rules wrap P k x starts.set.only wrapped keeps far last (omega (arith, in_time n last leads soon, starts.early)) n next older w.pair.server w.pair.client w.pair.to_server [] w.lost w.pair.said x.service.time x.times x.server
+      follows rules wrap P k x starts.set.only wrapped keeps far last (omega (arith, soon, starts.early)) n next older w.pair.server w.pair.client w.pair.to_server [] w.lost w.pair.said x.service.time x.times x.server
       can.going leads
       (record { set = starts.set; stands = shows.stands; task = shows.task; fits = tt; holds = can.holds; lost_are = shows.lost })
       run)
@@ -120,20 +116,19 @@ module _ {A : Type 0} (rules : Rules A) (wrap : A → Transfer) (P : ℕ → A �
   survives end status Stood settled e over =
       then_passes k big far (Come rules wrap k x e.last) (HasSurvived k x (wrap end) status) (comes e.many e.last e.way e.soon)
       (λ mid came run.
-      let soon : e.last.now ≤ moment_at x + TIMEOUT * 3 = in_time e.many e.last e.way e.soon in
       let y : Places = at_turn x e.last.time came.times came.server in
       let told : (bytes : ℕ) × LeftDropping k y came.older (x.lines ++ line_telling (wrap e.last.pair.client) status bytes ∷ []) mid e.last.pair.server e.last.pair.to_server came.downs e.last.pair.said =
       came.left status (ap rules.end_of e.client ∙ over) in
       let lines : List ReportLine = x.lines ++ line_telling (wrap e.last.pair.client) status told.0 ∷ [] in
       then_passes k mid far (λ next. LeftDropping k y came.older lines next e.session [] [] e.last.pair.said) (HasSurvived k x (wrap end) status)
-      (drains k y came.older came.set (omega (arith, soon, starts.early, came.now)) lines far e.last.pair.to_server came.downs mid e.last.pair.server e.session e.last.pair.said e.server
+      (drains k y came.older came.set (omega (arith, e.soon, starts.early, came.now)) lines far e.last.pair.to_server came.downs mid e.last.pair.server e.session e.last.pair.said e.server
       (came.own_are ∙ e.to_client) came.fits told.1 run)
       (λ next left rest.
       here k next far (HasSurvived k x (wrap end) status) rest
       (record {
         bytes = told.0;
         times = came.times;
-        few = omega (arith, soon, came.now);
+        few = omega (arith, e.soon, came.now);
         time = e.last.time;
         past = omega (arith, leads_past x.service rules lost e.many w e.last e.way starts.past, came.now);
         server = came.server;
@@ -161,7 +156,7 @@ reads_survive_drops k x older big far resource offset window chunk bytes starts 
     read_can (moment_at x) resource offset window chunk (omega (arith, starts.early)) (record { resource = small; asked = omega (arith, size, within); window = tuning.window_high; chunk = tuning.chunk_high }) in
     survives read_rules reads ReadAt reads_wrapped reads_keep_time k x older big far d starts can (read_ended d offset) Okay HasEndedWell well_settled
     (reads_survive x.service (loses k x.session far) (moment_at x) x.service.time resource offset window chunk bytes side there tuning size within
-    (loses_few read_rules reads ReadAt reads_wrapped reads_keep_time k x older big far d starts can)
+    (rounds_clean read_rules reads ReadAt reads_wrapped reads_keep_time k x older big far d starts can)
     (spared read_rules reads ReadAt reads_wrapped reads_keep_time k x older big far d starts can named))
     refl
 
@@ -172,7 +167,7 @@ writes_survive_drops k x older big far resource offset bytes starts side small t
     write_can (moment_at x) resource offset bytes (omega (arith, starts.early)) (record { resource = small; size = size; within = within }) in
     survives write_rules writes WriteAt writes_wrapped writes_keep_time k x older big far u starts can (write_ended u (agreed_offset x.service.shelf resource offset)) Okay HasEndedWell well_settled
     (writes_survive x.service (loses k x.session far) (moment_at x) x.service.time resource offset bytes side tuning size within starts.past
-    (loses_few write_rules writes WriteAt writes_wrapped writes_keep_time k x older big far u starts can))
+    (rounds_clean write_rules writes WriteAt writes_wrapped writes_keep_time k x older big far u starts can))
     refl
 
 pub refusals_survive_drops : RefusalsSurviveDrops
@@ -181,5 +176,5 @@ refusals_survive_drops k x older big far resource offset window chunk status sta
     let can : CanBegin read_rules (ReadAt (moment_at x)) (moment_at x) d = read_can (moment_at x) resource offset window chunk (omega (arith, starts.early)) fits in
     survives read_rules reads ReadAt reads_wrapped reads_keep_time k x older big far d starts can (read_refused d status) status IsSettled (λ o settled. settled)
     (refusals_survive x.service (loses k x.session far) (moment_at x) x.service.time resource offset window chunk status side refused
-    (loses_few read_rules reads ReadAt reads_wrapped reads_keep_time k x older big far d starts can))
+    (rounds_clean read_rules reads ReadAt reads_wrapped reads_keep_time k x older big far d starts can))
     refl

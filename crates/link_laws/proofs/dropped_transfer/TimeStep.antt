@@ -136,8 +136,8 @@ module _ {A : Type 0} (rules : Rules A) (wrap : A → Transfer) (P : ℕ → A �
     pub fits : SessionFits tick.after
     pub holds : P t polls.after
     pub task : IsUnderWay (at_turn x t (x.times + 1) server) (wrap polls.after) world
-    pub lost_down : AllByRecursion (IsLostIn k x world) (missing lost (n + length ups) told)
-    pub lost_up : AllByRecursion (IsLostIn k x world) (missing lost n ups)
+    pub lost_down : AllByRecursion (IsLostIn k x world) (missing lost t (n + length ups) told)
+    pub lost_up : AllByRecursion (IsLostIn k x world) (missing lost t n ups)
 
   module _ (st : StandsDropping k x older big stage [] [] n) (fits : SessionFits stage) (on : IsUnderWay x (wrap b) big) (stood : P (moment_at x) b)
       (going : rules.end_of b ≡ None) (in_time : moment_at x + TIMEOUT + TIMEOUT < 2 ^ 63) (turn : Turn k big now) (run : RunsOut k now far) where
@@ -336,10 +336,10 @@ module _ {A : Type 0} (rules : Rules A) (wrap : A → Transfer) (P : ℕ → A �
         lines = server_keeps k (λ z. z.lines) (λ z q. refl) between passes.server ∙ (client_keeps k (λ z. z.lines) (λ z q. refl) v passes.client ∙ on.lines);
       };
       lost_down =
-          subst (λ (ws : List Word). AllByRecursion (IsLostIn k x world) (missing lost (n + length ups) ws)) ticked.own
-          (lost_down k x world far between.numbered grown.0 ticked.mix (n + length ups) set.places down_numbered grown.1 said_up set.service_is may_down);
+          subst (λ (ws : List Word). AllByRecursion (IsLostIn k x world) (missing lost t (n + length ups) ws)) ticked.own
+          (lost_down k x world far between.numbered grown.0 ticked.mix t (n + length ups) set.places down_numbered grown.1 said_up set.service_is may_down);
       lost_up =
-          all_still_lost k x between world (map (passing_packet x) ticked.mix) down_numbered (missing lost n ups)
-          (lost_up k x between far big.numbered (map (passing_packet x) ticked.mix ++ grown.0) ups n set.places.session up_numbered
+          all_still_lost k x between world (map (passing_packet x) ticked.mix) down_numbered (missing lost t n ups)
+          (lost_up k x between far big.numbered (map (passing_packet x) ticked.mix ++ grown.0) ups t n set.places.session up_numbered
           (far_down ∙ append_assoc between.numbered (map (passing_packet x) ticked.mix) grown.0) st.said_are set.service_is fit_up);
     }

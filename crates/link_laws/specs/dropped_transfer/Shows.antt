@@ -10,7 +10,7 @@ use Rattle.transfer_resume.specs.declared.stage.Stage.{Stage}
 use Rattle.transfer_resume.specs.Session.{Row}
 use Rattle.transfer_words.specs.Spoken.{FitsChunk}
 use Rattle.transfer_words.specs.Word.{Word}
-use Rattle.transfer_laws.specs.losses.Drops.{LossyPair}
+use Rattle.transfer_laws.specs.losses.Drops.{Lost, LossyPair}
 use Rattle.link_laws.specs.rounds.Carrying.{carrying}
 use Rattle.link_laws.specs.world.World.{Setup, Transfer, World}
 use Rattle.link_laws.specs.lossless_transfer.Chunks.{is_chunk_of}
@@ -40,12 +40,12 @@ pub record StandsDropping (k : Setup) (x : Places) (older : List Row) (big : Wor
   pub kept : IsKept x big
 
 -- the word was said by one of the ends in a frame that is dropped
-pub record IsLostIn (k : Setup) (x : Places) (big : World) (w : Word) : Type 0 where
+pub record IsLostIn (k : Setup) (x : Places) (big : World) (l : Lost) : Type 0 where
   pub place : ℕ
   pub type : PacketType
-  pub there : slice_get big.numbered place ≡ Some (packet_saying type x.client_opening.name x.session w)
+  pub there : slice_get big.numbered place ≡ Some (packet_saying type x.client_opening.name x.session l.word)
   pub dropped : is_dropped k (suc place) ≡ true
-  pub fits : FitsChunk w
+  pub fits : FitsChunk l.word
 
 -- THE WORLD SHOWS THIS PAIR, at its moments; what was lost in it was dropped
 pub record ShowsLossy {A : Type 0} (wrap : A → Transfer) (k : Setup) (x : Places) (older : List Row) (downs : List Passing) (big : World) (w : LossyPair A) : Type 0 where

@@ -132,7 +132,7 @@ as_data k [] all = tt
 as_data k (x ∷ ps) all = (all.0, as_data k ps all.1)
 
 -- The receiver's asks and the chunks on their way make the data phase go on.
-module _ (k : Setup) (times losses : ℕ) (r : Receiver) (w p : ℕ) (a : Ask) (sent rest : List Word) (f : Flowing k times losses r w p sent (parameters a ∷ rest)) where
+module _ (k : Setup) (times : ℕ) (Lossy : Type 0) (r : Receiver) (w p : ℕ) (a : Ask) (sent rest : List Word) (f : Flowing k times Lossy r w p sent (parameters a ∷ rest)) where
   abbrev size : ℕ
   size = length k.bytes
 
@@ -145,16 +145,15 @@ module _ (k : Setup) (times losses : ℕ) (r : Receiver) (w p : ℕ) (a : Ask) (
   -- what the sender answers, and how the data phase goes on where all of it goes on
   pub record Answered : Type 0 where
     pub sent_is : Sent k p a
-    pub flowing : Flowing k times losses r w sent_is.position (sent ++ map data_comes sent_is.pieces) rest
+    pub flowing : Flowing k times Lossy r w sent_is.position (sent ++ map data_comes sent_is.pieces) rest
 
-  behind : (s : Sent k p a) → (times < losses) ⊎ IsClean k r w s.position (sent ++ map data_comes s.pieces) rest → Flowing k times losses r w s.position (sent ++ map data_comes s.pieces) rest
+  behind : (s : Sent k p a) → Lossy ⊎ IsClean k r w s.position (sent ++ map data_comes s.pieces) rest → Flowing k times Lossy r w s.position (sent ++ map data_comes s.pieces) rest
   behind s fresh = record {
     takes = f.takes;
     stands = s.stands;
     resends = f.resends;
     all_sent = all_join (IsData k) sent (map data_comes s.pieces) f.all_sent (as_data k s.pieces s.all);
     all_asked = f.all_asked.1;
-    few = f.few;
     fresh = fresh;
   }
 
@@ -178,7 +177,7 @@ module _ (k : Setup) (times losses : ℕ) (r : Receiver) (w p : ℕ) (a : Ask) (
   abbrev CleanThen : Sent k p a → Type 0
   CleanThen s = IsClean k r w s.position (sent ++ map data_comes s.pieces) rest
 
-  by_fresh : (s : Sent k p a) → (Clean → CleanThen s) → (times < losses) ⊎ Clean → (times < losses) ⊎ CleanThen s
+  by_fresh : (s : Sent k p a) → (Clean → CleanThen s) → Lossy ⊎ Clean → Lossy ⊎ CleanThen s
   by_fresh s later (inl lost) = inl lost
   by_fresh s later (inr clean) = inr (later clean)
 
@@ -219,7 +218,7 @@ module _ (k : Setup) (times losses : ℕ) (r : Receiver) (w p : ℕ) (a : Ask) (
 
   pub answered : Answered
   answered =
-      let found = by_cases k p a f.stands asked (λ s. (times < losses) ⊎ CleanThen s)
+      let found = by_cases k p a f.stands asked (λ s. Lossy ⊎ CleanThen s)
       (λ e. by_fresh (sent_on k p a f.stands asked e) (clean_on e) f.fresh)
       (λ e t. by_fresh (sent_end k p a f.stands asked e t) (clean_end e t) f.fresh)
       (λ e t. by_fresh (sent_back k p a f.stands asked e t) (clean_back e t) f.fresh) in

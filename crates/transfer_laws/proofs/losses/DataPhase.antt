@@ -99,16 +99,15 @@ module _ (k : Setup) where
     ends : r.next ≡ length k.bytes → IsOne (IsPieceAt k (length k.bytes)) sent → IsNone asked → IsClean r w p sent asked
     flows : (u : ℕ) → r.next < length k.bytes → p ≡ min (r.next + u * k.chunk) (length k.bytes) → ComeFrom k r.next u sent → AskFrom r.next u asked w → IsClean r w p sent asked
 
-  -- The two cores, and the words between them, once time has passed so often, and so many words were lost. Time passes only
-  -- where words were lost.
-  pub record Flowing (times losses : ℕ) (r : Receiver) (w p : ℕ) (sent asked : List Word) : Type 0 where
+  -- The two cores, and the words between them, once time has passed so often. This round has lost a word, or all that the receiver
+  -- lacks comes in it.
+  pub record Flowing (times : ℕ) (Lossy : Type 0) (r : Receiver) (w p : ℕ) (sent asked : List Word) : Type 0 where
     pub takes : Takes r w
     pub stands : Stands k p
     pub resends : r.resends ≤ times
     pub all_sent : AllByRecursion IsData sent
     pub all_asked : AllByRecursion IsAsk asked
-    pub few : times ≤ losses
-    pub fresh : (times < losses) ⊎ IsClean r w p sent asked
+    pub fresh : Lossy ⊎ IsClean r w p sent asked
 
   -- ASKS THAT GO ON
 
@@ -294,9 +293,14 @@ module _ (k : Setup) where
   join_asks : (xs : List Word) (x : Word) → AllByRecursion IsAsk xs → IsAsk x → AllByRecursion IsAsk (xs ++ x ∷ [])
   join_asks xs x all is = all_join IsAsk xs (x ∷ []) all (is, tt)
 
+  -- the receiver stands where it stood, or has kept a chunk that isn't the last one
+  pub data Moves (r r' : Receiver) : Type 0 where
+    stays : r'.next ≡ r.next → r'.resends ≡ r.resends → Moves r r'
+    moves : r'.next ≡ r.next + k.chunk → r.next + k.chunk < length k.bytes → r'.resends ≡ 0 → Moves r r'
+
   -- A CHUNK IS HEARD while words may have been lost
 
-  module _ (times losses now : ℕ) (r : Receiver) (w p : ℕ) (piece : Piece) (rest asked : List Word) (f : Flowing times losses r w p (data_comes piece ∷ rest) asked) where
+  module _ (times : ℕ) (Lossy : Type 0) (now : ℕ) (r : Receiver) (w p : ℕ) (piece : Piece) (rest asked : List Word) (f : Flowing times Lossy r w p (data_comes piece ∷ rest) asked) where
     abbrev at : ℕ
     at = f.all_sent.0.at
 
@@ -312,7 +316,7 @@ module _ (k : Setup) where
     clean_next (ends full one none) = ap (λ z. z.offset) (sym piece_is ∙ one.0) ∙ sym full
     clean_next (flows u below position come ask) = ap (λ z. z.offset) (sym piece_is ∙ come.1)
 
-    not_clean : (Q : Type 0) → ((at ≡ r.next) → ⊥) → (times < losses) ⊎ IsClean r w p (data_comes piece ∷ rest) asked → (times < losses) ⊎ Q
+    not_clean : (Q : Type 0) → ((at ≡ r.next) → ⊥) → Lossy ⊎ IsClean r w p (data_comes piece ∷ rest) asked → Lossy ⊎ Q
     not_clean Q other (inl lost) = inl lost
     not_clean Q other (inr clean) = absurd (other (clean_next clean))
 
@@ -335,10 +339,10 @@ module _ (k : Setup) where
     -- what has to hold of each that may come of the piece: it says nothing, or asks, or has ended well
     module _ (P : PieceOutcome → Type 0) where
       pub record Goes : Type 0 where
-        pub quiet : (r' : Receiver) (w' : ℕ) (answer : Received) → words_of (of_piece piece.bytes answer) ≡ [] → Flowing times losses r' w' p rest asked → load r' ≤ load r → r'.active ≡ now
+        pub quiet : (r' : Receiver) (w' : ℕ) (answer : Received) → words_of (of_piece piece.bytes answer) ≡ [] → Flowing times Lossy r' w' p rest asked → Moves r r' → load r' ≤ load r → r'.active ≡ now
             → P (record { after = r'; answer = answer })
-        pub asks : (r' : Receiver) (w' : ℕ) (answer : Received) (x : Word) → words_of (of_piece piece.bytes answer) ≡ x ∷ [] → Flowing times (suc losses) r' w' p rest asked
-            → Flowing times losses r' w' p rest (asked ++ x ∷ []) → load r' + 70 ≤ load r → r'.active ≡ now → P (record { after = r'; answer = answer })
+        pub asks : (r' : Receiver) (w' : ℕ) (answer : Received) (x : Word) → words_of (of_piece piece.bytes answer) ≡ x ∷ [] → Flowing times (Unit {0}) r' w' p rest asked
+            → Flowing times Lossy r' w' p rest (asked ++ x ∷ []) → Moves r r' → load r' + 70 ≤ load r → r'.active ≡ now → P (record { after = r'; answer = answer })
         pub ended : (end : ℕ) → P (ending (keeping (active_at now r) end) Okay)
 
       abbrev touched : Receiver
@@ -349,12 +353,12 @@ module _ (k : Setup) where
 
       -- it asks, and the ask goes on or doesn't
       asking_goes : Goes → (r' : Receiver) (w' : ℕ) (answer : Received) (said : Word) → words_of (of_piece piece.bytes answer) ≡ said ∷ [] → Takes r' w' → r'.resends ≤ times → IsAsk said
-          → ((times < losses) ⊎ IsClean r' w' p rest (asked ++ said ∷ [])) → load r' + 70 ≤ load r → r'.active ≡ now → P (record { after = r'; answer = answer })
-      asking_goes g r' w' answer said words takes resends is fresh less active =
+          → Lossy ⊎ IsClean r' w' p rest (asked ++ said ∷ []) → Moves r r' → load r' + 70 ≤ load r → r'.active ≡ now → P (record { after = r'; answer = answer })
+      asking_goes g r' w' answer said words takes resends is fresh stood less active =
           g.asks r' w' answer said words
-          (record { takes = takes; stands = f.stands; resends = resends; all_sent = f.all_sent.1; all_asked = f.all_asked; few = omega (arith, f.few); fresh = inl (omega (arith, f.few)) })
-          (record { takes = takes; stands = f.stands; resends = resends; all_sent = f.all_sent.1; all_asked = join_asks asked said f.all_asked is; few = f.few; fresh = fresh })
-          less active
+          (record { takes = takes; stands = f.stands; resends = resends; all_sent = f.all_sent.1; all_asked = f.all_asked; fresh = inl tt })
+          (record { takes = takes; stands = f.stands; resends = resends; all_sent = f.all_sent.1; all_asked = join_asks asked said f.all_asked is; fresh = fresh })
+          stood less active
 
       ignored : Goes → ((at ≡ r.next) → ⊥) → P (ignoring touched)
       ignored g other =
@@ -365,10 +369,9 @@ module _ (k : Setup) where
             resends = f.resends;
             all_sent = f.all_sent.1;
             all_asked = f.all_asked;
-            few = f.few;
             fresh = not_clean (IsClean touched w p rest asked) other f.fresh;
           })
-          (omega arith) refl
+          (stays refl refl) (omega arith) refl
 
       again : Goes → ((at ≡ r.next) → ⊥) → is_recovering r.phase ≡ false → P (record { after = record (asking true touched) { phase = Recovering }; answer = Again (ask_of true (asking true touched)) })
       again g other rec =
@@ -376,7 +379,7 @@ module _ (k : Setup) where
           let takes : Takes r' (span_of_ask true touched) = takes_asked true touched r' f.takes.begins f.takes.span_low f.takes.span_high f.takes.chunk refl refl refl refl refl in
           let said : Word = parameters (ask_of true (asking true touched)) in
           asking_goes g r' (span_of_ask true touched) (Again (ask_of true (asking true touched))) said refl takes f.resends (sound_ask true true r' (span_of_ask true touched) takes)
-          (not_clean (IsClean r' (span_of_ask true touched) p rest (asked ++ said ∷ [])) other f.fresh) (omega (arith, ap recovers rec)) refl
+          (not_clean (IsClean r' (span_of_ask true touched) p rest (asked ++ said ∷ [])) other f.fresh) (stays refl refl) (omega (arith, ap recovers rec)) refl
 
       more : Goes → r.next + c < n → P (record { after = asking false moved; answer = Kept (Some (ask_of false (asking false moved))) })
       more g inside =
@@ -384,10 +387,10 @@ module _ (k : Setup) where
           let w' : ℕ = span_of_ask false moved in
           let takes : Takes r' w' = takes_asked false moved r' (next_begins k r.next f.takes.begins (omega (arith, inside))) f.takes.span_low f.takes.span_high f.takes.chunk refl refl refl refl refl in
           let said : Word = parameters (ask_of false r') in
-          asking_goes g r' w' (Kept (Some (ask_of false r'))) said refl takes (omega arith) (sound_ask false false r' w' takes) (by_fresh takes f.fresh) (omega (arith, inside, k.some)) refl
+          asking_goes g r' w' (Kept (Some (ask_of false r'))) said refl takes (omega arith) (sound_ask false false r' w' takes) (by_fresh takes f.fresh) (moves refl inside refl) (omega (arith, inside, k.some)) refl
         where
-          by_fresh : Takes (asking false moved) (span_of_ask false moved) → (times < losses) ⊎ IsClean r w p (data_comes piece ∷ rest) asked
-              → (times < losses) ⊎ IsClean (asking false moved) (span_of_ask false moved) p rest (asked ++ parameters (ask_of false (asking false moved)) ∷ [])
+          by_fresh : Takes (asking false moved) (span_of_ask false moved) → Lossy ⊎ IsClean r w p (data_comes piece ∷ rest) asked
+              → Lossy ⊎ IsClean (asking false moved) (span_of_ask false moved) p rest (asked ++ parameters (ask_of false (asking false moved)) ∷ [])
           by_fresh takes (inl lost) = inl lost
           by_fresh takes (inr clean) =
               inr (clean_more (asked ++ parameters (ask_of false (asking false moved)) ∷ []) (asking false moved) (span_of_ask false moved) refl inside
@@ -427,12 +430,11 @@ module _ (k : Setup) where
                 resends = omega arith;
                 all_sent = f.all_sent.1;
                 all_asked = f.all_asked;
-                few = f.few;
                 fresh = by_fresh v is f.fresh;
               })
-              (omega (arith, inside, k.some)) refl
+              (moves refl inside refl) (omega (arith, inside, k.some)) refl
             where
-              by_fresh : (v : ℕ) → w ≡ suc v → (times < losses) ⊎ IsClean r w p (data_comes piece ∷ rest) asked → (times < losses) ⊎ IsClean moved v p rest asked
+              by_fresh : (v : ℕ) → w ≡ suc v → Lossy ⊎ IsClean r w p (data_comes piece ∷ rest) asked → Lossy ⊎ IsClean moved v p rest asked
               by_fresh v is (inl lost) = inl lost
               by_fresh v is (inr clean) = inr (clean_more asked moved v refl inside (λ u other same ask. shifted asked r.next u v (subst (λ z. AskFrom r.next (suc u) asked z) is ask)) clean)
 

@@ -11,11 +11,11 @@ use Rattle.transfer_resume.specs.Session.{Service}
 use Rattle.transfer_resume.specs.Hears.{session_hears}
 use Rattle.transfer_client.specs.Machine.{Rules}
 use Rattle.transfer_laws.specs.pairs.Pair.{turn_by, words_of}
-use Rattle.transfer_laws.specs.losses.Drops.{LossyPair, at_time, begun, kept, missing, session_ticks, step, step_by, steps, waits_by}
+use Rattle.transfer_laws.specs.losses.Drops.{Lost, LossyPair, at_time, begun, kept, lost_at, missing, session_ticks, step, step_by, steps, waits_by}
 use Rattle.transfer_laws.specs.losses.Survives.{IsOnItsWay, NumbersLoseFew, StepsAreTurns, is_among}
 
 -- how many of these numbers are at most m
-abbrev one_if : Bool → ℕ
+abbrev pub one_if : Bool → ℕ
 one_if b = if b then 1 else 0
 
 abbrev up_to : ℕ → List ℕ → ℕ
@@ -60,18 +60,18 @@ counted m (d ∷ ds) is = by_test (d == suc m) refl (rises m ds) (one_more d m) 
     by_test false e more first rest is = omega (arith, first, rest is)
 
 -- the words that are lost were counted
-missed : (ds : List ℕ) (said : ℕ) (ws : List Word) → length (missing (is_among ds) said ws) + up_to said ds ≤ up_to (said + length ws) ds
-missed ds said [] = subst (λ m. 0 + up_to said ds ≤ up_to m ds) none (omega arith)
+missed : (ds : List ℕ) (now said : ℕ) (ws : List Word) → length (missing (is_among ds) now said ws) + up_to said ds ≤ up_to (said + length ws) ds
+missed ds now said [] = subst (λ m. 0 + up_to said ds ≤ up_to m ds) none (omega arith)
   where
     none : said ≡ said + 0
     none = omega arith
-missed ds said (w ∷ ws) = by_loss (is_among ds (suc said)) refl (subst (λ m. length (missing (is_among ds) (suc said) ws) + up_to (suc said) ds ≤ up_to m ds) more (missed ds (suc said) ws))
+missed ds now said (w ∷ ws) = by_loss (is_among ds (suc said)) refl (subst (λ m. length (missing (is_among ds) now (suc said) ws) + up_to (suc said) ds ≤ up_to m ds) more (missed ds now (suc said) ws))
   where
     more : suc said + length ws ≡ said + length (w ∷ ws)
     more = omega arith
 
-    by_loss : (b : Bool) → is_among ds (suc said) ≡ b → length (missing (is_among ds) (suc said) ws) + up_to (suc said) ds ≤ up_to (said + length (w ∷ ws)) ds
-        → length (if b then w ∷ missing (is_among ds) (suc said) ws else missing (is_among ds) (suc said) ws) + up_to said ds ≤ up_to (said + length (w ∷ ws)) ds
+    by_loss : (b : Bool) → is_among ds (suc said) ≡ b → length (missing (is_among ds) now (suc said) ws) + up_to (suc said) ds ≤ up_to (said + length (w ∷ ws)) ds
+        → length (if b then lost_at now w ∷ missing (is_among ds) now (suc said) ws else missing (is_among ds) now (suc said) ws) + up_to said ds ≤ up_to (said + length (w ∷ ws)) ds
     by_loss true e rest = omega (arith, counted said ds e, rest)
     by_loss false e rest = omega (arith, rises said ds, rest)
 
@@ -83,8 +83,8 @@ module _ {C : Type 0} (service : Service) (rules : Rules C) (ds : List ℕ) wher
   IsCounted w = length w.lost ≤ up_to w.pair.said ds
 
   -- one end has said these words
-  one_said : (m : ℕ) (ws lost : List Word) → length lost ≤ up_to m ds → length (missing loses m ws ++ lost) ≤ up_to (m + length ws) ds
-  one_said m ws lost few = omega (arith, missed ds m ws, few, length-append (missing loses m ws) lost)
+  one_said : (now m : ℕ) (ws : List Word) (lost : List Lost) → length lost ≤ up_to m ds → length (missing loses now m ws ++ lost) ≤ up_to (m + length ws) ds
+  one_said now m ws lost few = omega (arith, missed ds now m ws, few, length-append (missing loses now m ws) lost)
 
   waits_counted : (w : LossyPair C) (end : Option Status) → IsCounted w → IsCounted (waits_by service rules loses w end)
   waits_counted w (Some status) few = few
@@ -92,11 +92,11 @@ module _ {C : Type 0} (service : Service) (rules : Rules C) (ds : List ℕ) wher
       let now : ℕ = w.now + TIMEOUT in
       let up : List Word = words_of (rules.ticks w.pair.client now).sayings in
       let down : List Word = words_of (session_ticks service.side now w.pair.server).sayings in
-      one_said (w.pair.said + length up) down (missing loses w.pair.said up ++ w.lost) (one_said w.pair.said up w.lost few)
+      one_said now (w.pair.said + length up) down (missing loses now w.pair.said up ++ w.lost) (one_said now w.pair.said up w.lost few)
 
   links_counted : (w : LossyPair C) (up down : List Word) → IsCounted w → IsCounted (step_by service rules loses w up down)
-  links_counted w (c ∷ rest) down few = one_said w.pair.said (words_of (session_hears (at_time service w.time) true w.pair.server c).sayings) w.lost few
-  links_counted w [] (c ∷ rest) few = one_said w.pair.said (words_of (rules.hears w.pair.client c w.now).sayings) w.lost few
+  links_counted w (c ∷ rest) down few = one_said w.now w.pair.said (words_of (session_hears (at_time service w.time) true w.pair.server c).sayings) w.lost few
+  links_counted w [] (c ∷ rest) few = one_said w.now w.pair.said (words_of (rules.hears w.pair.client c w.now).sayings) w.lost few
   links_counted w [] [] few = waits_counted w (rules.end_of w.pair.client) few
 
   steps_counted : (count : ℕ) (w : LossyPair C) → IsCounted w → IsCounted (steps service rules loses count w)
@@ -106,7 +106,7 @@ module _ {C : Type 0} (service : Service) (rules : Rules C) (ds : List ℕ) wher
   few_lost : (now time : ℕ) (t : C) (count : ℕ) → length (steps service rules loses count (begun service rules loses now time t)).lost ≤ length ds
   few_lost now time t count =
       let w : LossyPair C = begun service rules loses now time t in
-      let all : IsCounted (steps service rules loses count w) = steps_counted count w (one_said 0 (words_of (rules.opens t now).sayings) [] (omega arith)) in
+      let all : IsCounted (steps service rules loses count w) = steps_counted count w (one_said now 0 (words_of (rules.opens t now).sayings) [] (omega arith)) in
       omega (arith, all, all_counted (steps service rules loses count w).pair.said ds)
 
 -- a list of numbers loses at most so many words
@@ -119,9 +119,9 @@ all_go_on : (said : ℕ) (ws : List Word) → kept (λ number. false) said ws �
 all_go_on said [] = refl
 all_go_on said (w ∷ ws) = ap (λ rest. w ∷ rest) (all_go_on (suc said) ws)
 
-none_missing : (said : ℕ) (ws : List Word) → missing (λ number. false) said ws ≡ []
-none_missing said [] = refl
-none_missing said (w ∷ ws) = none_missing (suc said) ws
+none_missing : (now said : ℕ) (ws : List Word) → missing (λ number. false) now said ws ≡ []
+none_missing now said [] = refl
+none_missing now said (w ∷ ws) = none_missing now (suc said) ws
 
 module _ {C : Type 0} (service : Service) (rules : Rules C) (w : LossyPair C) where
   -- with these words on their way instead
@@ -133,7 +133,7 @@ module _ {C : Type 0} (service : Service) (rules : Rules C) (w : LossyPair C) wh
       let t : Stepped (Option Stage) = session_hears (at_time service w.time) true w.pair.server c in
       let said : ℕ = w.pair.said + length (words_of t.sayings) in (
         ap (λ ws. Some (record { server = t.after; client = w.pair.client; to_server = rest; to_client = w.pair.to_client ++ ws; said = said })) (sym (all_go_on w.pair.said (words_of t.sayings))),
-        ap (λ ws. ws ++ w.lost) (none_missing w.pair.said (words_of t.sayings)),
+        ap (λ ws. ws ++ w.lost) (none_missing w.now w.pair.said (words_of t.sayings)),
         refl,
         refl,
       )
@@ -141,7 +141,7 @@ module _ {C : Type 0} (service : Service) (rules : Rules C) (w : LossyPair C) wh
       let t : Stepped C = rules.hears w.pair.client c w.now in
       let said : ℕ = w.pair.said + length (words_of t.sayings) in (
         ap (λ ws. Some (record { server = w.pair.server; client = t.after; to_server = w.pair.to_server ++ ws; to_client = rest; said = said })) (sym (all_go_on w.pair.said (words_of t.sayings))),
-        ap (λ ws. ws ++ w.lost) (none_missing w.pair.said (words_of t.sayings)),
+        ap (λ ws. ws ++ w.lost) (none_missing w.now w.pair.said (words_of t.sayings)),
         refl,
         refl,
       )

@@ -1,5 +1,5 @@
 -- The opening of a session, whatever is lost in it, at the service and at a client alike.
-use Rattle.std.proofs.Common.{◌≡◌, ℕ, suc, ◌+◌, ◌*◌, ◌<◌, ◌≤◌, ◌==◌, ◌⊎◌, inl, inr, nat_le, Bool, true, false, if◌then◌else◌, List, [], ◌∷◌, ◌++◌, length, Option, Some, refl, sym, subst, arith}
+use Rattle.std.proofs.Common.{◌≡◌, ℕ, suc, ◌+◌, ◌≤◌, ◌==◌, ◌⊎◌, inl, inr, nat_le, Bool, true, false, if◌then◌else◌, List, [], ◌∷◌, ◌++◌, Option, Some, refl, sym, subst, arith}
 use Rattle.std.proofs.lemmas.Bool.Decides.{nat_tests}
 use Rattle.std.specs.List.{AllByRecursion}
 use Rattle.rpc_ids.specs.declared.Status.TheVariants.{DeadlineExceeded}
@@ -14,8 +14,9 @@ use Rattle.transfer_resume.specs.Opening.{leaving, opening_timeout}
 use Rattle.transfer_resume.specs.Session.{staying, stepped}
 use Rattle.transfer_client.specs.declared.stages.Wait.{Wait}
 use Rattle.transfer_client.specs.Wait as waiting
-use Rattle.transfer_laws.specs.losses.Drops.{session_ticks}
+use Rattle.transfer_laws.specs.losses.Drops.{Lost, lost_at, session_ticks}
 use Rattle.transfer_laws.proofs.losses.Grid.{Setup}
+use Rattle.transfer_laws.proofs.losses.Rounds.{IsLossy, Passed, just_lost, next_round, one_lost}
 use Rattle.transfer_laws.proofs.losses.DataPhase.{IsData}
 
 pub false_is : false ≡ true → ⊥
@@ -58,64 +59,83 @@ steps_of nowhere = 0
 steps_of coming = 2
 steps_of back = 1
 
-pub lost_some : (times losses : ℕ) → (times < losses) ⊎ IsSomewhere nowhere → times < losses
-lost_some times losses (inl some) = some
-lost_some times losses (inr is) = absurd is
+pub lost_some : (Lossy : Type 0) → Lossy ⊎ IsSomewhere nowhere → Lossy
+lost_some Lossy (inl some) = some
+lost_some Lossy (inr is) = absurd is
+
+-- the service has answered in this round, so that it has counted no timeout since
+abbrev pub IsHeard : Spot → ℕ → Type 0
+IsHeard nowhere timeouts = Unit {0}
+IsHeard coming timeouts = Unit {0}
+IsHeard back timeouts = timeouts ≡ 0
 
 -- the service has opened the session, and the client may not know it
-pub record Opens (since times : ℕ) (w : Wait) (timeouts : ℕ) (spot : Spot) (lost : List Word) (now : ℕ) : Type 0 where
+pub record Opens (since times : ℕ) (w : Wait) (timeouts : ℕ) (spot : Spot) (lost : List Lost) (now : ℕ) : Type 0 where
   pub resends : w.resends ≤ times
-  pub timeouts_few : timeouts ≤ times
+  pub timeouts_few : timeouts ≤ w.resends
+  pub heard : IsHeard spot timeouts
   pub active : w.active ≤ now
-  pub soon : now ≤ since + TIMEOUT * times
-  pub few : times ≤ length lost
-  pub fresh : (times < length lost) ⊎ IsSomewhere spot
+  pub passed : Passed since times lost now
+  pub fresh : IsLossy times lost now ⊎ IsSomewhere spot
 
--- the client asks, and a word is on its way where b tells it, unless some were lost
-pub record Waits (since times : ℕ) (w : Wait) (timeouts : ℕ) (b : Bool) (lost : List Word) (now : ℕ) : Type 0 where
+-- the client asks, and a word is on its way where b tells it, unless the round has lost one
+pub record Waits (since times : ℕ) (w : Wait) (timeouts : ℕ) (b : Bool) (lost : List Lost) (now : ℕ) : Type 0 where
   pub resends : w.resends ≤ times
-  pub timeouts_few : timeouts ≤ times
+  pub timeouts_few : timeouts ≤ w.resends
   pub active : w.active ≤ now
-  pub soon : now ≤ since + TIMEOUT * times
-  pub few : times ≤ length lost
-  pub fresh : (times < length lost) ⊎ (b ≡ true)
+  pub passed : Passed since times lost now
+  pub fresh : IsLossy times lost now ⊎ (b ≡ true)
 
-pub lost_any : (times losses : ℕ) → (times < losses) ⊎ (false ≡ true) → times < losses
-lost_any times losses (inl some) = some
-lost_any times losses (inr e) = absurd (false_is e)
+pub lost_any : (Lossy : Type 0) → Lossy ⊎ (false ≡ true) → Lossy
+lost_any Lossy (inl some) = some
+lost_any Lossy (inr e) = absurd (false_is e)
 
 -- Time has passed, and the client has asked again: what it said is lost, or goes on.
-module _ (since times : ℕ) (w : Wait) (t t' : ℕ) (lost : List Word) (now : ℕ) (some : times < length lost) (counted : t' ≤ t + 1) where
+module _ (since times : ℕ) (w : Wait) (t t' : ℕ) (lost : List Lost) (now : ℕ) (lossy : IsLossy times lost now) (counted : t' ≤ t + 1) where
   abbrev pub again : Wait
   again = waiting.again w (now + TIMEOUT)
 
-  pub opens_lost : (said : Word) → Opens since times w t nowhere lost now → Opens since (suc times) again t' nowhere (said ∷ lost) (now + TIMEOUT)
-  opens_lost said f = record {
-    resends = omega (arith, f.resends);
-    timeouts_few = omega (arith, counted, f.timeouts_few);
-    active = omega arith;
-    soon = omega (arith, f.soon);
-    few = omega (arith, some);
-    fresh = inl (omega (arith, some));
-  }
+  pub opens_lost : (said : Word) → Opens since times w t nowhere lost now → Opens since (suc times) again t' nowhere (lost_at (now + TIMEOUT) said ∷ lost) (now + TIMEOUT)
+  opens_lost said f =
+      let next : Passed since (suc times) lost (now + TIMEOUT) = next_round f.passed lossy in
+      record {
+        resends = omega (arith, f.resends);
+        timeouts_few = omega (arith, counted, f.timeouts_few);
+        heard = tt;
+        active = omega arith;
+        passed = one_lost next;
+        fresh = inl (just_lost next);
+      }
 
   pub opens_on : Opens since times w t nowhere lost now → Opens since (suc times) again t' coming lost (now + TIMEOUT)
-  opens_on f =
-      record { resends = omega (arith, f.resends); timeouts_few = omega (arith, counted, f.timeouts_few); active = omega arith; soon = omega (arith, f.soon); few = omega (arith, some); fresh = inr tt }
+  opens_on f = record {
+    resends = omega (arith, f.resends);
+    timeouts_few = omega (arith, counted, f.timeouts_few);
+    heard = tt;
+    active = omega arith;
+    passed = next_round f.passed lossy;
+    fresh = inr tt;
+  }
 
-  pub waits_lost : (said : Word) → Waits since times w t false lost now → Waits since (suc times) again t' false (said ∷ lost) (now + TIMEOUT)
-  waits_lost said f = record {
+  pub waits_lost : (said : Word) → Waits since times w t false lost now → Waits since (suc times) again t' false (lost_at (now + TIMEOUT) said ∷ lost) (now + TIMEOUT)
+  waits_lost said f =
+      let next : Passed since (suc times) lost (now + TIMEOUT) = next_round f.passed lossy in
+      record {
+        resends = omega (arith, f.resends);
+        timeouts_few = omega (arith, counted, f.timeouts_few);
+        active = omega arith;
+        passed = one_lost next;
+        fresh = inl (just_lost next);
+      }
+
+  pub waits_on : Waits since times w t false lost now → Waits since (suc times) again t' true lost (now + TIMEOUT)
+  waits_on f = record {
     resends = omega (arith, f.resends);
     timeouts_few = omega (arith, counted, f.timeouts_few);
     active = omega arith;
-    soon = omega (arith, f.soon);
-    few = omega (arith, some);
-    fresh = inl (omega (arith, some));
+    passed = next_round f.passed lossy;
+    fresh = inr refl;
   }
-
-  pub waits_on : Waits since times w t false lost now → Waits since (suc times) again t' true lost (now + TIMEOUT)
-  waits_on f =
-      record { resends = omega (arith, f.resends); timeouts_few = omega (arith, counted, f.timeouts_few); active = omega arith; soon = omega (arith, f.soon); few = omega (arith, some); fresh = inr refl }
 
 -- the resource, the offset that is asked for, and the one that is agreed
 module _ (resource asked agreed : ℕ) where

@@ -1,5 +1,6 @@
--- Computed rows: short transfers of 7 bytes, in chunks of 2 and a window of 4, that lose the words of some numbers.
-use Rattle.std.specs.Prelude.{◌≡◌, ℕ, List, [], ◌∷◌, Option, Some}
+-- Computed rows: short transfers of 7 bytes, in chunks of 2 and a window of 4, that lose the words of some numbers, and the rounds
+-- that are lossy in them.
+use Rattle.std.specs.Prelude.{◌≡◌, ℕ, Bool, true, false, List, [], ◌∷◌, map, Option, Some}
 use Rattle.std.proofs.Common.{refl}
 use Rattle.rpc_ids.specs.declared.Status.{Status}
 use Rattle.rpc_ids.specs.declared.Status.TheVariants.{Okay, DeadlineExceeded}
@@ -9,7 +10,8 @@ use Rattle.transfer_resume.specs.Session.{Service}
 use Rattle.transfer_client.specs.Machine.{Rules}
 use Rattle.transfer_client.specs.Read.{new_download, read_rules}
 use Rattle.transfer_client.specs.Write.{new_upload, write_rules}
-use Rattle.transfer_laws.specs.losses.Drops.{LossyPair, begun, steps}
+use Rattle.transfer_laws.specs.losses.Drops.{Lost, LossyPair, begun, steps}
+use Rattle.transfer_laws.specs.losses.Rounds.{is_lossy}
 use Rattle.transfer_laws.specs.losses.Survives.{is_among}
 
 abbrev bytes : List ℕ
@@ -104,3 +106,68 @@ write_end = refl
 write_acknowledged : write_row 30 (11 ∷ []) ≡ record { end = Some Okay; said = 11; now = 0 }
 unfolding pieces_up_to
 write_acknowledged = refl
+
+-- THE FIRST FIVE ROUNDS of a transfer that begins at 0: which of them are lossy
+abbrev rounds_of : List Lost → List Bool
+rounds_of lost = map (is_lossy lost) (0 ∷ 2000 ∷ 4000 ∷ 6000 ∷ 8000 ∷ [])
+
+abbrev read_rounds : ℕ → List ℕ → List Bool
+read_rounds count lost =
+    let service : Service = record { side = Read; shelf = record { full = (7, bytes) ∷ []; left = [] }; window = 4; chunk = 256; time = 0 } in
+    rounds_of (steps service read_rules (is_among lost) count (begun service read_rules (is_among lost) 0 0 (new_download 7 0 4 2))).lost
+
+-- nothing is lost: each is clean
+rounds_whole : read_rounds 16 ([]) ≡ false ∷ false ∷ false ∷ false ∷ false ∷ []
+unfolding pieces_up_to
+rounds_whole = refl
+
+-- START and START_ACK, in two rounds
+rounds_starts : read_rounds 24 (1 ∷ 3 ∷ []) ≡ true ∷ true ∷ false ∷ false ∷ false ∷ []
+unfolding pieces_up_to
+rounds_starts = refl
+
+-- all four chunks are lost in one round, the next two in the second one, and the next one in the third: seven words, three rounds
+rounds_burst : read_rounds 40 (4 ∷ 5 ∷ 6 ∷ 7 ∷ 9 ∷ 10 ∷ 12 ∷ []) ≡ true ∷ true ∷ true ∷ false ∷ false ∷ []
+unfolding pieces_up_to
+rounds_burst = refl
+
+-- and it ends OK in the fourth, which is clean
+read_burst : (read_row 40 (4 ∷ 5 ∷ 6 ∷ 7 ∷ 9 ∷ 10 ∷ 12 ∷ [])).end ≡ Some Okay
+unfolding pieces_up_to
+read_burst = refl
+
+-- four lossy rounds: it is given up
+rounds_four : read_rounds 24 (1 ∷ 2 ∷ 3 ∷ 4 ∷ []) ≡ true ∷ true ∷ true ∷ true ∷ false ∷ []
+unfolding pieces_up_to
+rounds_four = refl
+
+-- a lost confirmation: one lossy round, and three clean ones in which nothing comes of it
+rounds_confirmation : read_rounds 30 (3 ∷ []) ≡ true ∷ false ∷ false ∷ false ∷ false ∷ []
+unfolding pieces_up_to
+rounds_confirmation = refl
+
+-- EACH BOUND OF THE TIME IS MET, by transfers of one chunk of 8: the read takes 10 turns, the write 12 with OK and 14 else
+abbrev slow_read : ℕ → List ℕ → Row
+slow_read count lost =
+    let service : Service = record { side = Read; shelf = record { full = (7, bytes) ∷ []; left = [] }; window = 4; chunk = 256; time = 0 } in
+    row_of read_rules (steps service read_rules (is_among lost) count (begun service read_rules (is_among lost) 0 0 (new_download 7 0 4 8)))
+
+abbrev slow_write : ℕ → List ℕ → Row
+slow_write count lost =
+    let service : Service = record { side = Write; shelf = record { full = []; left = [] }; window = 4; chunk = 8; time = 0 } in
+    row_of write_rules (steps service write_rules (is_among lost) count (begun service write_rules (is_among lost) 0 0 (new_upload 7 bytes 0)))
+
+-- START three times, the chunk and what asks for it again twice, the end four times
+read_takes_long : slow_read 40 (1 ∷ 2 ∷ 3 ∷ 7 ∷ 8 ∷ 9 ∷ 12 ∷ 13 ∷ 14 ∷ 15 ∷ []) ≡ record { end = Some Okay; said = 15; now = 20000 }
+unfolding pieces_up_to
+read_takes_long = refl
+
+-- so here, the confirmation three times before that, and the end three times
+write_takes_long : slow_write 40 (1 ∷ 2 ∷ 3 ∷ 6 ∷ 7 ∷ 8 ∷ 11 ∷ 12 ∷ 13 ∷ 16 ∷ 17 ∷ 18 ∷ []) ≡ record { end = Some Okay; said = 20; now = 24000 }
+unfolding pieces_up_to
+write_takes_long = refl
+
+-- the end a fourth time: the service has all, and the client waits for two more turns
+write_is_not_told : slow_write 40 (1 ∷ 2 ∷ 3 ∷ 6 ∷ 7 ∷ 8 ∷ 11 ∷ 12 ∷ 13 ∷ 16 ∷ 17 ∷ 18 ∷ 19 ∷ []) ≡ record { end = Some DeadlineExceeded; said = 21; now = 28000 }
+unfolding pieces_up_to
+write_is_not_told = refl

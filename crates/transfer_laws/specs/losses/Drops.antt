@@ -14,20 +14,28 @@ use Rattle.transfer_laws.specs.pairs.Pair.{Pair, words_of}
 
 -- The words that are said in a session have numbers, from 1 on. It is known of each number whether its word is lost.
 
+-- a word that was lost, and the moment at the client
+pub record Lost : Type 0 where
+  pub word : Word
+  pub moment : ℕ
+
+abbrev pub lost_at : ℕ → Word → Lost
+lost_at now w = record { word = w; moment = now }
+
 -- of words that are said behind so many others, those that go on
 abbrev pub kept : (ℕ → Bool) → ℕ → List Word → List Word
 kept loses said [] = []
 kept loses said (w ∷ ws) = if loses (suc said) then kept loses (suc said) ws else w ∷ kept loses (suc said) ws
 
--- and those that don't
-abbrev pub missing : (ℕ → Bool) → ℕ → List Word → List Word
-missing loses said [] = []
-missing loses said (w ∷ ws) = if loses (suc said) then w ∷ missing loses (suc said) ws else missing loses (suc said) ws
+-- and those that don't, at this moment
+abbrev pub missing : (ℕ → Bool) → ℕ → ℕ → List Word → List Lost
+missing loses now said [] = []
+missing loses now said (w ∷ ws) = if loses (suc said) then lost_at now w ∷ missing loses now (suc said) ws else missing loses now (suc said) ws
 
 pub record LossyPair (C : Type 0) : Type 0 where
   pub pair : Pair C
-  -- the words that were lost
-  pub lost : List Word
+  -- the words that were lost, the last ones first
+  pub lost : List Lost
   -- the moment at the client, and that of the service's last tick
   pub now : ℕ
   pub time : ℕ
@@ -52,7 +60,7 @@ module _ {C : Type 0} (loses : ℕ → Bool) where
       to_client = w.pair.to_client ++ kept loses w.pair.said (words_of step.sayings);
       said = w.pair.said + length (words_of step.sayings);
     };
-    lost = missing loses w.pair.said (words_of step.sayings) ++ w.lost;
+    lost = missing loses w.now w.pair.said (words_of step.sayings) ++ w.lost;
     now = w.now;
     time = w.time;
   }
@@ -67,7 +75,7 @@ module _ {C : Type 0} (loses : ℕ → Bool) where
       to_client = rest;
       said = w.pair.said + length (words_of step.sayings);
     };
-    lost = missing loses w.pair.said (words_of step.sayings) ++ w.lost;
+    lost = missing loses w.now w.pair.said (words_of step.sayings) ++ w.lost;
     now = w.now;
     time = w.time;
   }
@@ -82,7 +90,7 @@ module _ {C : Type 0} (loses : ℕ → Bool) where
       to_client = kept loses (w.pair.said + length (words_of step.sayings)) (words_of tick.sayings);
       said = w.pair.said + length (words_of step.sayings) + length (words_of tick.sayings);
     };
-    lost = missing loses (w.pair.said + length (words_of step.sayings)) (words_of tick.sayings) ++ (missing loses w.pair.said (words_of step.sayings) ++ w.lost);
+    lost = missing loses now (w.pair.said + length (words_of step.sayings)) (words_of tick.sayings) ++ (missing loses now w.pair.said (words_of step.sayings) ++ w.lost);
     now = now;
     time = now;
   }

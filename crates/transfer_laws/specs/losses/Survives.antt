@@ -1,5 +1,5 @@
--- A transfer that loses three words ends well all the same.
-use Rattle.std.specs.Prelude.{◌≡◌, ℕ, ◌+◌, ◌*◌, ◌≤◌, ◌==◌, ◌||◌, Bool, false, List, [], ◌∷◌, length, Option, Some, None, Err}
+-- A transfer ends well where one of its first rounds loses no word, and so it does where it loses three.
+use Rattle.std.specs.Prelude.{◌≡◌, ℕ, ◌+◌, ◌*◌, ◌≤◌, ◌<◌, ◌==◌, ◌||◌, min, Bool, true, false, List, [], ◌∷◌, length, Option, Some, None, Err}
 use Rattle.std.specs.List.{AllByRecursion}
 use Rattle.link_io.specs.Resources.{first_of}
 use Rattle.rpc_ids.specs.declared.Status.{Status}
@@ -17,7 +17,8 @@ use Rattle.transfer_client.specs.Read.{new_download, read_rules}
 use Rattle.transfer_client.specs.Write.{new_upload, write_rules}
 use Rattle.transfer_laws.specs.pairs.Pair.{TakesInSilence, turn}
 use Rattle.transfer_laws.specs.pairs.EndsWell.{IsTuning, read_ended, read_refused, write_ended}
-use Rattle.transfer_laws.specs.losses.Drops.{LeadsTo, LossyPair, at_time, begun, step, steps}
+use Rattle.transfer_laws.specs.losses.Drops.{LeadsTo, Lost, LossyPair, at_time, begun, step, steps}
+use Rattle.transfer_laws.specs.losses.Rounds.{HasCleanRound, LOSSY_ROUNDS, is_lossy, moment_of}
 
 -- the session has ended OK, or has told so, and waits until that is acknowledged
 abbrev pub HasEndedWell : Option Stage → Type 0
@@ -39,9 +40,12 @@ abbrev pub IsSettled : Option Stage → Type 0
 IsSettled None = Unit {0}
 IsSettled (Some stage) = HasSettled stage
 
-abbrev pub IsNoConfirmation : Word → Type 0
-IsNoConfirmation (confirmation ask) = ⊥
-IsNoConfirmation _ = Unit {0}
+abbrev pub SaysNoConfirmation : Word → Type 0
+SaysNoConfirmation (confirmation ask) = ⊥
+SaysNoConfirmation _ = Unit {0}
+
+abbrev pub IsNoConfirmation : Lost → Type 0
+IsNoConfirmation lost = SaysNoConfirmation lost.word
 
 -- the number is one of these
 abbrev pub is_among : List ℕ → ℕ → Bool
@@ -53,16 +57,20 @@ module _ {C : Type 0} (service : Service) (rules : Rules C) (loses : ℕ → Boo
   abbrev pub LosesFew : LossyPair C → Type 0
   LosesFew w = (count : ℕ) → length (steps service rules loses count w).lost ≤ 3
 
-  -- since this moment no more time has passed than one timeout for each word that was lost
-  abbrev pub IsSoon : ℕ → LossyPair C → Type 0
-  IsSoon since w = w.now ≤ since + TIMEOUT * length w.lost
+  -- until the client has ended, one of the first four rounds is clean, however many words the others lose
+  abbrev pub KeepsARoundClean : ℕ → LossyPair C → Type 0
+  KeepsARoundClean since w = (count : ℕ) (last : LossyPair C) → LeadsTo service rules loses count w last → HasCleanRound since last.lost
 
-  -- and until the client has ended, as long as it is soon, none of them is a confirmation
+  -- since this moment no more time has passed than one timeout for each word that was lost, and three at most
+  abbrev pub IsSoon : ℕ → LossyPair C → Type 0
+  IsSoon since w = w.now ≤ since + TIMEOUT * min LOSSY_ROUNDS (length w.lost)
+
+  -- and until the client has ended, as long as it is soon, no confirmation is lost
   abbrev pub SparesConfirmations : ℕ → LossyPair C → Type 0
   SparesConfirmations since w = (count : ℕ) (last : LossyPair C) → LeadsTo service rules loses count w last → IsSoon since last → AllByRecursion IsNoConfirmation last.lost
 
-  -- The client comes to this end, soon since a moment. Nothing is on its way to it then, and what is on its way to the service is
-  -- taken in silence: the session stands so behind it.
+  -- The client comes to this end, soon since a moment, and each round before the last one has lost a word. Nothing is on its way
+  -- to it then, and what is on its way to the service is taken in silence: the session stands so behind it.
   pub record Ends (Stood : Option Stage → Type 0) (since : ℕ) (w : LossyPair C) (end : C) : Type 0 where
     pub many : ℕ
     pub last : LossyPair C
@@ -73,12 +81,13 @@ module _ {C : Type 0} (service : Service) (rules : Rules C) (loses : ℕ → Boo
     pub server : TakesInSilence (at_time service last.time) last.pair.server last.pair.to_server session
     pub stood : Stood session
     pub soon : IsSoon since last
+    pub lossy : (number : ℕ) → moment_of since number < last.now → is_lossy last.lost (moment_of since number) ≡ true
 
   -- its session has ended well
   abbrev pub EndsWell : ℕ → LossyPair C → C → Type 0
   EndsWell = Ends HasEndedWell
 
--- EACH READ SURVIVES THREE LOSSES, of a resource that the service lists, from an offset that isn't past its end, where its
+-- EACH READ SURVIVES THREE LOSSY ROUNDS, of a resource that the service lists, from an offset that isn't past its end, where its
 -- confirmation isn't lost
 abbrev pub ReadsSurvive : Type 0
 ReadsSurvive =
@@ -86,16 +95,16 @@ ReadsSurvive =
     → IsTuning window chunk → length bytes ≤ MAX_RESOURCE → offset ≤ length bytes
     → let d = new_download resource offset window chunk in
     let w = begun service read_rules loses now time d in
-    LosesFew service read_rules loses w → SparesConfirmations service read_rules loses now w → EndsWell service read_rules loses now w (read_ended d offset)
+    KeepsARoundClean service read_rules loses now w → SparesConfirmations service read_rules loses now w → EndsWell service read_rules loses now w (read_ended d offset)
 
--- EACH WRITE SURVIVES THREE LOSSES, from an offset that isn't past the end of its bytes
+-- EACH WRITE SURVIVES THREE LOSSY ROUNDS, from an offset that isn't past the end of its bytes
 abbrev pub WritesSurvive : Type 0
 WritesSurvive =
     (service : Service) (loses : ℕ → Bool) (now time resource offset : ℕ) (bytes : List ℕ) → service.side ≡ Write
     → IsTuning service.window service.chunk → length bytes ≤ MAX_RESOURCE → offset ≤ length bytes → time ≤ now
     → let u = new_upload resource bytes offset in
     let w = begun service write_rules loses now time u in
-    LosesFew service write_rules loses w → EndsWell service write_rules loses now w (write_ended u (agreed_offset service.shelf resource offset))
+    KeepsARoundClean service write_rules loses now w → EndsWell service write_rules loses now w (write_ended u (agreed_offset service.shelf resource offset))
 
 -- EACH READ THAT THE SERVICE CAN'T SERVE IS REFUSED all the same, of a resource that it doesn't list, or from an offset past the end
 -- of one
@@ -104,7 +113,12 @@ RefusalsSurvive =
     (service : Service) (loses : ℕ → Bool) (now time resource offset window chunk : ℕ) (status : Status) → service.side ≡ Read → offer_of service.shelf resource offset ≡ Err status
     → let d = new_download resource offset window chunk in
     let w = begun service read_rules loses now time d in
-    LosesFew service read_rules loses w → Ends service read_rules loses IsSettled now w (read_refused d status)
+    KeepsARoundClean service read_rules loses now w → Ends service read_rules loses IsSettled now w (read_refused d status)
+
+-- THREE LOSSES ARE SURVIVED, whichever they are: where at most three words are lost, one of the first four rounds is clean
+abbrev pub FewLossesKeepARoundClean : {C : Type 0} → Rules C → Type 0
+FewLossesKeepARoundClean {C} rules =
+    (service : Service) (loses : ℕ → Bool) (since : ℕ) (w : LossyPair C) → LosesFew service rules loses w → KeepsARoundClean service rules loses since w
 
 -- where the words of these numbers are lost, no more are
 abbrev pub NumbersLoseFew : {C : Type 0} → Rules C → Type 0

@@ -1,21 +1,41 @@
 //! What follows from the definitions. Each function does nothing: what counts is its contract.
-ghost use Rattle.transfer_laws.specs.losses.Survives.{NumbersLoseFew, ReadsSurvive, RefusalsSurvive, StepsAreTurns, WritesSurvive};
+ghost use Rattle.transfer_laws.specs.losses.Survives.{FewLossesKeepARoundClean, NumbersLoseFew, ReadsSurvive, RefusalsSurvive, StepsAreTurns, WritesSurvive};
+ghost use Rattle.transfer_laws.specs.losses.InTime.{ReadsEndInTime, WritesEndInTime};
 ghost use Rattle.transfer_client.specs.Read.{read_rules};
 ghost use Rattle.transfer_client.specs.Write.{write_rules};
 
-/// A read over links that keep the order, and lose at most three words, ends OK, unless they lose its confirmation.
+/// A read over links that keep the order ends OK within three turns of time, however many words they lose, where one of its first
+/// four rounds loses none and its confirmation isn't lost. Each round before the last has lost a word then.
 pub fn reads_survive()
     ensures { ReadsSurvive }
 {}
 
-/// A write over such links ends OK, whichever of its words they lose.
+/// A read of so many pieces ends within `3 * pieces + 7` turns of time, whatever is lost: with OK, or with DEADLINE_EXCEEDED where
+/// each of its first four rounds has lost a word, or where its confirmation was lost.
+pub fn reads_end_in_time()
+    ensures { ReadsEndInTime }
+{}
+
+/// A write over such links ends OK so, whichever of its words they lose in the other rounds.
 pub fn writes_survive()
     ensures { WritesSurvive }
+{}
+
+/// A write of so many pieces ends with OK within `3 * pieces + 9` turns of time, or with DEADLINE_EXCEEDED within two more, where each
+/// of its first four rounds has lost a word.
+pub fn writes_end_in_time()
+    ensures { WritesEndInTime }
 {}
 
 /// A read that the service can't serve is refused over such links with the service's reason.
 pub fn refusals_survive()
     ensures { RefusalsSurvive }
+{}
+
+/// Where at most three words are lost, one of the first four rounds loses none.
+pub fn few_losses_keep_a_round_clean()
+    ensures reads { FewLossesKeepARoundClean read_rules }
+    ensures writes { FewLossesKeepARoundClean write_rules }
 {}
 
 /// Links that lose the words of listed numbers lose no more words than there are numbers.

@@ -1,4 +1,4 @@
-use Rattle.transfer_laws.proofs.losses.WriteSurvival.{writes_survive}
+use Rattle.transfer_laws.proofs.losses.WriteLaws.{writes_survive}
 use Rattle.transfer_laws.proofs.losses.laws.writes_survive.Goals as goal
 
 pub returns : goal.returns
