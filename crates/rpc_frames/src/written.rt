@@ -7,7 +7,7 @@ ghost use Rattle.rpc_packet.specs.Message.{message_of};
 ghost use Rattle.rpc_frames.specs.Laws.{IsHeardBack};
 ghost use Rattle.rpc_frames.specs.Written.{FitsFrame, frame_of_packet};
 
-use crate::limits::ADDRESS;
+use crate::limits::{ADDRESS, MOST_BESIDES_PAYLOAD};
 use hdlc_frame::encode_ui;
 use rpc_packet::Packet;
 use std::alloc::{AllocError, Global};
@@ -21,6 +21,8 @@ pub fn write_frame(alloc: Global, packet: &Packet, out: &mut Vec<u8>) -> Result<
     ensures heard { (role : Role) → Hears role (message_of packet.now) packet.now.ptype → FitsFrame (message_of packet.now) → IsHeardBack role packet.now }
 {
     let mut spelled = Vec::new(alloc);
+    // One allocation for most packets. Where it is refused, `write` asks for what it needs.
+    let _ = spelled.reserve(packet.payload.len().saturating_add(MOST_BESIDES_PAYLOAD));
     packet.write(&mut spelled)?;
     encode_ui(ADDRESS, &spelled, out)
 }

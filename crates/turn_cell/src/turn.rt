@@ -12,6 +12,7 @@ use std::alloc::{AllocError, Global};
 use std::marker::Model;
 use std::snapshot::Snapshot;
 use std::sync::Wait;
+use std::sync::atomic::{AtomicU64, Ordering};
 
 mod closing;
 mod opening;
@@ -22,6 +23,8 @@ mod opening;
 pub struct Turn<T: Logged> {
     table: Table<Option<T>, View<T::Entry, T::Base>, Snapshot<T>, Law<T>, Global>,
     count: u32,
+    // How many threads sleep, or are about to: one that counts itself looks at the word again before it sleeps.
+    sleepers: AtomicU64,
 }
 
 impl<T: Logged> Model for Turn<T> {
@@ -79,14 +82,16 @@ impl<T: Logged> Turn<T> {
                 Err(busy) if busy.word % 2 == 0 => {}
                 Err(busy) => {
                     let expected = (busy.word % 4_294_967_296) as u32;
+                    self.sleepers.fetch_add(1, Ordering::SeqCst);
                     self.table.shared.park(rt, 0, expected);
+                    self.sleepers.fetch_sub(1, Ordering::SeqCst);
                 }
             }
         }
         unreachable!()
     }
 
-    /// Gives the value back, and wakes one of those who wait. It waits for nobody and takes no memory.
+    /// Gives the value back, and wakes one of those who sleep. Where none does, that is no call of the system. It waits for nobody and takes no memory.
     pub fn give(&self, pass: &mut Pass<T>, held: Held<T>)
         requires own { pass.old.table ≡ self.now.table }
         requires holds { pass.old.view.holds ≡ true }
@@ -101,6 +106,8 @@ impl<T: Logged> Turn<T> {
         let None = slot else { unreachable!() };
         shared.store::<Leave>(&mut pass.seat, 0, 2 * length);
         pass.holding = false;
-        shared.wake_one(0);
+        if self.sleepers.load(Ordering::SeqCst) != 0 {
+            shared.wake_one(0);
+        }
     }
 }

@@ -30,7 +30,11 @@ impl<T: Logged> Turn<T> {
         let shared = &self.table.shared;
         let mut first = passes.remove(0);
         gather(shared, &mut first, passes);
-        let Turn { table, count: _ } = self;
+        let Turn {
+            table,
+            count: _,
+            sleepers: _,
+        } = self;
         let mut closed = table.close_with(first.into_seat());
         let slot = closed.take(0);
         closed.free();

@@ -11,6 +11,7 @@ use crate::view::View;
 use atomic_table::{Refused, Seat, Table};
 use std::alloc::{AllocError, Global};
 use std::snapshot::Snapshot;
+use std::sync::atomic::AtomicU64;
 
 type Place<T> = Seat<Option<T>, View<<T as Logged>::Entry, <T as Logged>::Base>>;
 
@@ -95,6 +96,11 @@ impl<T: Logged> Turn<T> {
         let Ok(()) = passes.insert(0, first) else {
             unreachable!()
         };
-        Ok((Turn { table, count: n }, passes))
+        let turn = Turn {
+            table,
+            count: n,
+            sleepers: AtomicU64::new(0),
+        };
+        Ok((turn, passes))
     }
 }
