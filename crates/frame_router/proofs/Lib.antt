@@ -1,4 +1,5 @@
 mod Counts
+mod GatherLemmas
 mod Growing
 mod PumpEnds
 mod PumpLemmas

@@ -1,224 +1,147 @@
--- A pump over one segment.
-use Rattle.std.proofs.Common.{◌≡◌, ℕ, ◌+◌, ◌-◌, ◌≤◌, Bool, true, false, cond, List, [], ◌∷◌, ◌++◌, length, map, take, drop, nat_lt, Option, Some, None, IsNone, inr, refl, sym, ◌∙◌, ap, subst, arith, append-nil, append_assoc, take-append-drop}
+-- A pump over one piece.
+use Rattle.std.proofs.Common.{◌≡◌, ℕ, ◌+◌, ◌-◌, ◌≤◌, List, [], ◌∷◌, ◌++◌, length, take, drop, Option, Result, Ok, Err, OnOk, OnErr, inr, sym, ◌∙◌, ap, subst, arith, append-nil, append_assoc, take-append-drop}
 use Rattle.std.specs.Io.KnownBytes.{Appends}
-use Rattle.std.specs.List.{filter, flat_map}
-use Rattle.std.specs.Option.{option_to_list}
+use Rattle.std.specs.List.{flat_map}
 use Rattle.std.proofs.KnownBytes.{Appends-nil, Appends-trans}
-use Rattle.std.proofs.lemmas.Grind.{flat_map-append}
 use Rattle.std.proofs.Math.Seq.{take-add}
-use Rattle.std.proofs.lemmas.List.{append_cancel_left, map-append, take_rest, take_all}
-use Rattle.hdlc_frame.specs.Found.{FrameParts, Found, found, frames_in}
-use Rattle.hdlc_frame.specs.Found.Found.{frame, fault}
-use Rattle.link_io.specs.Device.{AppendsSome}
+use Rattle.std.proofs.lemmas.List.{take_rest, take_all}
+use Rattle.hdlc_frame.specs.Found.{found}
+use Rattle.hdlc_frame.specs.Found.Found.{frame}
 use Rattle.frame_router.specs.declared.port.Port.{Port}
 use Rattle.frame_router.specs.declared.routes.Route.{Route}
 use Rattle.frame_router.specs.declared.tally.Tally.{Tally}
-use Rattle.frame_router.specs.Fates.{frame_bytes, passed, passes}
-use Rattle.frame_router.specs.Pumped.{PumpsPart, all_kept, wire_of}
-use Rattle.frame_router.specs.Steps.{IsPumped, PumpState, PumpsOn, StopsIn}
-use Rattle.frame_router.specs.Routed.{BringsFrame, HasRouted, LaneView, RoutesMore, arriving}
-use Rattle.frame_router.proofs.Segments.{gives_front, passed_more, passed_none}
+use Rattle.frame_router.specs.Fates.{frame_bytes}
+use Rattle.frame_router.specs.Gathered.{BatchView, GathersOn, GathersPart, HasCounted, HasGathered, IntakeView, IsGathered, lane_of, no_batch, none_gathered}
+use Rattle.frame_router.specs.Pumped.{wire_of}
+use Rattle.frame_router.specs.Routed.{BringsFrame}
+use Rattle.frame_router.specs.Steps.{IsPumped, PumpsOn, StopsIn, WritesPart}
+use Rattle.frame_router.proofs.GatherLemmas.{ends_in, frame_more, gathered_wire}
+use Rattle.frame_router.proofs.Segments.{passed_none}
 
-all_arrived : (fs : List FrameParts) → map (λ a. a.arrived) (all_kept fs) ≡ fs
-all_arrived [] = refl
-all_arrived (f ∷ fs) = ap (λ xs. f ∷ xs) (all_arrived fs)
-
-kept_of_all : (fs : List FrameParts) → map (λ a. frame_bytes a.arrived) (filter (λ a. a.is_kept) (all_kept fs)) ≡ map frame_bytes fs
-kept_of_all [] = refl
-kept_of_all (f ∷ fs) = ap (λ xs. frame_bytes f ∷ xs) (kept_of_all fs)
-
--- where none waits, each frame that comes is kept
-all_arriving : (lane : LaneView) (fs : List FrameParts) → lane.waiting ≡ [] → map (arriving lane) fs ≡ all_kept fs
-all_arriving lane fs none = ap (λ ws. map (λ f. record { arrived = f; is_kept = nat_lt (length ws) 256 }) fs) none
-
--- what a segment brought
-record Brought (routes : List Route) (from : Port) (mid : LaneView) (more : List FrameParts) (stream bytes : List ℕ) : Type 0 where
-  routed : HasRouted routes from mid (stream ++ bytes) (all_kept (passed routes from (stream ++ bytes))) (map frame_bytes (passed routes from stream))
-  grown : passed routes from (stream ++ bytes) ≡ passed routes from stream ++ more
-  waits : mid.waiting ≡ map frame_bytes more
-
-brought :
-    (routes : List Route) (from : Port) (old mid : LaneView) (bytes stream : List ℕ) (first now : Option (List ℕ)) →
-    (rm : RoutesMore routes from old mid bytes) → IsPumped routes from old first now stream → Brought routes from mid rm.more stream bytes
-brought routes from old mid bytes stream first now rm is =
-    let before = passed routes from stream in
-    let arrivals : all_kept before ++ map (arriving old) rm.more ≡ all_kept (before ++ rm.more) =
-    ap (λ xs. all_kept before ++ xs) (all_arriving old rm.more is.none_waits) ∙ sym (map-append (λ f. record { arrived = f; is_kept = true }) before rm.more) in
-    let has : HasRouted routes from mid (stream ++ bytes) (all_kept (before ++ rm.more)) (map frame_bytes before) =
-    subst (λ a. HasRouted routes from mid (stream ++ bytes) a (map frame_bytes before)) arrivals (rm.stands stream (all_kept before) (map frame_bytes before) is.routed) in
-    let grown : passed routes from (stream ++ bytes) ≡ before ++ rm.more = sym has.passing ∙ all_arrived (before ++ rm.more) in
-    record {
-      routed = subst (λ fs. HasRouted routes from mid (stream ++ bytes) (all_kept fs) (map frame_bytes before)) (sym grown) has;
-      grown = grown;
-      waits = append_cancel_left (map frame_bytes before) mid.waiting (map frame_bytes rm.more) (has.kept ∙ kept_of_all (before ++ rm.more) ∙ map-append frame_bytes before rm.more);
-    }
-
--- of at most one frame the first is all
-record Fronts (front : Option (List ℕ)) (rest : List (List ℕ)) (more : List FrameParts) : Type 0 where
-  given : option_to_list front ≡ map frame_bytes more
-  none_left : rest ≡ []
-
-fronts : (front : Option (List ℕ)) (waiting rest : List (List ℕ)) (more : List FrameParts) → waiting ≡ option_to_list front ++ rest → waiting ≡ map frame_bytes more → (IsNone front → waiting ≡ []) → length more ≤ 1 → Fronts front rest more
-fronts None waiting rest more split all none few = let empty = none refl in record { given = sym empty ∙ all; none_left = sym split ∙ empty }
-fronts (Some bytes) waiting rest [] split all none few = absurd (cc)
-fronts (Some bytes) waiting rest (f ∷ []) split all none few = let same : bytes ∷ rest ≡ frame_bytes f ∷ [] = sym split ∙ all in record { given = cc; none_left = cc }
-fronts (Some bytes) waiting rest (f ∷ g ∷ more) split all none few = absurd (omega arith)
-
-abbrev pub bytes_in : Option (List ℕ) → List ℕ
-bytes_in None = []
-bytes_in (Some bytes) = bytes
-
-joined : (front : Option (List ℕ)) (more : List FrameParts) → option_to_list front ≡ map frame_bytes more → length more ≤ 1 → flat_map frame_bytes more ≡ bytes_in front
-joined None [] same few = refl
-joined None (f ∷ more) same few = absurd (cc)
-joined (Some bytes) [] same few = absurd (cc)
-joined (Some bytes) (f ∷ []) same few = let is : bytes ∷ [] ≡ frame_bytes f ∷ [] = same in append-nil (frame_bytes f) ∙ cc
-joined (Some bytes) (f ∷ g ∷ more) same few = absurd (omega arith)
-
-wire_grows :
-    (routes : List Route) (from : Port) (mid : LaneView) (rest : List (List ℕ)) (more : List FrameParts) (stream bytes : List ℕ) (front : Option (List ℕ)) →
-    Brought routes from mid more stream bytes → Fronts front rest more → length more ≤ 1 → wire_of routes from (stream ++ bytes) ≡ wire_of routes from stream ++ bytes_in front
-wire_grows routes from mid rest more stream bytes front brings fronts few =
-    ap (flat_map frame_bytes) brings.grown ∙ flat_map-append frame_bytes (passed routes from stream) more ∙
-    ap (λ xs. wire_of routes from stream ++ xs) (joined front more fronts.given few)
-
-pub pumped_on :
-    (routes : List Route) (from : Port) (old mid new : LaneView) (bytes : List ℕ) (front : Option (List ℕ)) (was is : Option (List ℕ)) →
-    RoutesMore routes from old mid bytes → mid.waiting ≡ option_to_list front ++ new.waiting → new ≡ record mid { waiting = new.waiting } →
-    (IsNone front → mid.waiting ≡ []) → mid.failed ≡ false → Appends was is (bytes_in front) →
-    PumpsOn routes from (record { lane = old; written = was }) (record { lane = new; written = is }) bytes
-pumped_on routes from old mid new bytes front was is rm split rest none well wrote first stream pumped =
-    let brings = brought routes from old mid bytes stream first was rm pumped in
-    let all = fronts front mid.waiting new.waiting rm.more split brings.waits none rm.one in
-    let given : map frame_bytes (passed routes from stream) ++ option_to_list front ≡ map frame_bytes (passed routes from (stream ++ bytes)) =
-    ap (λ xs. map frame_bytes (passed routes from stream) ++ xs) all.given ∙ sym (map-append frame_bytes (passed routes from stream) rm.more) ∙ ap (map frame_bytes) (sym brings.grown) in
-    record {
-      routed =
-          subst (HasRouted routes from new (stream ++ bytes) (all_kept (passed routes from (stream ++ bytes)))) given
-          (gives_front routes from mid new front split (ap (λ l. l.reading) rest) (ap (λ l. l.tally) rest) (stream ++ bytes) (all_kept (passed routes from (stream ++ bytes))) (map frame_bytes (passed routes from stream)) brings.routed);
-      none_waits = all.none_left;
-      well = ap (λ l. l.failed) rest ∙ well;
-      wrote =
-          subst (Appends first is) (sym (wire_grows routes from mid new.waiting rm.more stream bytes front brings all rm.one))
-          (Appends-trans first was is (wire_of routes from stream) (bytes_in front) pumped.wrote wrote);
-    }
-
--- a stream with one more frame that passes
-frame_more :
-    (routes : List Route) (from : Port) (old new : List ℕ) (f : FrameParts) → found 8192 new ≡ found 8192 old ++ frame f ∷ [] → passes routes from f ≡ true →
-    wire_of routes from new ≡ wire_of routes from old ++ frame_bytes f
-frame_more routes from old new f more passing =
-    ap (flat_map frame_bytes) (passed_more routes from old new (frame f) more ∙ ap (λ b. passed routes from old ++ cond b (f ∷ []) []) passing) ∙
-    flat_map-append frame_bytes (passed routes from old) (f ∷ []) ∙ ap (λ xs. wire_of routes from old ++ xs) (append-nil (frame_bytes f))
-
--- there was no memory for a frame
-pub stops_before :
-    (routes : List Route) (from : Port) (old : LaneView) (was : Option (List ℕ)) (piece : List ℕ) (tally : Tally) → tally ≡ old.tally →
-    (old.failed ≡ false → BringsFrame routes from old piece) → StopsIn routes from (record { lane = old; written = was }) was piece tally
-stops_before routes from old was piece tally same brings first stream pumped =
-    let none = append-nil (wire_of routes from stream) in
-    let frame_is = brings pumped.well in
-    let finds : found 8192 (stream ++ frame_is.next) ≡ found 8192 stream ++ frame frame_is.carried ∷ [] =
-    subst (λ limit. found limit (stream ++ frame_is.next) ≡ found limit stream ++ frame frame_is.carried ∷ []) pumped.routed.limit (frame_is.finds stream pumped.routed.read) in
-    record {
-      front = stream;
-      next = frame_is.next;
-      behind = frame_is.behind;
-      part = [];
-      unwritten = frame_bytes frame_is.carried;
-      begins = ap (λ xs. stream ++ xs) frame_is.parts ∙ sym (append_assoc stream frame_is.next frame_is.behind);
-      stops = inr (frame_is.carried, frame_is.passing, finds);
-      wrote = subst (Appends first was) (sym none) pumped.wrote;
-      within =
-          frame_more routes from stream (stream ++ frame_is.next) frame_is.carried finds frame_is.passing ∙
-          ap (λ xs. xs ++ frame_bytes frame_is.carried) (sym none);
-      counts = same ∙ pumped.routed.tally;
-    }
-
--- a segment from which something passes is a frame that does
-record IsPassing (routes : List Route) (from : Port) (ended : List Found) : Type 0 where
-  carried : FrameParts
-  passing : passes routes from carried ≡ true
-  alone : ended ≡ frame carried ∷ []
-
-chosen : (p : FrameParts → Bool) (g f : FrameParts) (b : Bool) → p g ≡ b → cond b (g ∷ []) [] ≡ f ∷ [] → p g ≡ true
-chosen p g f true is some = is
-chosen p g f false is some = absurd (cc)
-
-is_passing_segment : (routes : List Route) (from : Port) (ended : List Found) (f : FrameParts) → length ended ≤ 1 → f ∷ [] ≡ filter (passes routes from) (flat_map frames_in ended) → IsPassing routes from ended
-is_passing_segment routes from [] f few some = absurd (cc)
-is_passing_segment routes from (fault bad ∷ []) f few some = absurd (cc)
-is_passing_segment routes from (frame g ∷ []) f few some = record { carried = g; passing = chosen (passes routes from) g f (passes routes from g) refl (sym some); alone = refl }
-is_passing_segment routes from (one ∷ two ∷ more) f few some = absurd (omega arith)
-
-some_front : (routes : List Route) (from : Port) (front : Option (List ℕ)) (bytes : List ℕ) (ended : List Found) (more : List FrameParts) → front ≡ Some bytes → option_to_list front ≡ map frame_bytes more → length ended ≤ 1 → more ≡ filter (passes routes from) (flat_map frames_in ended) → IsPassing routes from ended
-some_front routes from front bytes ended [] is given few passing = absurd (cc)
-some_front routes from front bytes ended (f ∷ []) is given few passing = is_passing_segment routes from ended f few passing
-some_front routes from None bytes ended (f ∷ g ∷ more) is given few passing = absurd (cc)
-some_front routes from (Some one) bytes ended (f ∷ g ∷ more) is given few passing = absurd (cc)
-
--- a frame was written in part
-pub stops_within :
-    (routes : List Route) (from : Port) (old mid new : LaneView) (piece : List ℕ) (taken : ℕ) (bytes : List ℕ) (front : Option (List ℕ)) (was is : Option (List ℕ)) (tally : Tally) →
-    front ≡ Some bytes → RoutesMore routes from old mid (take taken piece) → mid.waiting ≡ option_to_list front ++ new.waiting → (IsNone front → mid.waiting ≡ []) →
-    AppendsSome was is bytes → tally ≡ old.tally → StopsIn routes from (record { lane = old; written = was }) is piece tally
-stops_within routes from old mid new piece taken bytes front was is tally some rm split none wrote same first stream pumped =
-    let brings = brought routes from old mid (take taken piece) stream first was rm pumped in
-    let all = fronts front mid.waiting new.waiting rm.more split brings.waits none rm.one in
-    let grows : wire_of routes from (stream ++ take taken piece) ≡ wire_of routes from stream ++ bytes =
-    wire_grows routes from mid new.waiting rm.more stream (take taken piece) front brings all rm.one ∙ ap (λ f. wire_of routes from stream ++ bytes_in f) some in
-    let whole : (stream ++ take taken piece) ++ drop taken piece ≡ stream ++ piece = append_assoc stream (take taken piece) (drop taken piece) ∙ ap (λ xs. stream ++ xs) (take-append-drop taken piece) in
-    let written = wire_of routes from stream in
-    let part = take wrote.0 bytes in
-    let rest = drop wrote.0 bytes in
-    let segment = some_front routes from front bytes rm.ended rm.more some all.given rm.few rm.passing in
-    let finds = rm.finds stream (all_kept (passed routes from stream)) (map frame_bytes (passed routes from stream)) pumped.routed in
-    record {
-      front = stream;
-      next = take taken piece;
-      behind = drop taken piece;
-      part = part;
-      unwritten = rest;
-      begins = sym whole;
-      stops = inr (segment.carried, segment.passing, finds ∙ ap (λ xs. found 8192 stream ++ xs) segment.alone);
-      wrote = Appends-trans first was is written part pumped.wrote wrote.2;
-      within = grows ∙ ap (λ xs. written ++ xs) (sym (take-append-drop wrote.0 bytes)) ∙ sym (append_assoc written part rest);
-      counts = same ∙ pumped.routed.tally;
-    }
-
--- one piece behind another
+-- one segment of a piece behind others
 slice_is : (piece : List ℕ) (done : ℕ) → take (length piece - done) (drop done piece) ≡ drop done piece
 slice_is piece done = take_rest piece done
 
 pub on_more :
-    (routes : List Route) (from : Port) (a b c : PumpState) (piece : List ℕ) (done taken : ℕ) →
-    PumpsOn routes from a b (take done piece) → PumpsOn routes from b c (take taken (take (length piece - done) (drop done piece))) →
-    PumpsOn routes from a c (take (done + taken) piece)
-on_more routes from a b c piece done taken p q first stream is =
+    (routes : List Route) (from : Port) (a b c : IntakeView) (p q r : BatchView) (piece : List ℕ) (done taken : ℕ) →
+    GathersOn routes from a p b q (take done piece) → GathersOn routes from b q c r (take taken (take (length piece - done) (drop done piece))) →
+    GathersOn routes from a p c r (take (done + taken) piece)
+on_more routes from a b c p q r piece done taken first then sent stream has =
     let longer : (stream ++ take done piece) ++ take taken (take (length piece - done) (drop done piece)) ≡ stream ++ take (done + taken) piece =
     append_assoc stream (take done piece) (take taken (take (length piece - done) (drop done piece))) ∙
-    ap (λ xs. stream ++ xs) (ap (λ r. take done piece ++ take taken r) (slice_is piece done) ∙ sym (take-add done taken piece)) in
-    subst (IsPumped routes from c.lane first c.written) longer (q first (stream ++ take done piece) (p first stream is))
+    ap (λ xs. stream ++ xs) (ap (λ xs. take done piece ++ take taken xs) (slice_is piece done) ∙ sym (take-add done taken piece)) in
+    subst (HasGathered routes from c r sent) longer (then sent (stream ++ take done piece) (first sent stream has))
 
-pub on_nothing : (routes : List Route) (from : Port) (a : PumpState) (piece : List ℕ) → PumpsOn routes from a a (take 0 piece)
-on_nothing routes from a piece first stream is = subst (IsPumped routes from a.lane first a.written) (sym (append-nil stream)) is
+pub on_nothing : (routes : List Route) (from : Port) (a : IntakeView) (p : BatchView) (piece : List ℕ) → GathersOn routes from a p a p (take 0 piece)
+on_nothing routes from a p piece sent stream has = subst (HasGathered routes from a p sent) (sym (append-nil stream)) has
 
-pub on_whole : (routes : List Route) (from : Port) (a b : PumpState) (piece : List ℕ) (done : ℕ) → length piece ≤ done → PumpsOn routes from a b (take done piece) → PumpsOn routes from a b piece
-on_whole routes from a b piece done all p first stream is = subst (λ xs. IsPumped routes from b.lane first b.written (stream ++ xs)) (take_all done piece all) (p first stream is)
+pub on_whole : (routes : List Route) (from : Port) (a b : IntakeView) (p q : BatchView) (piece : List ℕ) (done : ℕ) → length piece ≤ done →
+    GathersOn routes from a p b q (take done piece) → GathersOn routes from a p b q piece
+on_whole routes from a b p q piece done all on sent stream has = subst (λ xs. HasGathered routes from b q sent (stream ++ xs)) (take_all done piece all) (on sent stream has)
 
-pub stops_later :
-    (routes : List Route) (from : Port) (a b : PumpState) (written : Option (List ℕ)) (piece : List ℕ) (done : ℕ) (tally : Tally) →
-    PumpsOn routes from a b (take done piece) → StopsIn routes from b written (take (length piece - done) (drop done piece)) tally → StopsIn routes from a written piece tally
-stops_later routes from a b written piece done tally p stops first stream is =
-    let whole : (stream ++ take done piece) ++ take (length piece - done) (drop done piece) ≡ stream ++ piece =
-    append_assoc stream (take done piece) (take (length piece - done) (drop done piece)) ∙
-    ap (λ xs. stream ++ xs) (ap (λ r. take done piece ++ r) (slice_is piece done) ∙ take-append-drop done piece) in
-    subst (λ s. PumpsPart routes from s first written tally) whole (stops first (stream ++ take done piece) (p first stream is))
+pub stops_part :
+    (routes : List Route) (from : Port) (a b new : IntakeView) (p q last : BatchView) (piece : List ℕ) (done : ℕ) → GathersOn routes from a p b q (take done piece) →
+    BringsFrame routes from (lane_of b) (take (length piece - done) (drop done piece)) → last ≡ q → new.tally ≡ b.tally → GathersPart routes from a p new last piece
+stops_part routes from a b new p q last piece done on brings same tally = record {
+  count = done;
+  reached = b;
+  on = subst (λ r. GathersOn routes from a p b r (take done piece)) (sym same) on;
+  brings = subst (BringsFrame routes from (lane_of b)) (slice_is piece done) brings;
+  tally = tally;
+}
 
-pub none_pumped : (routes : List Route) (from : Port) (lane : LaneView) (was : Option (List ℕ)) → lane.failed ≡ false → HasRouted routes from lane [] [] [] → IsPumped routes from lane was was []
-none_pumped routes from lane was well has = record {
-  routed = subst (λ fs. HasRouted routes from lane [] (all_kept fs) (map frame_bytes fs)) (sym (passed_none routes from)) has;
-  none_waits = has.kept;
-  well = well;
+-- a pump that has written all
+gathers : (routes : List Route) (from : Port) (old new : IntakeView) (none batch : BatchView) (bytes stream : List ℕ) (first was : Option (List ℕ)) → none ≡ no_batch →
+    GathersOn routes from old none new batch bytes → IsPumped routes from old first was stream → HasGathered routes from new batch stream (stream ++ bytes)
+gathers routes from old new none batch bytes stream first was empty on pumped =
+    on stream stream (record { counted = pumped.counted; gathered = subst (IsGathered routes from stream stream) (sym empty) (none_gathered routes from stream) })
+
+-- the whole batch was written
+written_whole :
+    (routes : List Route) (from : Port) (old new : IntakeView) (batch : BatchView) (bytes stream : List ℕ) (first was now : Option (List ℕ)) →
+    HasGathered routes from new batch stream (stream ++ bytes) → IsPumped routes from old first was stream → Appends was now batch.bytes →
+    Appends first now (wire_of routes from (stream ++ bytes))
+written_whole routes from old new batch bytes stream first was now has pumped wrote =
+    subst (Appends first now) (sym (gathered_wire routes from stream (stream ++ bytes) batch has.gathered))
+    (Appends-trans first was now (wire_of routes from stream) batch.bytes pumped.wrote wrote)
+
+pub pumps_on :
+    (routes : List Route) (from : Port) (old new : IntakeView) (none batch : BatchView) (piece : List ℕ) (was now : Option (List ℕ)) → none ≡ no_batch →
+    GathersOn routes from old none new batch piece → Appends was now batch.bytes →
+    PumpsOn routes from (record { intake = old; written = was }) (record { intake = new; written = now }) piece
+pumps_on routes from old new none batch piece was now empty on wrote first stream pumped =
+    let has = gathers routes from old new none batch piece stream first was empty on pumped in
+    record {
+      counted = has.counted;
+      wrote = written_whole routes from old new batch piece stream first was now has pumped wrote;
+    }
+
+-- a write failed behind so many bytes of a piece
+stops_at :
+    (routes : List Route) (from : Port) (old reached : IntakeView) (none batch : BatchView) (piece : List ℕ) (done : ℕ) (was now : Option (List ℕ)) (all tally : Tally) → none ≡ no_batch →
+    GathersOn routes from old none reached batch (take done piece) → WritesPart was now batch all tally →
+    StopsIn routes from (record { intake = old; written = was }) now piece tally
+stops_at routes from old reached none batch piece done was now all tally empty on wrote first stream pumped =
+    let came = stream ++ take done piece in
+    let has = gathers routes from old reached none batch (take done piece) stream first was empty on pumped in
+    let there = ends_in routes from stream came batch wrote.count all tally has.gathered wrote.within wrote.counts in
+    let whole : came ++ drop done piece ≡ stream ++ piece = append_assoc stream (take done piece) (drop done piece) ∙ ap (λ xs. stream ++ xs) (take-append-drop done piece) in
+    record {
+      front = there.front;
+      next = there.next;
+      behind = there.behind ++ drop done piece;
+      part = there.part;
+      unwritten = there.unwritten;
+      begins = sym whole ∙ ap (λ xs. xs ++ drop done piece) there.begins ∙ append_assoc (there.front ++ there.next) there.behind (drop done piece);
+      stops = inr (there.carried, there.passing, there.finds);
+      wrote = subst (Appends first now) there.wrote (Appends-trans first was now (wire_of routes from stream) (take wrote.count batch.bytes) pumped.wrote wrote.wrote);
+      within = there.within;
+      counts = there.counts;
+    }
+
+pub stops_writing :
+    (routes : List Route) (from : Port) (old new : IntakeView) (none batch : BatchView) (piece : List ℕ) (was now : Option (List ℕ)) (all tally : Tally) {T E : Type 0} (gathered : Result T E) →
+    none ≡ no_batch → OnOk gathered (GathersOn routes from old none new batch piece) → OnErr gathered (GathersPart routes from old none new batch piece) →
+    WritesPart was now batch all tally → StopsIn routes from (record { intake = old; written = was }) now piece tally
+stops_writing routes from old new none batch piece was now all tally (Ok done) empty on stops wrote =
+    stops_at routes from old new none batch piece (length piece) was now all tally empty
+    (subst (GathersOn routes from old none new batch) (sym (take_all (length piece) piece (omega arith))) on) wrote
+stops_writing routes from old new none batch piece was now all tally (Err refused) empty on stops wrote =
+    stops_at routes from old stops.reached none batch piece stops.count was now all tally empty stops.on wrote
+
+-- there was no memory for a frame; those before it were written
+pub stops_before :
+    (routes : List Route) (from : Port) (old new : IntakeView) (none batch : BatchView) (piece : List ℕ) (was now : Option (List ℕ)) (tally : Tally) → none ≡ no_batch →
+    GathersPart routes from old none new batch piece → Appends was now batch.bytes → tally ≡ new.tally →
+    StopsIn routes from (record { intake = old; written = was }) now piece tally
+stops_before routes from old new none batch piece was now tally empty part wrote same first stream pumped =
+    let done = part.count in
+    let came = stream ++ take done piece in
+    let brings = part.brings in
+    let has = gathers routes from old part.reached none batch (take done piece) stream first was empty part.on pumped in
+    let counted = has.counted in
+    let finds : found 8192 (came ++ brings.next) ≡ found 8192 came ++ frame brings.carried ∷ [] =
+    subst (λ limit. found limit (came ++ brings.next) ≡ found limit came ++ frame brings.carried ∷ []) counted.limit (brings.finds came counted.read) in
+    let whole = append-nil (wire_of routes from came) in
+    record {
+      front = came;
+      next = brings.next;
+      behind = brings.behind;
+      part = [];
+      unwritten = frame_bytes brings.carried;
+      begins =
+          sym (append_assoc stream (take done piece) (drop done piece) ∙ ap (λ xs. stream ++ xs) (take-append-drop done piece)) ∙
+          ap (λ xs. came ++ xs) brings.parts ∙ sym (append_assoc came brings.next brings.behind);
+      stops = inr (brings.carried, brings.passing, finds);
+      wrote = subst (Appends first now) (sym whole) (written_whole routes from old part.reached batch (take done piece) stream first was now has pumped wrote);
+      within =
+          frame_more routes from came (came ++ brings.next) brings.carried finds brings.passing ∙
+          ap (λ xs. xs ++ frame_bytes brings.carried) (sym whole);
+      counts = same ∙ part.tally ∙ counted.tally;
+    }
+
+pub none_pumped : (routes : List Route) (from : Port) (intake : IntakeView) (was : Option (List ℕ)) → HasCounted routes from intake [] → IsPumped routes from intake was was []
+none_pumped routes from intake was has = record {
+  counted = has;
   wrote = subst (Appends was was) (sym (ap (flat_map frame_bytes) (passed_none routes from))) (Appends-nil was);
 }

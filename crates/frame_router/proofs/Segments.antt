@@ -1,5 +1,5 @@
 -- What a direction does with bytes in which a segment ends, or none.
-use Rattle.std.proofs.Common.{◌≡◌, ℕ, ◌≤◌, Bool, true, false, cond, List, [], ◌∷◌, ◌++◌, length, map, take, drop, nat_lt, Option, refl, sym, ◌∙◌, ap, subst, arith, append-nil, append_assoc, take-append-drop}
+use Rattle.std.proofs.Common.{◌≡◌, ℕ, ◌≤◌, Bool, true, false, cond, List, [], ◌∷◌, ◌++◌, length, map, take, drop, nat_lt, Option, Result, Ok, Err, OnErr, refl, sym, ◌∙◌, ap, subst, arith, append-nil, append_assoc, take-append-drop}
 use Rattle.std.specs.List.{filter, flat_map}
 use Rattle.std.specs.Option.{option_to_list}
 use Rattle.std.proofs.lemmas.Grind.{flat_map-append}
@@ -20,6 +20,11 @@ use Rattle.frame_router.specs.Fates.{fate_of, frame_bytes, is_passing, passed, p
 use Rattle.frame_router.specs.Routed.{Arrival, BringsFrame, HasRouted, LaneView, RoutesMore, arriving, tally_of}
 use Rattle.frame_router.proofs.Counts.{tally_fault, tally_frame, tally_none, tally_same}
 
+-- what holds anyway holds of a refusal
+pub on_err : {T E : Type 0} (r : Result T E) (P : Type 0) → P → OnErr r P
+on_err (Ok x) P p = tt
+on_err (Err e) P p = p
+
 -- the decoder goes on, and this is found with the last of the bytes
 abbrev pub Finds : LaneView → List ℕ → List Found → Type 0
 Finds old bytes more = (stream : List ℕ) → HasRead old.reading stream → found old.reading.limit (stream ++ bytes) ≡ found old.reading.limit stream ++ more
@@ -36,7 +41,7 @@ passed_more routes from old new one more =
     (ap (flat_map frames_in) more ∙ flat_map-append frames_in (found 8192 old) (one ∷ []) ∙ ap (λ fs. valid_frames 8192 old ++ fs) (append-nil (frames_in one))) ∙
     filter-append (passes routes from) (valid_frames 8192 old) (frames_in one)
 
-passed_same : (routes : List Route) (from : Port) (old new : List ℕ) → found 8192 new ≡ found 8192 old → passed routes from new ≡ passed routes from old
+pub passed_same : (routes : List Route) (from : Port) (old new : List ℕ) → found 8192 new ≡ found 8192 old → passed routes from new ≡ passed routes from old
 unfolding passed
 passed_same routes from old new same = ap (λ all. filter (passes routes from) (flat_map frames_in all)) same
 

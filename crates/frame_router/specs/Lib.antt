@@ -1,4 +1,5 @@
 pub mod Fates
+pub mod Gathered
 pub mod Pumped
 pub mod Routed
 pub mod Routes

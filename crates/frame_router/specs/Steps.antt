@@ -1,17 +1,17 @@
 -- The steps by which a direction counts a segment and a pump goes on or stops. What callers see of them stands in Routed and Pumped.
-use Rattle.std.specs.Prelude.{ℕ, Bool, true, false, List, [], ◌∷◌, ◌≡◌, ◌++◌, length, map, Option}
+use Rattle.std.specs.Prelude.{ℕ, ◌<◌, Bool, true, false, List, [], ◌∷◌, ◌≡◌, ◌++◌, length, take, Option}
 use Rattle.hdlc_frame.specs.Counted.{one_more}
 use Rattle.hdlc_frame.specs.Found.{Found}
 use Rattle.hdlc_frame.specs.Found.Found.{frame}
 use Rattle.frame_router.specs.declared.fate.Fate.{Fate}
 use Rattle.frame_router.specs.declared.fate.Fate.TheVariants.{Passes, Home, Lost, Other, Bad}
 use Rattle.frame_router.specs.declared.tally.Tally.{Tally}
-use Rattle.frame_router.specs.Fates.{frame_bytes, passed}
+use Rattle.frame_router.specs.Fates.{frame_bytes}
 use Rattle.std.specs.Io.KnownBytes.{Appends, Consumes}
 use Rattle.frame_router.specs.declared.port.Port.{Port}
 use Rattle.frame_router.specs.declared.routes.Route.{Route}
-use Rattle.frame_router.specs.Pumped.{PumpsPart, all_kept, wire_of}
-use Rattle.frame_router.specs.Routed.{HasRouted, LaneView}
+use Rattle.frame_router.specs.Gathered.{BatchView, HasCounted, IntakeView, tally_before}
+use Rattle.frame_router.specs.Pumped.{PumpsPart, wire_of}
 use Rattle.link_io.specs.declared.why.Why.TheVariants as why
 use Rattle.frame_router.specs.declared.pumping.Pumped.{Pumped}
 use Rattle.frame_router.specs.declared.pumping.Stopped.{Stopped}
@@ -31,36 +31,41 @@ abbrev pub admitted : Fate → Found → Bool → List (List ℕ)
 admitted Passes (frame f) true = frame_bytes f ∷ []
 admitted _ _ _ = []
 
--- the stream came, each frame of it that passes was given and written, none waits, and memory was never wanting
-pub record IsPumped (routes : List Route) (from : Port) (lane : LaneView) (first now : Option (List ℕ)) (stream : List ℕ) : Type 0 where
-  pub routed : HasRouted routes from lane stream (all_kept (passed routes from stream)) (map frame_bytes (passed routes from stream))
-  pub none_waits : lane.waiting ≡ []
-  pub well : lane.failed ≡ false
+-- the stream came and was counted, and each frame of it that passes was written
+pub record IsPumped (routes : List Route) (from : Port) (intake : IntakeView) (first now : Option (List ℕ)) (stream : List ℕ) : Type 0 where
+  pub counted : HasCounted routes from intake stream
   pub wrote : Appends first now (wire_of routes from stream)
 
--- a direction, and what its sink holds
+-- what came from one side, and what the sink of the other holds
 pub record PumpState : Type 0 where
-  pub lane : LaneView
+  pub intake : IntakeView
   pub written : Option (List ℕ)
 
 -- it went on over some bytes
 abbrev pub PumpsOn : List Route → Port → PumpState → PumpState → List ℕ → Type 0
 PumpsOn routes from old new bytes =
-    (first : Option (List ℕ)) (stream : List ℕ) → IsPumped routes from old.lane first old.written stream →
-    IsPumped routes from new.lane first new.written (stream ++ bytes)
+    (first : Option (List ℕ)) (stream : List ℕ) → IsPumped routes from old.intake first old.written stream →
+    IsPumped routes from new.intake first new.written (stream ++ bytes)
 
 -- it stopped at a frame in a piece
 abbrev pub StopsIn : List Route → Port → PumpState → Option (List ℕ) → List ℕ → Tally → Type 0
 StopsIn routes from old written piece tally =
-    (first : Option (List ℕ)) (stream : List ℕ) → IsPumped routes from old.lane first old.written stream →
+    (first : Option (List ℕ)) (stream : List ℕ) → IsPumped routes from old.intake first old.written stream →
     PumpsPart routes from (stream ++ piece) first written tally
 
+-- of a batch so many bytes were written, and the count is that before the frame with the next byte
+pub record WritesPart (old new : Option (List ℕ)) (batch : BatchView) (all tally : Tally) : Type 0 where
+  pub count : ℕ
+  pub within : count < length batch.bytes
+  pub wrote : Appends old new (take count batch.bytes)
+  pub counts : tally ≡ tally_before batch.marks count all
+
 -- so many bytes were taken of a source, and pumped
-pub record HasTaken (routes : List Route) (from : Port) (lane : LaneView) (left_old left_new first now : Option (List ℕ)) (total : ℕ) : Type 0 where
+pub record HasTaken (routes : List Route) (from : Port) (intake : IntakeView) (left_old left_new first now : Option (List ℕ)) (total : ℕ) : Type 0 where
   pub bytes : List ℕ
   pub taken : Consumes left_old left_new bytes
   pub count : total ≡ length bytes
-  pub pumped : IsPumped routes from lane first now bytes
+  pub pumped : IsPumped routes from intake first now bytes
 
 -- how the segments before the frame were counted
 abbrev pub tally_in : Stopped → Tally

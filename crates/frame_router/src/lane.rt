@@ -23,7 +23,7 @@ use std::marker::Model;
 const MAX_WAITING: usize = 256;
 
 /// The largest content of a frame, in bytes.
-const LARGEST_CONTENT: usize = 8_192;
+pub(crate) const LARGEST_CONTENT: usize = 8_192;
 
 /// What comes from one side and waits for the other.
 #[derive(Drop)]

@@ -3,8 +3,10 @@
 //! router over lines of text, and [`bridge`] is both directions at once.
 #![tactic(auto)]
 
+mod batch;
 pub mod bridge;
 mod fate;
+mod intake;
 mod lane;
 mod port;
 mod pumping;

@@ -6,6 +6,8 @@ use std::alloc::{AllocError, Global};
 use std::process::Abort;
 use std::test::Fail;
 
+mod parts;
+
 // A frame with address 123 and no payload, and one with address 82, as other encoders write them.
 const TO_123: &[u8] = &[0x7E, 0xF7, 0x03, 0x3F, 0x34, 0x2D, 0x83, 0x7E];
 
@@ -228,18 +230,18 @@ fn a_pump_writes_what_passes_and_finishes(rt: HostRuntime) -> Result<(), Fail> {
     Ok(())
 }
 
-// The write of this number fails.
+// The call of this number fails.
 fn fails_to_write(
     rt: &impl Abort,
     alloc: Global,
     number: u64,
-    passed: u64,
+    tally: Tally,
     want: &[u8],
 ) -> Result<(), Fail> {
     let fails = vec![in alloc; number; 1]?;
     let frames = three_frames(alloc)?;
     let (done, link_out) = pumped(alloc, frames, Vec::new(alloc), fails)?;
-    ended(rt, &done, Why::Sink, 24, counts(passed, 0, 1));
+    ended(rt, &done, Why::Sink, 24, tally);
     wrote(rt, &link_out, want);
     Ok(())
 }
@@ -270,7 +272,7 @@ fn a_pump_tells_which_end_failed(rt: HostRuntime) -> Result<(), Fail> {
     let (done, link_out) = pumped(alloc, frames, first, Vec::new(alloc))?;
     ended(&rt, &done, Why::Source, 0, counts(0, 0, 0));
     wrote(&rt, &link_out, &[]);
-    // The second write is that of the third frame, and the third call is the finish.
-    fails_to_write(&rt, alloc, 2, 1, TO_123)?;
-    fails_to_write(&rt, alloc, 3, 2, TWICE)
+    // Both frames that pass go out by the first call, and the second is the finish.
+    fails_to_write(&rt, alloc, 1, counts(0, 0, 0), &[])?;
+    fails_to_write(&rt, alloc, 2, counts(2, 0, 1), TWICE)
 }

@@ -1,10 +1,7 @@
-use Rattle.std.proofs.Common.{Result, Ok, Err, OnErr, ap}
+use Rattle.std.proofs.Common.{ap}
 use Rattle.hdlc_frame.specs.Lent.{found_of, parts_of}
+use Rattle.frame_router.proofs.Segments.{on_err}
 use Rattle.frame_router.proofs.lane.admit.Goals as goal
-
-on_err : {T E : Type 0} (r : Result T E) (P : Type 0) → P → OnErr r P
-on_err (Ok x) P p = tt
-on_err (Err e) P p = p
 
 pub returns-in_err-frame_of-in-Passes-Frame-clause-passing : goal.returns-in_err-frame_of-in-Passes-Frame-clause-passing
 returns-in_err-frame_of-in-Passes-Frame-clause-passing c =

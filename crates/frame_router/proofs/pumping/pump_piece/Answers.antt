@@ -1,32 +1,25 @@
-use Rattle.std.proofs.Common.{ℕ, arith, length-take, length-drop}
-use Rattle.frame_router.proofs.PumpLemmas.{on_more, on_nothing, on_whole, stops_later}
+use Rattle.frame_router.specs.Steps.{tally_in}
+use Rattle.frame_router.proofs.PumpLemmas.{pumps_on, stops_before, stops_writing}
 use Rattle.frame_router.proofs.pumping.pump_piece.Goals as goal
-
-pub segments-init : goal.segments-init
-segments-init g c = record {
-  within = omega arith;
-  open_still = c.requires.open;
-  later = omega arith;
-  on = on_nothing c.args.routes.now c.args.from (record { lane = c.args.lane.now; written = g.O.Sink.written c.args.link_out.now }) c.args.piece.now;
-}
-
-pub segments-preserved : goal.segments-preserved
-segments-preserved g c =
-    let before = c.segments.invariant in
-    let taken = c.in-Ok.ensures.taken in
-    record {
-      within = omega (arith, taken, length-take {A = ℕ}, length-drop {A = ℕ});
-      open_still = c.in-Ok.ensures.open;
-      later = omega (arith, before.later, c.in-Ok.ensures.later);
-      on =
-          on_more c.args.routes.now c.args.from _ (record { lane = c.segments.lane; written = g.O.Sink.written c.segments.link_out }) _ c.args.piece.now
-          c.segments.done c.in-Ok.taken before.on c.in-Ok.ensures.on;
-    }
 
 pub returns-in-Err-clause-stops : goal.returns-in-Err-clause-stops
 returns-in-Err-clause-stops g c =
-    stops_later c.args.routes.now c.args.from _ (record { lane = c.segments.lane; written = g.O.Sink.written c.segments.link_out }) _ c.args.piece.now
-    c.segments.done _ c.segments.invariant.on c.in-Err.ensures.stops
+    let written = g.O.Sink.written in
+    let gathered = c.gather_piece-gathered in
+    stops_writing c.args.routes.now c.args.from c.args.intake.now gathered.new.intake c.args.batch.now gathered.new.batch c.args.piece.now
+    (written c.args.link_out.now) (written c.write_batch.new.link_out) c.tally.result (tally_in c.in-Err.stopped) gathered.result c.requires.empty
+    gathered.ensures.on gathered.ensures.stops c.in-Err.ensures.part
 
-pub returns-clause-on : goal.returns-clause-on
-returns-clause-on g c = on_whole c.args.routes.now c.args.from _ _ c.args.piece.now c.segments.done (omega (arith, c.segments-test.false)) c.segments.invariant.on
+pub returns-in-Ok-gathered-clause-on : goal.returns-in-Ok-gathered-clause-on
+returns-in-Ok-gathered-clause-on g c =
+    let written = g.O.Sink.written in
+    let gathered = c.gather_piece-gathered in
+    pumps_on c.args.routes.now c.args.from c.args.intake.now gathered.new.intake c.args.batch.now gathered.new.batch c.args.piece.now
+    (written c.args.link_out.now) (written c.write_batch.new.link_out) c.requires.empty c.in-Ok-gathered.ensures.on c.in-Ok.ensures.whole
+
+pub returns-in-Err-gathered-clause-stops : goal.returns-in-Err-gathered-clause-stops
+returns-in-Err-gathered-clause-stops g c =
+    let written = g.O.Sink.written in
+    let gathered = c.gather_piece-gathered in
+    stops_before c.args.routes.now c.args.from c.args.intake.now gathered.new.intake c.args.batch.now gathered.new.batch c.args.piece.now
+    (written c.args.link_out.now) (written c.write_batch.new.link_out) c.tally-in-Err-gathered.result c.requires.empty c.in-Err-gathered.ensures.stops c.in-Ok.ensures.whole c.tally-in-Err-gathered.ensures
