@@ -5,7 +5,7 @@ ghost use Rattle.rpc_journal.specs.History.{adding};
 ghost use Rattle.rpc_journal.specs.Lawful.{IsLegal};
 ghost use Rattle.rpc_journal.specs.Runs.{IsRunning};
 ghost use Rattle.rpc_ids.specs.declared.method.Role.TheVariants.{Server as server_role};
-ghost use Rattle.rpc_schedule.specs.Serving.{Ends, Works};
+ghost use Rattle.rpc_schedule.specs.Serving.{Ends, HasNoWork, Works};
 ghost use Rattle.rpc_schedule.specs.ends.EndState.{WasFed};
 ghost use Rattle.rpc_schedule.specs.ends.Working.{TakesRun};
 
@@ -37,12 +37,23 @@ impl<M: Maker> Server<M> {
         ensures step { Works M.H.rule self.old.serving result self.new.serving }
         ensures listener { self.new.listener ≡ self.old.listener }
     {
-        if !self.take_run()? {
+        // A frame that carries nothing ends here, before there is a place for a run.
+        if self.has_no_work() || !self.take_run()? {
             return Ok(false);
         }
         match self.ask_and_finish() {
             Ok(()) => Ok(true),
             Err(_) => Err(StartRefused::Memory),
+        }
+    }
+
+    // Whether no run is kept and no event waits for a call.
+    fn has_no_work(&self) -> bool
+        ensures { result ≡ true → HasNoWork self.now.serving self.now.serving }
+    {
+        match self.kept {
+            Some(_) => false,
+            None => self.calls.none_waiting(),
         }
     }
 
