@@ -1,8 +1,9 @@
 //! A plain server of the demo service, with nothing proved: what the bench measures the program against, and what its
-//! outputs are compared with. It keeps no journal.
+//! outputs are compared with. It keeps no journal, but with the word `keep` in front: then it keeps each packet that came and an
+//! entry for each step, as the program has to, and tells their number at the end on standard error.
 //!
-//! plain_server report|raw < recording          serves a recorded stream
-//! plain_server load N SEED                      serves a stream made from a number, and prints its four lines
+//! plain_server [keep] report|raw < recording   serves a recorded stream
+//! plain_server [keep] load N SEED               serves a stream made from a number, and prints its four lines
 //! plain_server recording echo N | load N SEED   writes such a stream
 //! plain_server recording open N                 writes one that leaves N calls of Chat open
 use std::collections::HashMap;
@@ -72,7 +73,24 @@ struct Counts {
     dropped: u64,
 }
 
+// A step of the program's table, of the same size there: a whole packet, or the number of a call and what a run of it said.
+#[allow(dead_code)]
+enum Step {
+    Arrive(Packet),
+    Start(usize),
+    Finish(usize, Vec<Vec<u8>>),
+    Flush,
+    EndIn,
+}
+
+#[allow(dead_code)]
+struct Entry {
+    seat: u32,
+    step: Step,
+}
+
 struct Server {
+    journal: Option<Vec<Entry>>,
     crc: Crc,
     methods: HashMap<(u32, u32), Method>,
     calls: Vec<Call>,
@@ -84,10 +102,11 @@ struct Server {
 }
 
 impl Server {
-    fn new() -> Server {
+    fn new(keeps: bool) -> Server {
         let service = hash_name("demo.Demo");
         let methods = [("Echo", Method::Echo), ("Count", Method::Count), ("Sum", Method::Sum), ("Chat", Method::Chat)];
         Server {
+            journal: keeps.then(Vec::new),
             crc: Crc::new(),
             methods: methods.iter().map(|(name, m)| ((service, hash_name(name)), *m)).collect(),
             calls: Vec::new(),
@@ -133,7 +152,33 @@ impl Server {
         }
     }
 
+    fn keep(&mut self, seat: u32, step: impl FnOnce() -> Step) {
+        if let Some(journal) = &mut self.journal {
+            journal.push(Entry { seat, step: step() });
+        }
+    }
+
+    // A run of a call: what it says follows.
+    fn keep_run(&mut self, c: usize, said: &[u8]) {
+        self.keep(2, || Step::Start(c));
+        self.keep(2, || Step::Finish(c, vec![said.to_vec()]));
+    }
+
+    // Each call that is open at the end of the input is told so.
+    fn end_in(&mut self) {
+        self.keep(0, || Step::EndIn);
+        for c in 0..self.calls.len() {
+            if self.calls[c].status.is_none() {
+                self.keep_run(c, &[]);
+            }
+        }
+        if let Some(journal) = &self.journal {
+            eprintln!("entries {}", journal.len());
+        }
+    }
+
     fn send(&mut self, ptype: u64, name: Name, payload: Vec<u8>, status: u32) {
+        self.keep(1, || Step::Flush);
         self.sent.push(Packet { ptype, name, payload, status });
     }
 
@@ -154,6 +199,7 @@ impl Server {
     }
 
     fn arrive(&mut self, p: Packet) {
+        self.keep(0, || Step::Arrive(p.clone()));
         let is_in = (1..=8).contains(&p.name.channel);
         let method = self.methods.get(&(p.name.service, p.name.method)).copied();
         let live = self.live.get(&p.name).copied();
@@ -194,6 +240,7 @@ impl Server {
     }
 
     fn request(&mut self, c: usize, payload: Vec<u8>) {
+        self.keep_run(c, &payload);
         match self.calls[c].method {
             Method::Echo if payload.len() > MAX_PAYLOAD => self.respond(c, RESOURCE_EXHAUSTED, Vec::new()),
             Method::Echo => self.respond(c, OK, payload),
@@ -212,6 +259,7 @@ impl Server {
     }
 
     fn message(&mut self, c: usize, payload: Vec<u8>) {
+        self.keep_run(c, &payload);
         if self.calls[c].method == Method::Sum {
             let sum = payload.iter().fold(0u64, |sum, b| sum.wrapping_add(u64::from(*b)));
             self.calls[c].total = self.calls[c].total.wrapping_add(sum);
@@ -224,6 +272,7 @@ impl Server {
     }
 
     fn complete(&mut self, c: usize) {
+        self.keep_run(c, &[]);
         match self.calls[c].method {
             Method::Sum => {
                 let total = self.calls[c].total.to_be_bytes().to_vec();
@@ -327,14 +376,19 @@ fn load_recording(n: u32, seed: u64) -> Vec<u8> {
 
 fn main() -> io::Result<()> {
     let words: Vec<String> = std::env::args().skip(1).collect();
-    let words: Vec<&str> = words.iter().map(String::as_str).collect();
-    let mut server = Server::new();
+    let mut words: Vec<&str> = words.iter().map(String::as_str).collect();
+    let keeps = words.first() == Some(&"keep");
+    if keeps {
+        words.remove(0);
+    }
+    let mut server = Server::new(keeps);
     let out = match words[..] {
         ["recording", "echo", n] => echo_recording(n.parse().unwrap()),
         ["recording", "open", n] => open_recording(n.parse().unwrap()),
         ["recording", "load", n, seed] => load_recording(n.parse().unwrap(), seed.parse().unwrap()),
         ["load", n, seed] => {
             server.feed(&load_recording(n.parse().unwrap(), seed.parse().unwrap()));
+            server.end_in();
             let payload: usize = server.sent.iter().map(|p| p.payload.len()).sum();
             let (calls, packets) = (server.calls.len(), server.sent.len());
             format!("load {n} {seed}\ncalls {calls}\npackets {packets}\npayload {payload}\n").into_bytes()
@@ -347,6 +401,7 @@ fn main() -> io::Result<()> {
                     n => server.feed(&piece[..n]),
                 }
             }
+            server.end_in();
             if form == "raw" { server.raw() } else { server.report().into_bytes() }
         }
         _ => std::process::exit(2),

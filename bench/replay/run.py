@@ -1,7 +1,8 @@
 #!/usr/bin/env python3
 """Measures the program beside a plain server in Rust, and compares what the two write.
 
-Builds bench/replay/plain_server.rs with rustc, and the program crates/pw_main with rt (proved, by LLVM).
+Builds bench/replay/plain_server.rs with rustc, and the program crates/pw_main with rt (proved, by LLVM). The plain server runs in two
+ways: it keeps nothing, or each packet that came and an entry for each step, as the program has to.
 
 run.py            the measured table: load, recordings of 100,000 Echo calls and of calls left open, and how both grow
 run.py compare N  N recordings with damage, repeated names and all packet types; the two must write the same
@@ -52,18 +53,18 @@ def seconds(command, recording=b""):
 
 
 def measured(what, ours, plain, recording=b""):
-    a, told = seconds(ours, recording)
-    b, wanted = seconds(plain, recording)
-    if told != wanted:
+    keeping = [plain[0], "keep", *plain[1:]]
+    (a, told), (b, wanted), (c, kept) = (seconds(command, recording) for command in (ours, plain, keeping))
+    if told != wanted or told != kept:
         sys.exit(f"{what}: the two differ")
-    print(f"| {what} | {a:.3f} | {b:.3f} | {a / b:.1f} |", flush=True)
+    print(f"| {what} | {a:.3f} | {b:.3f} | {a / b:.1f} | {c:.3f} | {a / c:.1f} |", flush=True)
     return a
 
 
 def table(program, plain):
     print(f"{os.cpu_count()} processors, seconds of processor time, best of 5 (of 1 where a run takes more than 10)")
-    print("| what | this program | plain Rust | ratio |")
-    print("|---|---|---|---|")
+    print("| what | this program | plain Rust | ratio | that keeps packets and entries | ratio |")
+    print("|---|---|---|---|---|---|")
     echo = written([plain, "recording", "echo", "100000"])
     measured("`replay raw`, 100,000 Echo calls", [program, "replay", "raw"], [plain, "raw"], echo)
     spans = []
