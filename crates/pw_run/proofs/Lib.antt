@@ -10,5 +10,6 @@ mod LinkRuns
 mod LoadSizes
 mod ServeLemmas
 mod ServedLemmas
+mod UnderWayLemmas
 mod WordLemmas
 mod WritesLemmas

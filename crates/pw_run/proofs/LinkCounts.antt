@@ -6,6 +6,7 @@ use Rattle.link_io.specs.Links.{KeepsLinks, Links}
 use Rattle.pw_run.specs.declared.outcome.Outcome.TheVariants.{Done}
 use Rattle.pw_run.specs.Devices.{Devices}
 use Rattle.pw_run.specs.Serve.{Lends, ServesAll, ServesConnection}
+use Rattle.pw_run.specs.declared.way.Way.{Way}
 
 -- No count fell. Those of the ends handed back stop at the last number of 64 bits.
 pub record CountsOn (old new : Links) : Type 0 where
@@ -34,17 +35,17 @@ lent_on old new left_old sent_old left_new sent_new in_faults out_faults lent = 
   sink = omega (arith, lent.taken.out_faults, lent.handed.out_faults);
 }
 
-done_on : (workers number : ℕ) (before after : Devices) → ServesConnection workers number before after Done → CountsOn before.links after.links
-done_on workers number before after (inl ran) =
+done_on : (by : Way) (workers number : ℕ) (before after : Devices) → ServesConnection by workers number before after Done → CountsOn before.links after.links
+done_on by workers number before after (inl ran) =
     lent_on before.links after.links ran.left_old ran.sent_old ran.left_new ran.sent_new ran.in_faults ran.out_faults ran.lent
-done_on workers number before after (inr (inl back)) = lent_on before.links after.links back.left back.sent back.left back.sent 0 0 back.lent
-done_on workers number before after (inr (inr fails)) = absurd (cc (fails.fault))
+done_on by workers number before after (inr (inl back)) = lent_on before.links after.links back.left back.sent back.left back.sent 0 0 back.lent
+done_on by workers number before after (inr (inr fails)) = absurd (cc (fails.fault))
 
 -- connections that were served in turn
-pub served_on : (workers count : ℕ) (before after : Devices) → ServesAll workers count before after → CountsOn before.links after.links
-served_on workers zero before after same = subst (λ (d : Devices). CountsOn before.links d.links) (sym same) (counts_self before.links)
-served_on workers (suc count) before after (between, first, last) =
-    counts_trans before.links between.links after.links (served_on workers count before between first) (done_on workers (suc count) between after last)
+pub served_on : (by : Way) (workers count : ℕ) (before after : Devices) → ServesAll by workers count before after → CountsOn before.links after.links
+served_on by workers zero before after same = subst (λ (d : Devices). CountsOn before.links d.links) (sym same) (counts_self before.links)
+served_on by workers (suc count) before after (between, first, last) =
+    counts_trans before.links between.links after.links (served_on by workers count before between first) (done_on by workers (suc count) between after last)
 
 -- a count that rose behind them rose
 pub rose_on : (first before now : ℕ) → min first (2 ^ 64 - 1) ≤ before → Rose before now → Rose first now

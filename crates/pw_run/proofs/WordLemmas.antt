@@ -6,7 +6,7 @@ use Rattle.pw_run.specs.declared.command.Command.TheVariants.{Replay, Text, Load
 use Rattle.pw_run.specs.declared.command.Form.TheVariants.{Report, Raw, Journal}
 use Rattle.pw_run.specs.declared.text_command.TextCommand.TheVariants.{Check, Detoken, Link, Route}
 use Rattle.pw_run.specs.declared.live_command.LiveCommand.{LiveCommand}
-use Rattle.pw_run.specs.declared.live_command.LiveCommand.TheVariants.{Crew, Serve, Bridge, Client}
+use Rattle.pw_run.specs.declared.live_command.LiveCommand.TheVariants.{Crew, Serve, Host, Bridge, Client}
 use Rattle.pw_run.specs.Command.{IsCommand}
 use Rattle.pw_run.specs.LiveCommand.{IsLiveCommand}
 
@@ -38,6 +38,7 @@ on_threads_is : (words : List (List ℕ)) (command : LiveCommand) → IsLiveComm
 unfolding letters begin_recorded is_recorded
 on_threads_is words (Crew workers) is = ap is_recorded is.0
 on_threads_is words (Serve workers connections) is = ap is_recorded is.1
+on_threads_is words (Host workers) is = ap is_recorded is.1
 on_threads_is words (Bridge at_right at_left) is = ap is_recorded is.2
 on_threads_is words (Client (Get resource offset)) is = ap is_recorded is.1
 on_threads_is words (Client (Put resource offset)) is = ap is_recorded is.1

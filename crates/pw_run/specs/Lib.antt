@@ -8,6 +8,7 @@ pub mod Demo
 pub mod Detoken
 pub mod Devices
 pub mod Dump
+pub mod Hosted
 pub mod Link
 pub mod LinkServed
 pub mod Live
@@ -20,4 +21,5 @@ pub mod Route
 pub mod Serve
 pub mod Tells
 pub mod Texts
+pub mod UnderWay
 pub mod Writes

@@ -64,9 +64,14 @@ abbrev pub ServesLink : ℕ → LinkDevices → LinkDevices → Why → Counts �
 ServesLink workers before after why counts table items =
     ServesListed workers before after why counts table items ⊎ FindsNoShelf before after why counts table items
 
--- What was written of a session that ended for this reason: its text, whole or with an output that failed, or nothing for want of
--- memory, be it that of the session or of the text.
+-- What was written of a session that ended for this reason, where a run that writes all of it ends so: its text, whole or with an
+-- output that failed, or nothing for want of memory, be it that of the session or of the text.
+abbrev pub WritesEnded : List ℕ → Why → Outcome → Option (List ℕ) → Option (List ℕ) → ℕ → ℕ → Outcome → Type 0
+WritesEnded text why own written_old written_new failed_old failed_new NoMemory = Keeps written_old written_new
+WritesEnded text why own written_old written_new failed_old failed_new outcome =
+    (why ≢ Memory) × WritesOrFails written_old written_new failed_old failed_new text own outcome
+
+-- the same where the reason is that of the run
 abbrev pub WritesServed : List ℕ → Why → Option (List ℕ) → Option (List ℕ) → ℕ → ℕ → Outcome → Type 0
-WritesServed text why written_old written_new failed_old failed_new NoMemory = Keeps written_old written_new
 WritesServed text why written_old written_new failed_old failed_new outcome =
-    (why ≢ Memory) × WritesOrFails written_old written_new failed_old failed_new text (outcome_for why) outcome
+    WritesEnded text why (outcome_for why) written_old written_new failed_old failed_new outcome

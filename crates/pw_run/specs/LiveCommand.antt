@@ -2,7 +2,7 @@
 use Rattle.std.specs.Prelude.{◌≡◌, ◌≢◌, ℕ, ◌^◌, ◌<◌, ◌≤◌, List, [], ◌∷◌, codes}
 use Rattle.std.specs.Fmt.{decimal}
 use Rattle.pw_run.specs.declared.live_command.LiveCommand.{LiveCommand}
-use Rattle.pw_run.specs.declared.live_command.LiveCommand.TheVariants.{Crew, Serve, Bridge, Client}
+use Rattle.pw_run.specs.declared.live_command.LiveCommand.TheVariants.{Crew, Serve, Host, Bridge, Client}
 use Rattle.pw_run.specs.declared.live_command.TheConstants.{MAX_CONNECTIONS, MAX_WORKERS}
 use Rattle.pw_run.specs.ClientCommand.{IsClientCommand}
 
@@ -16,6 +16,8 @@ IsLiveCommand words (Crew workers) = (words ≡ codes "crew" ∷ decimal workers
 IsLiveCommand words (Serve workers connections) =
     (path : List ℕ) × (words ≡ codes "serve" ∷ path ∷ decimal workers ∷ decimal connections ∷ []) × (path ≢ []) ×
     IsCrewSize workers × (1 ≤ connections) × (connections ≤ MAX_CONNECTIONS)
+IsLiveCommand words (Host workers) =
+    (path : List ℕ) × (words ≡ codes "host" ∷ path ∷ decimal workers ∷ []) × (path ≢ []) × IsCrewSize workers
 IsLiveCommand words (Bridge at_right at_left) =
     (left right : List ℕ) × (words ≡ codes "bridge" ∷ left ∷ right ∷ decimal at_right ∷ decimal at_left ∷ []) × (left ≢ []) × (right ≢ []) ×
     (at_right < 2 ^ 32) × (at_left < 2 ^ 32) × (at_right ≢ at_left)

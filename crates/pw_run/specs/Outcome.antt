@@ -39,6 +39,13 @@ outcome_for reason.InputLimit = InputLimit
 outcome_for reason.JournalLimit = JournalLimit
 outcome_for reason.Memory = NoMemory
 
+-- The outcome of a run of `host` whose connection ended for this reason, and whose lines were written whole. Where that is the link's
+-- own, its input's limit or its journal's, the run goes on.
+abbrev pub hosted_outcome : Why → Outcome
+hosted_outcome reason.Store = StoreFault
+hosted_outcome reason.Memory = NoMemory
+hosted_outcome _ = Done
+
 -- with these outcomes nothing was written
 abbrev pub IsSilent : Outcome → Type 0
 IsSilent NoMemory = Unit {0}

@@ -1,10 +1,13 @@
 //! The numbers of the program. Nothing runs here.
 ghost use Rattle.std.specs.Prelude.{◌≡◌};
 
-use crate::{LAST_CHANNEL, MAX_CONNECTIONS, MAX_LOAD, MAX_WATCH, MAX_WORKERS, TEXT_LIMIT};
+use crate::{
+    LAST_CHANNEL, MAX_CONNECTIONS, MAX_HOSTED, MAX_LOAD, MAX_WATCH, MAX_WORKERS, TEXT_LIMIT,
+};
 
 /// How many calls a load has at most, the last channel that is in, how many bytes are too many for a text of lines, how many
-/// messages a watch waits for at most, how many workers a session has at most, and how many connections `serve` serves at most.
+/// messages a watch waits for at most, how many workers a session has at most, and how many connections `serve` and `host` serve at
+/// most.
 pub fn numbers_of_the_program()
     ensures load { MAX_LOAD ≡ 30000 }
     ensures channels { LAST_CHANNEL ≡ 8 }
@@ -12,4 +15,5 @@ pub fn numbers_of_the_program()
     ensures watch { MAX_WATCH ≡ 64 }
     ensures workers { MAX_WORKERS ≡ 16 }
     ensures connections { MAX_CONNECTIONS ≡ 1000 }
+    ensures hosted { MAX_HOSTED ≡ 4294967295 }
 {}

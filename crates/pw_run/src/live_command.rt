@@ -11,6 +11,9 @@ pub const MAX_WORKERS: u32 = 16;
 /// The most connections that `serve` serves.
 pub const MAX_CONNECTIONS: u32 = 1_000;
 
+/// The most connections that `host` serves.
+pub const MAX_HOSTED: u32 = 4_294_967_295;
+
 /// A command that works on threads. Where it listens at a path or connects to one, that is the second word.
 #[derive(Clone, Copy, Debug, PartialEq, Eq)]
 pub enum LiveCommand {
@@ -18,6 +21,8 @@ pub enum LiveCommand {
     Crew { workers: u32 },
     /// So many connections are served in turn, each by so many workers.
     Serve { workers: u32, connections: u32 },
+    /// Connections are served in turn, each by so many workers, and a fault of one doesn't end the run.
+    Host { workers: u32 },
     /// Frames go between two links, where one address lies at the right and another at the left. The links are at the paths
     /// of the second and the third word.
     Bridge { at_right: u32, at_left: u32 },
@@ -33,6 +38,7 @@ impl LiveCommand {
     {
         match words {
             [word, workers] => of_two(word.as_str(), workers.as_str()),
+            [word, path, workers] => of_three(word.as_str(), path.as_str(), workers.as_str()),
             [word, path, first, second] => of_four(
                 word.as_str(),
                 path.as_str(),
@@ -63,6 +69,20 @@ fn of_two(word: &str, workers: &str) -> Option<LiveCommand>
         return None;
     }
     Some(LiveCommand::Crew { workers })
+}
+
+fn of_three(word: &str, path: &str, workers: &str) -> Option<LiveCommand>
+    ensures some { IfSome result (λ command. IsLiveCommand (word.now ∷ path.now ∷ workers.now ∷ []) command) }
+    ensures only { (command : LiveCommand) → IsLiveCommand (word.now ∷ path.now ∷ workers.now ∷ []) command → result ≡ Some command }
+{
+    if word != "host" || path.is_empty() {
+        return None;
+    }
+    let workers = small_number(workers.as_bytes())?;
+    if !is_crew_size(workers) {
+        return None;
+    }
+    Some(LiveCommand::Host { workers })
 }
 
 fn of_four(word: &str, path: &str, first: &str, second: &str) -> Option<LiveCommand>

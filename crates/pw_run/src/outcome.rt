@@ -33,7 +33,7 @@ pub enum Outcome {
 }
 
 impl Outcome {
-    ghost use Rattle.pw_run.specs.Outcome.{code_of, outcome_for, outcome_of};
+    ghost use Rattle.pw_run.specs.Outcome.{code_of, hosted_outcome, outcome_for, outcome_of};
 
     /// The exit status of the program.
     pub fn code(self) -> u8
@@ -78,6 +78,18 @@ impl Outcome {
             Why::InputLimit => Outcome::InputLimit,
             Why::JournalLimit => Outcome::JournalLimit,
             Why::Memory => Outcome::NoMemory,
+        }
+    }
+
+    /// The outcome of a run of `host` whose connection ended for this reason, and whose lines were written whole.
+    pub(crate) fn of_hosted(why: Why) -> Outcome
+        ensures { result ≡ hosted_outcome why }
+    {
+        match why {
+            Why::Store | Why::Memory => Outcome::of_session(why),
+            Why::Settled | Why::Source | Why::Sink | Why::InputLimit | Why::JournalLimit => {
+                Outcome::Done
+            }
         }
     }
 }

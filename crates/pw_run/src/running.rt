@@ -18,7 +18,8 @@ use crate::bridge::bridge;
 use crate::client::client;
 use crate::crew::crew;
 use crate::serve::serve;
-use crate::{LiveCommand, run_recorded};
+use crate::way::Way;
+use crate::{LiveCommand, MAX_HOSTED, run_recorded};
 use link_io::{Clock, Linker, Sink, Source, Store};
 use rpc_crew::Gate;
 use std::alloc::Global;
@@ -30,7 +31,8 @@ use std::thread::Threads;
 /// [`run_recorded`]; the others work on threads, and may wait. The gate stands at each run of a handler of theirs.
 ///
 /// `crew` serves the input as `replay` does, by a number of workers, and writes a report by call. `serve` listens at a path and
-/// serves a number of connections in turn, each over the resources that the store lists then. `bridge` connects to two paths and
+/// serves a number of connections in turn, each over the resources that the store lists then; `host` does so without a number, and
+/// what ends a connection for its own link or a limit doesn't end the run. `bridge` connects to two paths and
 /// lets frames go between the two links by their address. `get`, `put` and `watch` connect to a path, read a resource into the store,
 /// write one out of it, or watch a stream of messages. The answer is the program's exit status, as
 /// [`Outcome::code`](crate::Outcome::code) tells it.
@@ -112,8 +114,23 @@ pub fn run<
             rt,
             alloc,
             path_of(words),
+            Way::Serve,
             workers,
             connections,
+            output,
+            store,
+            net,
+            clock,
+            gate,
+        )
+        .code(),
+        Some(LiveCommand::Host { workers }) => serve(
+            rt,
+            alloc,
+            path_of(words),
+            Way::Host,
+            workers,
+            MAX_HOSTED,
             output,
             store,
             net,

@@ -1,28 +1,30 @@
-//! The command `serve`: connections are served in turn, each on threads.
-ghost use Rattle.std.specs.Prelude.{◌≡◌, ◌≢◌, ℕ, ◌≤◌, ◌⊎◌, true, false, List, Option};
+//! The commands `serve` and `host`: connections are served in turn, each on threads.
+ghost use Rattle.std.specs.Prelude.{◌≡◌, ◌≢◌, ℕ, ◌≤◌, ◌⊎◌, true, false, List, Option, IfOk, OnErr};
 ghost use Rattle.link_io.specs.Causes.{Rose};
 ghost use Rattle.link_io.specs.declared.why.Why.TheVariants.{Source as Read, Sink as Link, Store as Depot};
 ghost use Rattle.run_report.specs.ConnectionReport.{connection_report};
 ghost use Rattle.pw_run.specs.declared.outcome.Outcome.TheVariants.{BadWords, LinkFault, NoMemory, SinkFault, SourceFault, StoreFault};
 ghost use Rattle.pw_run.specs.Devices.{devices};
-ghost use Rattle.pw_run.specs.LinkServed.{WritesServed};
+ghost use Rattle.pw_run.specs.LinkServed.{WritesEnded};
 ghost use Rattle.pw_run.specs.LiveCommand.{IsCrewSize};
 ghost use Rattle.pw_run.specs.Outcome.{IsSilent};
-ghost use Rattle.pw_run.specs.Serve.{DidServe, ServesConnection, ServesInTurn};
+ghost use Rattle.pw_run.specs.Serve.{KeepsMoment, ServesAt, ServesBy, ServesConnection, ServesInTurn, outcome_by};
 
 use crate::Outcome;
+use crate::hosted::host_link;
 use crate::link_served::serve_link;
-use crate::served_text::write_served;
+use crate::served_text::write_ended;
+use crate::way::Way;
 use demo_services::DemoCall;
-use link_io::{Clock, Linker, Sink, Store, Why};
+use link_io::{Clock, Linker, Sink, Source, Store, Why};
 use rpc_crew::{Gate, Served};
 use run_report::connection_text;
-use std::alloc::Global;
+use std::alloc::{AllocError, Global};
 use std::sync::Wait;
 use std::thread::Threads;
 
-/// Listens at a path, and serves so many connections in turn, each by so many workers. The first that doesn't end well, or can't be
-/// accepted, ends the run.
+/// Listens at a path, and serves so many connections in turn, each by so many workers. The first that ends the run, or can't be
+/// accepted, is the last.
 pub(crate) fn serve<
     R: Threads + Wait + Sync,
     O: Sink,
@@ -34,6 +36,7 @@ pub(crate) fn serve<
     rt: &R,
     alloc: Global,
     path: &str,
+    way: Way,
     workers: u32,
     connections: u32,
     output: &mut O,
@@ -45,7 +48,7 @@ pub(crate) fn serve<
     requires workers { IsCrewSize workers }
     requires open { O.finished output.old ≡ false }
     ensures words { result ≢ BadWords }
-    ensures did { (left : Option (List ℕ)) → DidServe workers connections
+    ensures did { (left : Option (List ℕ)) → ServesAt way workers connections
         (devices left (O.written output.old) (O.faults output.old) (S.holds store.old) (N.links net.old) (C.last clock.old))
         (devices left (O.written output.new) (O.faults output.new) (S.holds store.new) (N.links net.new) (C.last clock.new)) result }
     ensures sink { result ≡ SinkFault →
@@ -62,6 +65,7 @@ pub(crate) fn serve<
         Ok(()) => serve_all(
             rt,
             alloc,
+            way,
             workers,
             connections,
             output,
@@ -84,6 +88,7 @@ fn serve_all<
 >(
     rt: &R,
     alloc: Global,
+    way: Way,
     workers: u32,
     connections: u32,
     output: &mut O,
@@ -96,7 +101,7 @@ fn serve_all<
     requires open { O.finished output.old ≡ false }
     requires listens { (N.links net.old).listens ≡ true }
     ensures words { result ≢ BadWords }
-    ensures serves { (left : Option (List ℕ)) → ServesInTurn workers connections
+    ensures serves { (left : Option (List ℕ)) → ServesInTurn way workers connections
         (devices left (O.written output.old) (O.faults output.old) (S.holds store.old) (N.links net.old) (C.last clock.old))
         (devices left (O.written output.new) (O.faults output.new) (S.holds store.new) (N.links net.new) (C.last clock.new)) result }
     ensures source { result ≡ SourceFault → Rose (N.links net.old).in_faults (N.links net.new).in_faults }
@@ -109,7 +114,9 @@ fn serve_all<
     ensures store_later { S.faults store.old ≤ S.faults store.new }
 {
     for number in 1..=connections {
-        match serve_next(rt, alloc, workers, number, output, store, net, clock, gate) {
+        match serve_next(
+            rt, alloc, way, workers, number, output, store, net, clock, gate,
+        ) {
             Outcome::Done => {}
             outcome => return outcome,
         }
@@ -128,6 +135,7 @@ fn serve_next<
 >(
     rt: &R,
     alloc: Global,
+    way: Way,
     workers: u32,
     number: u32,
     output: &mut O,
@@ -140,7 +148,7 @@ fn serve_next<
     requires open { O.finished output.old ≡ false }
     requires listens { (N.links net.old).listens ≡ true }
     ensures words { result ≢ BadWords }
-    ensures did { (left : Option (List ℕ)) → ServesConnection workers number
+    ensures did { (left : Option (List ℕ)) → ServesConnection way workers number
         (devices left (O.written output.old) (O.faults output.old) (S.holds store.old) (N.links net.old) (C.last clock.old))
         (devices left (O.written output.new) (O.faults output.new) (S.holds store.new) (N.links net.new) (C.last clock.new)) result }
     ensures source { result ≡ SourceFault → Rose (N.links net.old).in_faults (N.links net.new).in_faults }
@@ -157,9 +165,10 @@ fn serve_next<
     let Ok((mut link_in, mut link_out)) = net.accept() else {
         return Outcome::LinkFault;
     };
-    let served = serve_link(
+    let served = serve_by(
         rt,
         alloc,
+        way,
         workers,
         &mut link_in,
         &mut link_out,
@@ -170,19 +179,58 @@ fn serve_next<
     net.back(link_in, link_out);
     match served {
         Err(_) => Outcome::NoMemory,
-        Ok(served) => write_lines(alloc, number, &served, output),
+        Ok(served) => write_lines(alloc, way, number, &served, output),
+    }
+}
+
+// Serves a link.
+fn serve_by<
+    R: Threads + Wait + Sync,
+    I: Source + Send,
+    O: Sink + Send,
+    S: Store + Send,
+    C: Clock + Send,
+    G: Gate + Sync,
+>(
+    rt: &R,
+    alloc: Global,
+    way: Way,
+    workers: u32,
+    link_in: &mut I,
+    link_out: &mut O,
+    store: &mut S,
+    clock: &mut C,
+    gate: &G,
+) -> Result<Served<DemoCall>, AllocError>
+    requires workers { IsCrewSize workers }
+    requires open { O.finished link_out.old ≡ false }
+    ensures serves { IfOk result (λ s. ServesBy way workers
+        (record { left = I.left link_in.old; sent = O.written link_out.old; held = S.holds store.old; moment = C.last clock.old })
+        (record { left = I.left link_in.new; sent = O.written link_out.new; held = S.holds store.new; moment = C.last clock.new })
+        s.why s.counts s.calls s.items.items) }
+    ensures source { IfOk result (λ s. s.why ≡ Read → Rose (I.faults link_in.old) (I.faults link_in.new)) }
+    ensures sink { IfOk result (λ s. s.why ≡ Link → Rose (O.faults link_out.old) (O.faults link_out.new)) }
+    ensures store { IfOk result (λ s. s.why ≡ Depot → Rose (S.faults store.old) (S.faults store.new)) }
+    ensures later { (I.faults link_in.old ≤ I.faults link_in.new) × (S.faults store.old ≤ S.faults store.new) }
+    ensures untouched { OnErr result ((link_in.new ≡ link_in.old) × (link_out.new ≡ link_out.old) × (S.holds store.new ≡ S.holds store.old)) }
+    ensures moment { OnErr result (KeepsMoment way (C.last clock.old) (C.last clock.new)) }
+{
+    match way {
+        Way::Serve => serve_link(rt, alloc, workers, link_in, link_out, store, clock, gate),
+        Way::Host => host_link(rt, alloc, workers, link_in, link_out, store, clock, gate),
     }
 }
 
 // Writes the lines of a connection.
 fn write_lines<O: Sink>(
     alloc: Global,
+    way: Way,
     number: u32,
     served: &Served<DemoCall>,
     output: &mut O,
 ) -> Outcome
     requires open { O.finished output.old ≡ false }
-    ensures writes { WritesServed (connection_report number served.now.calls served.now.counts served.now.why) served.now.why
+    ensures writes { WritesEnded (connection_report number served.now.calls served.now.counts served.now.why) served.now.why (outcome_by way served.now.why)
         (O.written output.old) (O.written output.new) (O.faults output.old) (O.faults output.new) result }
     ensures words { result ≢ BadWords }
     ensures link { result ≢ LinkFault }
@@ -198,6 +246,6 @@ fn write_lines<O: Sink>(
     }
     match connection_text(alloc, number, served.counts, &served.calls, served.why) {
         Err(_) => Outcome::NoMemory,
-        Ok(text) => write_served(output, text.as_str(), served.why),
+        Ok(text) => write_ended(output, text.as_str(), way.outcome(served.why)),
     }
 }

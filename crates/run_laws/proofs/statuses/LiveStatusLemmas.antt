@@ -23,17 +23,19 @@ use Rattle.live_client.specs.declared.ask.LiveAsk.{LiveAsk}
 use Rattle.run_report.specs.declared.live_report.LiveLine.{LiveLine}
 use Rattle.run_report.specs.LiveReport.{live_line, live_report}
 use Rattle.pw_run.specs.declared.client_command.ClientCommand.{ClientCommand}
-use Rattle.pw_run.specs.declared.live_command.LiveCommand.TheVariants.{Crew, Serve, Bridge, Client}
+use Rattle.pw_run.specs.declared.live_command.LiveCommand.TheVariants.{Crew, Serve, Host, Bridge, Client}
+use Rattle.pw_run.specs.declared.live_command.TheConstants.{MAX_HOSTED}
 use Rattle.pw_run.specs.declared.outcome.Outcome.{Outcome}
 use Rattle.pw_run.specs.declared.outcome.Outcome.TheVariants.{Done, NoMemory, BadWords, SourceFault, SinkFault, StoreFault, LinkFault, BadLine, InputLimit, JournalLimit, FrameLimit, NotOkay}
+use Rattle.pw_run.specs.declared.way.Way.TheVariants as way
 use Rattle.pw_run.specs.Bridge.{DidBridge}
 use Rattle.pw_run.specs.Client.{AsksOverLink, DidClient, DoesAsked, DoesFoundOrNothing, RunsClient, WritesClient, WritesText, asked, client_outcome, ended_outcome, told_of}
 use Rattle.pw_run.specs.Crew.{DidCrew, RunsCrew}
 use Rattle.pw_run.specs.Devices.{Devices, LinkDevices, with_link}
-use Rattle.pw_run.specs.LinkServed.{FindsNoShelf, ServesLink, ServesListed, WritesServed}
+use Rattle.pw_run.specs.LinkServed.{FindsNoShelf, ServesLink, ServesListed, WritesEnded, WritesServed}
 use Rattle.pw_run.specs.Live.{DidLive}
-use Rattle.pw_run.specs.Outcome.{code_of, outcome_for}
-use Rattle.pw_run.specs.Serve.{DidServe, RunsConnection, ServesAll, ServesConnection, StopsServing}
+use Rattle.pw_run.specs.Outcome.{code_of, hosted_outcome, outcome_for}
+use Rattle.pw_run.specs.Serve.{DidHost, DidServe, RunsConnection, ServesAll, ServesConnection, StopsServing}
 use Rattle.pw_run.specs.Writes.{Writes, WritesOrFails}
 use Rattle.run_laws.specs.statuses.ClientEnds.{Asks, EndedOkay}
 use Rattle.run_laws.specs.statuses.Statuses.{AreShort, AreShortUpTo, AsksNothing, BridgeHadRoom, ClientFills, ClientHadRoom, CrewFills, CrewHadRoom, HasShortLinks, IsFull, IsWell, LiveEndWell, ServeFills, ServeHadRoom}
@@ -50,20 +52,20 @@ told_so status outcome is (inl so) = inl (well status outcome is so)
 told_so status outcome is (inr full) = inr (is ∙ ap code_of full.0, full.1)
 
 -- what was written of what was served, where there was memory
-wrote : (text : List ℕ) (why : Why) (old new : Option (List ℕ)) (failed_old failed_new : ℕ) (outcome : Outcome) → WritesServed text why old new failed_old failed_new outcome
-    → (outcome ≡ NoMemory) ⊎ ((why ≢ reason.Memory) × Writes old new text (outcome_for why) outcome)
-wrote text why old new failed_old failed_new NoMemory writes = inl refl
-wrote text why old new failed_old failed_new Done writes = inr (writes.0, only_writes _ _ _ _ _ _ _ writes.1)
-wrote text why old new failed_old failed_new BadWords writes = inr (writes.0, only_writes _ _ _ _ _ _ _ writes.1)
-wrote text why old new failed_old failed_new SourceFault writes = inr (writes.0, only_writes _ _ _ _ _ _ _ writes.1)
-wrote text why old new failed_old failed_new SinkFault writes = inr (writes.0, only_writes _ _ _ _ _ _ _ writes.1)
-wrote text why old new failed_old failed_new StoreFault writes = inr (writes.0, only_writes _ _ _ _ _ _ _ writes.1)
-wrote text why old new failed_old failed_new LinkFault writes = inr (writes.0, only_writes _ _ _ _ _ _ _ writes.1)
-wrote text why old new failed_old failed_new BadLine writes = inr (writes.0, only_writes _ _ _ _ _ _ _ writes.1)
-wrote text why old new failed_old failed_new InputLimit writes = inr (writes.0, only_writes _ _ _ _ _ _ _ writes.1)
-wrote text why old new failed_old failed_new JournalLimit writes = inr (writes.0, only_writes _ _ _ _ _ _ _ writes.1)
-wrote text why old new failed_old failed_new FrameLimit writes = inr (writes.0, only_writes _ _ _ _ _ _ _ writes.1)
-wrote text why old new failed_old failed_new NotOkay writes = inr (writes.0, only_writes _ _ _ _ _ _ _ writes.1)
+wrote : (text : List ℕ) (why : Why) (own : Outcome) (old new : Option (List ℕ)) (failed_old failed_new : ℕ) (outcome : Outcome)
+    → WritesEnded text why own old new failed_old failed_new outcome → (outcome ≡ NoMemory) ⊎ ((why ≢ reason.Memory) × Writes old new text own outcome)
+wrote text why own old new failed_old failed_new NoMemory writes = inl refl
+wrote text why own old new failed_old failed_new Done writes = inr (writes.0, only_writes _ _ _ _ _ _ _ writes.1)
+wrote text why own old new failed_old failed_new BadWords writes = inr (writes.0, only_writes _ _ _ _ _ _ _ writes.1)
+wrote text why own old new failed_old failed_new SourceFault writes = inr (writes.0, only_writes _ _ _ _ _ _ _ writes.1)
+wrote text why own old new failed_old failed_new SinkFault writes = inr (writes.0, only_writes _ _ _ _ _ _ _ writes.1)
+wrote text why own old new failed_old failed_new StoreFault writes = inr (writes.0, only_writes _ _ _ _ _ _ _ writes.1)
+wrote text why own old new failed_old failed_new LinkFault writes = inr (writes.0, only_writes _ _ _ _ _ _ _ writes.1)
+wrote text why own old new failed_old failed_new BadLine writes = inr (writes.0, only_writes _ _ _ _ _ _ _ writes.1)
+wrote text why own old new failed_old failed_new InputLimit writes = inr (writes.0, only_writes _ _ _ _ _ _ _ writes.1)
+wrote text why own old new failed_old failed_new JournalLimit writes = inr (writes.0, only_writes _ _ _ _ _ _ _ writes.1)
+wrote text why own old new failed_old failed_new FrameLimit writes = inr (writes.0, only_writes _ _ _ _ _ _ _ writes.1)
+wrote text why own old new failed_old failed_new NotOkay writes = inr (writes.0, only_writes _ _ _ _ _ _ _ writes.1)
 
 -- fewer bytes than the limit were taken from known ones
 not_taken : (left left_new : Option (List ℕ)) (input bytes : List ℕ) (limit : ℕ) → left ≡ Some input → Consumes left left_new bytes → length bytes ≡ limit → length input < limit → ⊥
@@ -95,7 +97,7 @@ module _ (workers : ℕ) (before after : LinkDevices) (input : List ℕ) (left :
   link_well : (why : Why) (counts : Counts) (table : Table) (items : List Item) (text : List ℕ) (old new : Option (List ℕ)) (failed_old failed_new : ℕ) (outcome : Outcome)
       → ServesLink workers before after why counts table items → WritesServed text why old new failed_old failed_new outcome → Blameless outcome
       → SoOrFull outcome (why ≡ reason.JournalLimit)
-  link_well why counts table items text old new failed_old failed_new outcome serves writes none = at (wrote text why old new failed_old failed_new outcome writes)
+  link_well why counts table items text old new failed_old failed_new outcome serves writes none = at (wrote text why (outcome_for why) old new failed_old failed_new outcome writes)
     where
       at : (outcome ≡ NoMemory) ⊎ ((why ≢ reason.Memory) × Writes old new text (outcome_for why) outcome) → SoOrFull outcome (why ≡ reason.JournalLimit)
       at (inl memory) = inl (inr memory)
@@ -172,16 +174,16 @@ handed count old new left sent short hands = at short.coming short.are short.sho
 
 -- the session of a connection was halted, since its journal was full
 record FillsOne (workers number : ℕ) (before after : Devices) : Type 0 where
-  pub run : RunsConnection workers number before after JournalLimit
+  pub run : RunsConnection way.Serve workers number before after JournalLimit
   pub full : run.why ≡ reason.JournalLimit
 
-full_one : (workers number : ℕ) (before after : Devices) (outcome : Outcome) (run : RunsConnection workers number before after outcome) → outcome ≡ JournalLimit
+full_one : (workers number : ℕ) (before after : Devices) (outcome : Outcome) (run : RunsConnection way.Serve workers number before after outcome) → outcome ≡ JournalLimit
     → run.why ≡ reason.JournalLimit → FillsOne workers number before after
 full_one workers number before after outcome run is full =
-    subst (λ o. (r : RunsConnection workers number before after o) → r.why ≡ reason.JournalLimit → FillsOne workers number before after) (sym is)
+    subst (λ o. (r : RunsConnection way.Serve workers number before after o) → r.why ≡ reason.JournalLimit → FillsOne workers number before after) (sym is)
     (λ r why. record { run = r; full = why }) run full
 
-connection_well : (workers number : ℕ) (before after : Devices) (outcome : Outcome) → Short 1 before.links → ServesConnection workers number before after outcome
+connection_well : (workers number : ℕ) (before after : Devices) (outcome : Outcome) → Short 1 before.links → ServesConnection way.Serve workers number before after outcome
     → Blameless outcome → SoOrFull outcome (FillsOne workers number before after)
 connection_well workers number before after outcome short (inr (inl given)) none = inl (inr given.memory)
 connection_well workers number before after outcome short (inr (inr fails)) none = absurd (none.linker fails.fault)
@@ -194,7 +196,7 @@ connection_well workers number before after outcome short (inl run) none =
     at (inl so) = inl so
     at (inr full) = inr (full.0, full_one workers number before after outcome run full.0 full.1)
 
-still_short : (workers number count : ℕ) (before after : Devices) → Short (suc count) before.links → ServesConnection workers number before after Done → Short count after.links
+still_short : (workers number count : ℕ) (before after : Devices) → Short (suc count) before.links → ServesConnection way.Serve workers number before after Done → Short count after.links
 still_short workers number count before after short (inl run) =
     let link = handed count before.links run.lent.between run.left_old run.sent_old short run.lent.handed in
     record { coming = link.rest.coming; are = run.lent.taken.coming ∙ link.rest.are; short = link.rest.short }
@@ -207,7 +209,7 @@ still_short workers number count before after short (inr (inr fails)) = absurd (
     not_link : Done ≡ LinkFault → ⊥
     not_link is = cc
 
-all_short : (workers count rest : ℕ) (before after : Devices) → Short (count + rest) before.links → ServesAll workers count before after → Short rest after.links
+all_short : (workers count rest : ℕ) (before after : Devices) → Short (count + rest) before.links → ServesAll way.Serve workers count before after → Short rest after.links
 all_short workers zero rest before after short same =
     let alone : zero + rest ≡ rest = omega arith in subst (λ d. Short rest d.links) (sym same) (subst (λ n. Short n before.links) alone short)
 all_short workers (suc count) rest before after short serves =
@@ -232,7 +234,7 @@ serve_well workers connections before after outcome short (inl path) none = at p
     listening : Short connections path.listening.links
     listening = record { coming = short.coming; are = path.listened.kept.coming ∙ short.are; short = short.short }
 
-    at : ((outcome ≡ Done) × ServesAll workers connections path.listening after) ⊎ StopsServing workers connections path.listening after outcome
+    at : ((outcome ≡ Done) × ServesAll way.Serve workers connections path.listening after) ⊎ StopsServing way.Serve workers connections path.listening after outcome
         → SoOrFull outcome (ServeFills workers connections before after)
     at (inl all) = inl (inl all.0)
     at (inr stops) = last (connection_well workers (suc stops.served) stops.between after outcome one stops.last none)
@@ -262,6 +264,32 @@ serve_well workers connections before after outcome short (inl path) none = at p
           },
         )
 
+-- ---- host
+
+-- where a connection doesn't blame the store and memory isn't wanting, the run goes on
+goes_on : (why : Why) (outcome : Outcome) → why ≢ reason.Memory → outcome ≡ hosted_outcome why → Blameless outcome → EndsSo outcome
+goes_on reason.Store outcome other is none = absurd (none.store is)
+goes_on reason.Memory outcome other is none = absurd (other refl)
+goes_on _ outcome other is none = inl is
+
+hosted_well : (workers number : ℕ) (before after : Devices) (outcome : Outcome) → ServesConnection way.Host workers number before after outcome → Blameless outcome → EndsSo outcome
+hosted_well workers number before after outcome (inr (inl given)) none = inr given.memory
+hosted_well workers number before after outcome (inr (inr fails)) none = absurd (none.linker fails.fault)
+hosted_well workers number before after outcome (inl run) none =
+    at (wrote _ run.why (hosted_outcome run.why) before.written after.written before.failed after.failed outcome run.writes)
+  where
+    at : {text : List ℕ} → (outcome ≡ NoMemory) ⊎ ((run.why ≢ reason.Memory) × Writes before.written after.written text (hosted_outcome run.why) outcome) → EndsSo outcome
+    at (inl memory) = inr memory
+    at {text} (inr did) = goes_on run.why outcome did.0 (own_outcome before.written after.written text (hosted_outcome run.why) outcome none.sink did.1) none
+
+host_well : (workers : ℕ) (before after : Devices) (outcome : Outcome) → DidHost workers before after outcome → Blameless outcome → EndsSo outcome
+host_well workers before after outcome (inr fails) none = absurd (none.linker fails.fault)
+host_well workers before after outcome (inl path) none = at path.serves
+  where
+    at : ((outcome ≡ Done) × ServesAll way.Host workers MAX_HOSTED path.listening after) ⊎ StopsServing way.Host workers MAX_HOSTED path.listening after outcome → EndsSo outcome
+    at (inl all) = inl all.0
+    at (inr stops) = hosted_well workers (suc stops.served) stops.between after outcome stops.last none
+
 -- of these links the first was handed out, and gave so few
 record ReadOne (links : List Ends) (new : Links) : Type 0 where
   pub pair : Ends
@@ -270,7 +298,7 @@ record ReadOne (links : List Ends) (new : Links) : Type 0 where
   pub short : length pair.0 < INPUT_LIMIT
   pub coming : new.coming ≡ Some rest
 
-connection_read : (workers number : ℕ) (before after : Devices) (links : List Ends) → before.links.coming ≡ Some links → ServesConnection workers number before after Done
+connection_read : (workers number : ℕ) (before after : Devices) (links : List Ends) → before.links.coming ≡ Some links → ServesConnection way.Serve workers number before after Done
     → ReadOne links after.links
 connection_read workers number before after links are (inl run) = at links are
   where
@@ -312,7 +340,7 @@ one_more : (pair : Ends) (first : List Ends) → AreShort first → length pair.
 one_more pair [] all short = (short, tt)
 one_more pair (x ∷ first) all short = (all.0, one_more pair first all.1 short)
 
-all_read : (workers count : ℕ) (before after : Devices) (links : List Ends) → before.links.coming ≡ Some links → ServesAll workers count before after → ReadSo count links after.links
+all_read : (workers count : ℕ) (before after : Devices) (links : List Ends) → before.links.coming ≡ Some links → ServesAll way.Serve workers count before after → ReadSo count links after.links
 all_read workers zero before after links are same = record {
   first = [];
   others = links;
@@ -341,7 +369,7 @@ serve_read workers connections before after links are (inr fails) = absurd (not_
     not_link is = cc
 serve_read workers connections before after links are (inl path) = at path.serves
   where
-    at : ((Done ≡ Done) × ServesAll workers connections path.listening after) ⊎ StopsServing workers connections path.listening after Done → AreShortUpTo connections links
+    at : ((Done ≡ Done) × ServesAll way.Serve workers connections path.listening after) ⊎ StopsServing way.Serve workers connections path.listening after Done → AreShortUpTo connections links
     at (inl all) =
         let so = all_read workers connections path.listening after links (path.listened.kept.coming ∙ are) all.1 in
         record { first = so.first; others = so.others; split = so.split; many = so.many; short = so.short }
@@ -366,7 +394,7 @@ none_limited reason.Memory right l r is = cc is
 
 bridge_well : (at_right at_left : ℕ) (before after : Devices) (outcome : Outcome) → Short 2 before.links → DidBridge at_right at_left before after outcome → Blameless outcome → EndsSo outcome
 bridge_well at_right at_left before after outcome short (inr fails) none = absurd (none.linker fails.fault)
-bridge_well at_right at_left before after outcome short (inl run) none = at (wrote (bridge_text run.done) (reason_of run.done) before.written after.written before.failed after.failed outcome run.writes)
+bridge_well at_right at_left before after outcome short (inl run) none = at (wrote (bridge_text run.done) (reason_of run.done) (outcome_for (reason_of run.done)) before.written after.written before.failed after.failed outcome run.writes)
   where
     few : reason_of run.done ≢ reason.InputLimit
     few =
@@ -573,6 +601,8 @@ live_end_well (Crew workers) status before after ends none inputs =
 live_end_well (Serve workers connections) status before after ends none inputs =
     told_so status ends.0 ends.1
     (serve_well workers connections before after ends.0 (short_links connections before inputs) ends.2 (blameless status ends.0 ends.1 none))
+live_end_well (Host workers) status before after ends none inputs =
+    well status ends.0 ends.1 (host_well workers before after ends.0 ends.2 (blameless status ends.0 ends.1 none))
 live_end_well (Bridge at_right at_left) status before after ends none inputs =
     well status ends.0 ends.1
     (bridge_well at_right at_left before after ends.0 (short_links 2 before inputs) ends.2 (blameless status ends.0 ends.1 none))

@@ -17,10 +17,11 @@ use Rattle.pw_run.specs.declared.client_command.ClientCommand.{ClientCommand}
 use Rattle.pw_run.specs.declared.command.Command.{Command}
 use Rattle.pw_run.specs.declared.command.Command.TheVariants.{Replay, Text, Load, Dump}
 use Rattle.pw_run.specs.declared.live_command.LiveCommand.{LiveCommand}
-use Rattle.pw_run.specs.declared.live_command.LiveCommand.TheVariants.{Crew, Serve, Bridge, Client}
+use Rattle.pw_run.specs.declared.live_command.LiveCommand.TheVariants.{Crew, Serve, Host, Bridge, Client}
 use Rattle.pw_run.specs.declared.outcome.Outcome.TheVariants as outcome
 use Rattle.pw_run.specs.declared.text_command.TextCommand.{TextCommand}
 use Rattle.pw_run.specs.declared.told.Found.TheVariants.{BadLine, PastFrames, PastJournal}
+use Rattle.pw_run.specs.declared.way.Way.TheVariants as way
 use Rattle.pw_run.specs.Client.{RunsClient, asked}
 use Rattle.pw_run.specs.Crew.{RunsCrew}
 use Rattle.pw_run.specs.Devices.{Devices}
@@ -119,8 +120,8 @@ pub record ServeFills (workers connections : ℕ) (before after : Devices) : Typ
   pub served : ℕ
   pub few : served < connections
   pub between : Devices
-  pub first : ServesAll workers served listening between
-  pub run : RunsConnection workers (suc served) between after outcome.JournalLimit
+  pub first : ServesAll way.Serve workers served listening between
+  pub run : RunsConnection way.Serve workers (suc served) between after outcome.JournalLimit
   pub full : run.why ≡ JournalLimit
 
 -- So was a client.
@@ -134,11 +135,12 @@ pub record ClientFills (command : ClientCommand) (before after : Devices) : Type
 abbrev pub IsFull : ℕ → Type 0
 IsFull status = status ≡ code_of outcome.JournalLimit
 
--- How a command on threads ends where no device fails and no input is too long. What a client was asked may also end with another
+-- How a command on threads ends where no device fails and no input is too long. A limit of a connection doesn't end `host`. What a client was asked may also end with another
 -- status than OK.
 abbrev pub EndsLive : LiveCommand → Devices → Devices → ℕ → Type 0
 EndsLive (Crew workers) before after status = IsWell status ⊎ (IsFull status × CrewFills workers before after)
 EndsLive (Serve workers connections) before after status = IsWell status ⊎ (IsFull status × ServeFills workers connections before after)
+EndsLive (Host workers) before after status = IsWell status
 EndsLive (Bridge at_right at_left) before after status = IsWell status
 EndsLive (Client command) before after status =
     (IsWell status ⊎ (status ≡ code_of outcome.NotOkay)) ⊎ (IsFull status × ClientFills command before after)
@@ -158,10 +160,11 @@ pub record AsksNothing (command : ClientCommand) (before : Devices) : Type 0 whe
   pub line : LiveLine
   pub unfit : asked command (shelf_of st) ≡ Err line
 
--- the inputs that a command on threads may read are known, and shorter than the limit
+-- the inputs that a command on threads may read are known, and shorter than the limit; those of `host` need not be
 abbrev pub HasShortInputs : LiveCommand → Devices → Type 0
 HasShortInputs (Crew workers) before = (input : List ℕ) × (before.left ≡ Some input) × (length input < INPUT_LIMIT)
 HasShortInputs (Serve workers connections) before = HasShortLinks connections before
+HasShortInputs (Host workers) before = Unit {0}
 HasShortInputs (Bridge at_right at_left) before = HasShortLinks 2 before
 HasShortInputs (Client command) before = HasShortLinks 1 before ⊎ AsksNothing command before
 

@@ -9,11 +9,11 @@ returns-in_default g c =
     let before = c.loop-number.invariant in
     let next = c.serve_next.ensures in
     let number = c.loop-number.number in
-    let on = served_on c.args.workers (number - 1) _ _ (before.all None) in
+    let on = served_on c.args.way c.args.workers (number - 1) _ _ (before.all None) in
     record {
       words = next.words;
       serves = λ left.
-          stopped_at c.args.workers c.args.connections number _ _ _ c.serve_next.result before.begun (omega (arith, c.loop-number-test.true))
+          stopped_at c.args.way c.args.workers c.args.connections number _ _ _ c.serve_next.result before.begun (omega (arith, c.loop-number-test.true))
           (before.all left) (next.did left) c.in_default.not-Done;
       source = λ is.
           rose_on (links c.args.net.now).in_faults (links c.loop-number.net).in_faults (links c.serve_next.new.net).in_faults on.source (next.source is);
@@ -39,7 +39,7 @@ loop-number-preserved g c =
     record {
       begun = omega arith;
       within = omega (arith, c.loop-number-test.true);
-      all = λ left. one_more c.args.workers c.loop-number.number _ _ _ before.begun (before.all left) (c.in-Done.ensures.did left);
+      all = λ left. one_more c.args.way c.args.workers c.loop-number.number _ _ _ before.begun (before.all left) (c.in-Done.ensures.did left);
       unfinished = next.open;
       listens = next.listens;
       linker_later = omega (arith, before.linker_later, next.linker_later);
@@ -53,6 +53,6 @@ returns-in-Done-clause-serves g c left =
     let last : c.loop-number.number + 1 ≡ c.args.connections + 1 = omega (arith, c.loop-number-test.true) in
     inl (
       refl,
-      all_served c.args.workers c.args.connections (c.loop-number.number + 1) _ _ last
-          (one_more c.args.workers c.loop-number.number _ _ _ before.begun (before.all left) (c.in-Done.ensures.did left)),
+      all_served c.args.way c.args.workers c.args.connections (c.loop-number.number + 1) _ _ last
+          (one_more c.args.way c.args.workers c.loop-number.number _ _ _ before.begun (before.all left) (c.in-Done.ensures.did left)),
     )

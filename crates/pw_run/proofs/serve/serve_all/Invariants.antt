@@ -7,7 +7,7 @@ abbrev pub invariant-loop-number : goal.invariant-loop-number
 invariant-loop-number g l = record {
   begun : 1 ≤ l.number;
   within : l.number ≤ l.connections + 1;
-  all : (left : Option (List ℕ)) → ServesAll l.workers (l.number - 1)
+  all : (left : Option (List ℕ)) → ServesAll l.way l.workers (l.number - 1)
       (devices left (g.O.Sink.written l.fn.output) (g.O.Sink.faults l.fn.output) (g.S.Store.holds l.fn.store) (g.N.Linker.links l.fn.net) (g.C.Clock.last l.fn.clock))
       (devices left (g.O.Sink.written l.output) (g.O.Sink.faults l.output) (g.S.Store.holds l.store) (g.N.Linker.links l.net) (g.C.Clock.last l.clock));
   unfinished : g.O.Sink.finished l.output ≡ false;
