@@ -6,15 +6,18 @@ use Rattle.std.proofs.lemmas.List.Sums.{fold-append}
 use Rattle.std.specs.Prelude.{filter, option_map}
 use Rattle.std.specs.declared.cmp.Ordering.{Ordering}
 use Rattle.std.specs.declared.cmp.Ordering.TheVariants.{Less, Equal, Greater}
-use Rattle.std.specs.Ordering.{match_ordering}
+use Rattle.std.specs.Ordering.{is_eq, match_ordering, nat_cmp, ordering_then}
+use Rattle.std.specs.Cmp.{nat_cmp_is}
 use Rattle.std.specs.Map.{keys_of, lookup, remove_entry}
 use Rattle.std.specs.Set.{remove_key}
 use Rattle.std.specs.BTreeMap.{insert_entry, is_at}
 use Rattle.std.specs.BTreeSet.{insert_key}
 use Rattle.link_io.specs.declared.store.StoreKey.{StoreKey}
+use Rattle.rpc_handlers.specs.declared.answer.Out.TheVariants.{Begin, Commit}
+use Rattle.rpc_journal.specs.declared.item.Act.TheVariants.{Keep, LeaveCall}
 use Rattle.rpc_journal.specs.declared.item.Item.{Item}
-use Rattle.rpc_schedule.specs.Kept.{Holds, change_of, kept}
-use Rattle.pw_run.specs.UnderWay.{leave_of, leaves}
+use Rattle.rpc_schedule.specs.Kept.{Holds, change_of, kept, key}
+use Rattle.pw_run.specs.UnderWay.{LeavesNone, leave_of, leaves, nothing, under_way}
 use Rattle.link_io.specs.Stored.{Stored, Work, abandoned, abandoned_of, all_abandoned, appended, appended_to, begun, committed, committed_of, is_key, key_cmp, work_of}
 
 keys-insert_entry : {K X : Type 0} (cmp : K → K → Ordering) (es : List (K × X)) (k : K) (v : X) → keys_of (insert_entry cmp es k v) ≡ insert_key cmp (keys_of es) k
@@ -82,6 +85,11 @@ all_abandoned_keys call s = keys-filter (λ key. not (key.call == call)) s.work
 pub kept_more : (items : List Item) (item : Item) (s : Stored) → kept (items ++ item ∷ []) s ≡ change_of item.call item.act (kept items s)
 kept_more items item s = fold-append (λ st item. change_of item.call item.act st) s items (item ∷ [])
 
+-- none was left
+pub none_left : (st : Option Stored) → Holds (leaves []) st st
+none_left None = refl
+none_left (Some s) = refl
+
 -- one upload more was left
 pub left_more : (keys : List StoreKey) (key : StoreKey) (before old new : Option Stored) → Holds (leaves keys) before old → new ≡ option_map (abandoned key) old
     → Holds (leaves (keys ++ key ∷ [])) before new
@@ -90,3 +98,36 @@ left_more keys key before old new held is = is ∙ (ap (option_map (abandoned ke
     at : (before : Option Stored) → option_map (abandoned key) (option_map (kept (leaves keys)) before) ≡ option_map (kept (leaves (keys ++ key ∷ []))) before
     at None = refl
     at (Some s) = ap Some (sym (ap (λ items. kept items s) (map-append leave_of keys (key ∷ [])) ∙ kept_more (leaves keys) (leave_of key) s))
+
+-- a key is found where it stands
+self_key : (k : StoreKey) → is_key k k ≡ true
+self_key k =
+    sym (ap is_eq (nat_cmp_is k.session k.session Equal refl) ∙
+    ap (λ o. is_eq (ordering_then o (nat_cmp k.session k.session))) (nat_cmp_is k.call k.call Equal refl))
+
+no_keys : {K X : Type 0} (es : List (K × X)) → keys_of es ≡ [] → es ≡ []
+no_keys [] is = refl
+no_keys (e ∷ es) is = absurd (cc is)
+
+all_left : (keys : List StoreKey) (s : Stored) → keys_of s.work ≡ keys → (kept (leaves keys) s).work ≡ []
+all_left [] s is = no_keys s.work is
+all_left (k ∷ keys) s is =
+    all_left keys (abandoned k s)
+    (abandoned_keys k s ∙ (ap (remove_key (is_key k)) is ∙ ap (λ b. cond b keys (k ∷ remove_key (is_key k) keys)) (self_key k)))
+
+pub leaves_none : LeavesNone
+leaves_none items =
+    ap (λ (s : Stored). s.work) (fold-append (λ st item. change_of item.call item.act st) nothing items (leaves (under_way items))) ∙
+    all_left (under_way items) (kept items nothing) refl
+
+-- an example: of three uploads one is committed, and one is of a call that is left
+example :
+    under_way (
+      record { call = Some 0; act = Keep (Begin 1 7 0) }
+      ∷ record { call = Some 0; act = Keep (Begin 2 8 0) }
+      ∷ record { call = Some 1; act = Keep (Begin 1 9 0) }
+      ∷ record { call = Some 0; act = Keep (Commit 1) }
+      ∷ record { call = Some 1; act = LeaveCall }
+      ∷ []
+    ) ≡ key 0 2 ∷ []
+example = refl

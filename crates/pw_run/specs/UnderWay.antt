@@ -1,5 +1,5 @@
 -- The uploads that a connection has under way, and how they are left.
-use Rattle.std.specs.Prelude.{List, [], map, Option, Some}
+use Rattle.std.specs.Prelude.{◌≡◌, List, [], ◌++◌, map, Option, Some}
 use Rattle.std.specs.Map.{keys_of}
 use mathlib.Core.List.{IsPrefix}
 use Rattle.link_io.specs.declared.store.StoreKey.{StoreKey}
@@ -28,3 +28,7 @@ leaves keys = map leave_of keys
 -- the first ones of these uploads were left, and no others
 abbrev pub LeavesSome : List StoreKey → Option Stored → Option Stored → Type 0
 LeavesSome keys before after = (front : List StoreKey) × IsPrefix front keys × Holds (leaves front) before after
+
+-- where all that is under way behind some items is left, nothing is under way
+abbrev pub LeavesNone : Type 0
+LeavesNone = (items : List Item) → (kept (items ++ leaves (under_way items)) nothing).work ≡ []

@@ -1,5 +1,6 @@
-//! The numbers of the program. Nothing runs here.
+//! The numbers of the program, and what follows from its definitions. Nothing runs here.
 ghost use Rattle.std.specs.Prelude.{◌≡◌};
+ghost use Rattle.pw_run.specs.UnderWay.{LeavesNone};
 
 use crate::{
     LAST_CHANNEL, MAX_CONNECTIONS, MAX_HOSTED, MAX_LOAD, MAX_WATCH, MAX_WORKERS, TEXT_LIMIT,
@@ -16,4 +17,9 @@ pub fn numbers_of_the_program()
     ensures workers { MAX_WORKERS ≡ 16 }
     ensures connections { MAX_CONNECTIONS ≡ 1000 }
     ensures hosted { MAX_HOSTED ≡ 4294967295 }
+{}
+
+/// Where all uploads that a connection has under way are left, none is under way.
+pub fn nothing_stays_under_way()
+    ensures { LeavesNone }
 {}

@@ -26,8 +26,17 @@ pub(crate) fn leave_under_way<S: Store>(
     ensures some { OnErr result (LeavesSome (under_way items.now) (S.holds store.old) (S.holds store.new)) }
     ensures cause { HasStoreCause (S.faults store.old) (S.faults store.new) result }
 {
-    let open = open_uploads(alloc, items)?;
-    'uploads: for key in &open {
+    let uploads = open_uploads(alloc, items)?;
+    leave_each(&uploads, store)
+}
+
+// Leaves these uploads, by rising key.
+fn leave_each<S: Store>(uploads: &BTreeSet<StoreKey>, store: &mut S) -> Result<(), StoreRefused>
+    ensures all { OnOk result (Holds (leaves uploads.now.keys) (S.holds store.old) (S.holds store.new)) }
+    ensures some { OnErr result (LeavesSome uploads.now.keys (S.holds store.old) (S.holds store.new)) }
+    ensures cause { HasStoreCause (S.faults store.old) (S.faults store.new) result }
+{
+    'uploads: for key in uploads {
         store.leave(*key)?;
     }
     Ok(())
@@ -37,11 +46,11 @@ pub(crate) fn leave_under_way<S: Store>(
 fn open_uploads(alloc: Global, items: &[Item]) -> Result<BTreeSet<StoreKey>, AllocError>
     ensures { IfOk result (λ uploads. uploads.keys ≡ under_way items.now) }
 {
-    let mut open = BTreeSet::new(alloc);
+    let mut uploads = BTreeSet::new(alloc);
     for item in items {
-        note(&mut open, item)?;
+        note(&mut uploads, item)?;
     }
-    Ok(open)
+    Ok(uploads)
 }
 
 // Notes what an item does to the uploads that are open.

@@ -22,9 +22,9 @@ pub fn recorded_commands_end_well()
 {}
 
 /// So it is of the commands on threads, where the inputs that they may read are known: where the journal of this very run was full, it
-/// has its own status. A crew that ended
-/// with 0 read its input to the end, below the limit, a run of `serve` that of each connection, a bridge those of its two links, and a
-/// client that of its one link.
+/// has its own status. Of `host` they need not be known, since no limit of a connection ends it. A crew that ended with 0 read its input
+/// to the end, below the limit, a run of `serve` that of each connection, a bridge those of its two links, and a client that of its one
+/// link.
 pub fn commands_on_threads_end_well()
     ensures well { LiveEndWell }
     ensures room { CrewHadRoom }
