@@ -10,7 +10,7 @@ use Rattle.std.specs.Ordering.{is_eq, match_ordering, nat_cmp, ordering_then}
 use Rattle.std.specs.Cmp.{nat_cmp_is}
 use Rattle.std.specs.Map.{keys_of, lookup, remove_entry}
 use Rattle.std.specs.Set.{remove_key}
-use Rattle.std.specs.BTreeMap.{insert_entry, is_at}
+use Rattle.std.specs.BTreeMap.{insert_entry}
 use Rattle.std.specs.BTreeSet.{insert_key}
 use Rattle.link_io.specs.declared.store.StoreKey.{StoreKey}
 use Rattle.rpc_handlers.specs.declared.answer.Out.TheVariants.{Begin, Commit}
@@ -123,11 +123,11 @@ leaves_none items =
 -- an example: of three uploads one is committed, and one is of a call that is left
 example :
     under_way (
-      record { call = Some 0; act = Keep (Begin 1 7 0) }
-      ∷ record { call = Some 0; act = Keep (Begin 2 8 0) }
-      ∷ record { call = Some 1; act = Keep (Begin 1 9 0) }
-      ∷ record { call = Some 0; act = Keep (Commit 1) }
-      ∷ record { call = Some 1; act = LeaveCall }
-      ∷ []
+    record { call = Some 0; act = Keep (Begin 1 7 0) }
+    ∷ record { call = Some 0; act = Keep (Begin 2 8 0) }
+    ∷ record { call = Some 1; act = Keep (Begin 1 9 0) }
+    ∷ record { call = Some 0; act = Keep (Commit 1) }
+    ∷ record { call = Some 1; act = LeaveCall }
+    ∷ []
     ) ≡ key 0 2 ∷ []
 example = refl

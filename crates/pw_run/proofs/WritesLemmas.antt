@@ -14,7 +14,7 @@ use Rattle.pw_run.specs.declared.command.Form.{Form}
 use Rattle.pw_run.specs.declared.outcome.Outcome.{Outcome}
 use Rattle.pw_run.specs.declared.outcome.Outcome.TheVariants.{NoMemory, InputLimit}
 use Rattle.pw_run.specs.Load.{DidLoad, ServesLoad, WritesLoad}
-use Rattle.pw_run.specs.Replay.{DidReplay, ReadsNothing, ServesDemo, ServesShelf, WritesRun, no_counts, no_table}
+use Rattle.pw_run.specs.Replay.{DidReplay, ServesDemo, ServesShelf, WritesRun, no_counts, no_table}
 use Rattle.pw_run.specs.declared.text_command.TextCommand.{TextCommand}
 use Rattle.pw_run.specs.declared.told.Found.{Found}
 use Rattle.pw_run.specs.Tells.{DidText, Tells, WritesTold}

@@ -1,5 +1,5 @@
 -- What a run of `get`, `put` or `watch` read, sent, wrote and stored.
-use Rattle.std.specs.Prelude.{◌≡◌, ◌≢◌, ℕ, ◌<◌, ◌≤◌, ◌⊎◌, Bool, true, false, if◌then◌else◌, nat_lt, min, List, length, Option, Some, None, IfSome, is_some, unwrap_or, option_map, Result, Ok, Err}
+use Rattle.std.specs.Prelude.{◌≡◌, ◌≢◌, ℕ, ◌<◌, ◌≤◌, ◌⊎◌, true, false, if◌then◌else◌, nat_lt, min, List, length, Option, Some, None, IfSome, is_some, unwrap_or, option_map, Result, Ok, Err}
 use Rattle.std.specs.Io.KnownBytes.{IsAtEnd, Keeps}
 use Rattle.link_io.specs.declared.shelf.Shelf.{Shelf}
 use Rattle.link_io.specs.declared.why.Why.{Why}
@@ -29,6 +29,7 @@ use Rattle.pw_run.specs.declared.outcome.Outcome.TheVariants.{Done, NoMemory, No
 use Rattle.pw_run.specs.Crew.{DoesNothing}
 use Rattle.pw_run.specs.Devices.{Devices, LinkDevices, with_link}
 use Rattle.pw_run.specs.Outcome.{outcome_for}
+use Rattle.pw_run.specs.declared.way.Way.TheVariants.{Serve}
 use Rattle.pw_run.specs.Serve.{FailsToLink, GivesBack, Lends}
 use Rattle.pw_run.specs.Writes.{Writes, WritesOrFails}
 
@@ -112,7 +113,7 @@ pub record RunsClient (command : ClientCommand) (asks : LiveAsk) (before after :
 -- a link was made and lent to the client, or there was none to be had
 abbrev pub AsksOverLink : ClientCommand → LiveAsk → Devices → Devices → Outcome → Type 0
 AsksOverLink command asks before after outcome =
-    RunsClient command asks before after outcome ⊎ (GivesBack before after outcome ⊎ FailsToLink before after outcome)
+    RunsClient command asks before after outcome ⊎ (GivesBack Serve before after outcome ⊎ FailsToLink before after outcome)
 
 -- The text was written, whole or with an output that failed; or nothing for want of memory.
 abbrev pub WritesText : List ℕ → Outcome → Option (List ℕ) → Option (List ℕ) → Outcome → Type 0

@@ -9,4 +9,4 @@ pub returns-in-LeaveCall : goal.returns-in-LeaveCall
 returns-in-LeaveCall c =
     let others : c.retain.new.self.keys ≡ filter (λ (k : StoreKey). not (k.call == c.in-Some.call)) c.args.uploads.now.keys = filter_same _ (λ (k : StoreKey). not (k.call == c.in-Some.call)) _ (λ k b f' t. search rules) _ _ c.retain.ensures.filtered in
     λ s is.
-        rw (c.in-Some.is, c.in-LeaveCall.is) (others ∙ (ap (filter (λ (k : StoreKey). not (k.call == c.in-Some.call))) is ∙ sym (all_abandoned_keys c.in-Some.call s)))
+    rw (c.in-Some.is, c.in-LeaveCall.is) (others ∙ (ap (filter (λ (k : StoreKey). not (k.call == c.in-Some.call))) is ∙ sym (all_abandoned_keys c.in-Some.call s)))

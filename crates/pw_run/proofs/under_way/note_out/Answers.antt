@@ -1,4 +1,4 @@
-use Rattle.std.proofs.Common.{◌≡◌, ap, sym, ◌∙◌}
+use Rattle.std.proofs.Common.{ap, sym, ◌∙◌}
 use Rattle.std.specs.BTreeSet.{insert_key}
 use Rattle.std.specs.Set.{remove_key}
 use Rattle.link_io.specs.Stored.{is_key, key_cmp}
@@ -10,7 +10,7 @@ pub returns-in_ok-insert-in-Begin : goal.returns-in_ok-insert-in-Begin
 returns-in_ok-insert-in-Begin c =
     let at = key c.args.call c.in-Begin.session in
     λ s is.
-        rw c.in-Begin.is (c.in_ok-insert-in-Begin.ensures.keys ∙ (ap (λ ks. insert_key key_cmp ks at) is ∙ sym (begun_keys at c.in-Begin.resource c.in-Begin.offset s)))
+    rw c.in-Begin.is (c.in_ok-insert-in-Begin.ensures.keys ∙ (ap (λ ks. insert_key key_cmp ks at) is ∙ sym (begun_keys at c.in-Begin.resource c.in-Begin.offset s)))
 
 pub returns-in-Append : goal.returns-in-Append
 returns-in-Append c = λ s is. rw c.in-Append.is (is ∙ sym (appended_keys (key c.args.call _) _ s))
