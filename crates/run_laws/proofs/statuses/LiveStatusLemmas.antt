@@ -1,11 +1,10 @@
 -- How a run on threads ends where no device fails.
-use Rattle.std.proofs.Common.{◌≡◌, ◌≢◌, ◌⊎◌, ℕ, zero, suc, ◌+◌, ◌-◌, ◌<◌, List, [], ◌∷◌, ◌++◌, length, take, Result, Ok, Err, Option, Some, None, IfSome, refl, ap, sym, ◌∙◌, subst, inl, inr, arith, append_assoc, length-append}
+use Rattle.std.proofs.Common.{◌≡◌, ◌≢◌, ◌⊎◌, ℕ, zero, suc, ◌+◌, ◌-◌, ◌<◌, List, [], ◌∷◌, ◌++◌, length, take, Result, Ok, Err, Option, Some, None, refl, ap, sym, ◌∙◌, subst, inl, inr, arith, append_assoc, length-append}
 use Rattle.std.specs.Io.KnownBytes.{Consumes}
 use Rattle.link_io.specs.declared.why.Why.{Why}
 use Rattle.link_io.specs.declared.why.Why.TheVariants as reason
 use Rattle.link_io.specs.Links.{Ends, HandsOut, Links}
-use Rattle.link_io.specs.declared.shelf.Shelf.{Shelf}
-use Rattle.link_io.specs.Stored.{Stored, shelf_of}
+use Rattle.link_io.specs.Stored.{shelf_of}
 use Rattle.rpc_frames.specs.declared.counts.Counts.{Counts}
 use Rattle.rpc_ids.specs.declared.status.Status.{Status}
 use Rattle.rpc_ids.specs.declared.status.Status.TheVariants.{Okay}
@@ -21,6 +20,7 @@ use Rattle.frame_router.specs.bridge.Printed.{bridge_text}
 use Rattle.live_client.specs.declared.ask.Live.{Live}
 use Rattle.live_client.specs.declared.ask.LiveAsk.{LiveAsk}
 use Rattle.run_report.specs.declared.live_report.LiveLine.{LiveLine}
+use Rattle.run_report.specs.ConnectionReport.{connection_report}
 use Rattle.run_report.specs.LiveReport.{live_line, live_report}
 use Rattle.pw_run.specs.declared.client_command.ClientCommand.{ClientCommand}
 use Rattle.pw_run.specs.declared.live_command.LiveCommand.TheVariants.{Crew, Serve, Host, Bridge, Client}
@@ -36,7 +36,7 @@ use Rattle.pw_run.specs.LinkServed.{FindsNoShelf, ServesLink, ServesListed, Writ
 use Rattle.pw_run.specs.Live.{DidLive}
 use Rattle.pw_run.specs.Outcome.{code_of, hosted_outcome, outcome_for}
 use Rattle.pw_run.specs.Serve.{DidHost, DidServe, RunsConnection, ServesAll, ServesConnection, StopsServing}
-use Rattle.pw_run.specs.Writes.{Writes, WritesOrFails}
+use Rattle.pw_run.specs.Writes.{Writes}
 use Rattle.run_laws.specs.statuses.ClientEnds.{Asks, EndedOkay}
 use Rattle.run_laws.specs.statuses.Statuses.{AreShort, AreShortUpTo, AsksNothing, BridgeHadRoom, ClientFills, ClientHadRoom, CrewFills, CrewHadRoom, HasShortLinks, IsFull, IsWell, LiveEndWell, ServeFills, ServeHadRoom}
 use Rattle.run_laws.proofs.statuses.ClientEndLemmas.{okay_is_okay}
@@ -276,11 +276,12 @@ hosted_well : (workers number : ℕ) (before after : Devices) (outcome : Outcome
 hosted_well workers number before after outcome (inr (inl given)) none = inr given.memory
 hosted_well workers number before after outcome (inr (inr fails)) none = absurd (none.linker fails.fault)
 hosted_well workers number before after outcome (inl run) none =
-    at (wrote _ run.why (hosted_outcome run.why) before.written after.written before.failed after.failed outcome run.writes)
+    at (connection_report number run.table run.counts run.why)
+    (wrote (connection_report number run.table run.counts run.why) run.why (hosted_outcome run.why) before.written after.written before.failed after.failed outcome run.writes)
   where
-    at : {text : List ℕ} → (outcome ≡ NoMemory) ⊎ ((run.why ≢ reason.Memory) × Writes before.written after.written text (hosted_outcome run.why) outcome) → EndsSo outcome
-    at (inl memory) = inr memory
-    at {text} (inr did) = goes_on run.why outcome did.0 (own_outcome before.written after.written text (hosted_outcome run.why) outcome none.sink did.1) none
+    at : (text : List ℕ) → (outcome ≡ NoMemory) ⊎ ((run.why ≢ reason.Memory) × Writes before.written after.written text (hosted_outcome run.why) outcome) → EndsSo outcome
+    at text (inl memory) = inr memory
+    at text (inr did) = goes_on run.why outcome did.0 (own_outcome before.written after.written text (hosted_outcome run.why) outcome none.sink did.1) none
 
 host_well : (workers : ℕ) (before after : Devices) (outcome : Outcome) → DidHost workers before after outcome → Blameless outcome → EndsSo outcome
 host_well workers before after outcome (inr fails) none = absurd (none.linker fails.fault)
