@@ -8,7 +8,8 @@ mod Few
 mod Late
 pub mod Links
 mod Mixes
-mod Numbers
+pub mod Numbers
+mod Rounds
 mod ServerStep
 mod StrayStep
 pub mod Survive

@@ -72,5 +72,5 @@ all_arrive script (Err e) is r = tt
 pub losses_end_well : {E : Type 0} (script : Script) (result : Result Outcome E) → IsOpenScript script → IfOk result (Runs script)
     → IfOk result (IsRunWith LossesEndWell script)
 losses_end_well script (Ok outcome) is r =
-    record { run = r.run; holds = λ few drops number command there. lossy_runs_end_well script r.run.now number command is drops r.run.run few r.server r.client there }
+    record { run = r.run; holds = λ few drops spared number command there. lossy_runs_end_well script r.run.now number command is drops spared r.run.run few r.server r.client there }
 losses_end_well script (Err e) is r = tt

@@ -7,8 +7,9 @@ use Rattle.link_laws.specs.world.Setup.{setup_of}
 use Rattle.link_laws.specs.world.Sound.{IsSound}
 use Rattle.link_laws.specs.world.Turns.{Turned}
 use Rattle.link_laws.specs.world.World.{Setup, World, client_store, server_store}
-use Rattle.link_laws.specs.plain_calls.Ended.{EndsOkay, HasEnded}
-use Rattle.link_laws.specs.dropped_transfer.Dropped.{DropsFew}
+use Rattle.link_laws.specs.plain_calls.Ended.{EndsSoon, HasEnded}
+use Rattle.link_laws.specs.dropped_transfer.Dropped.{DropsChunks}
+use Rattle.link_laws.specs.dropped_transfer.Rounds.{AreSpared}
 use Rattle.link_laws.specs.one_run.InOrder.{HasAllArrived}
 use Rattle.link_laws.specs.lossless_scripts.Lossless.{EndsAs, chunks_of}
 use Rattle.link_laws.specs.lossless_scripts.Scripts.{BeginsFewWrites}
@@ -52,15 +53,17 @@ RunIsSound k commands now = IsSound k now
 -- its line, and each transfer whose resource is there to a line with OK, with no more chunks than its bound
 abbrev pub AllEndWell : Setup → List Command → World → Type 0
 AllEndWell k commands now =
-    BeginsFewWrites commands now → (number : ℕ) (command : Command) → slice_get commands number ≡ Some command → HasEnded k commands now number command (λ start told. EndsAs k start command told (chunks_of (start.sessions + 1) now))
+    BeginsFewWrites commands now → (number : ℕ) (command : Command) → slice_get commands number ≡ Some command → HasEnded k commands now number command (λ start end told. EndsAs k start command told (chunks_of (start.sessions + 1) now))
 
 -- AND ALL ARRIVES: what has arrived at each end are the packets that the other end flushed, in order
 abbrev pub AllArrive : Setup → List Command → World → Type 0
 AllArrive k commands now = HasAllArrived k now
 
--- WITH THREE LOST CHUNKS ALL STILL ENDS WELL: where the run has begun no more writes, and where the script has at most three losses,
--- all of them drops, and each frame that is dropped carries a chunk and none the START_ACK_CONFIRMATION of a read, each command has
--- come to its line, and each transfer whose resource is there to a line with OK
+-- WITH ONE CLEAN ROUND IN FOUR ALL STILL ENDS WELL: where the run has begun no more writes, where the script's losses are drops, as many
+-- as there are, of frames that carry a chunk, none of them the START_ACK_CONFIRMATION of a read, and where of each transfer one of the
+-- first four rounds loses no chunk, or three chunks are lost at most, each command has come to its line, and each transfer whose resource
+-- is there to a line with OK, at most three turns of time after its start
 abbrev pub LossesEndWell : Setup → List Command → World → Type 0
 LossesEndWell k commands now =
-    BeginsFewWrites commands now → DropsFew k now → (number : ℕ) (command : Command) → slice_get commands number ≡ Some command → HasEnded k commands now number command (λ start told. EndsOkay k start command told)
+    BeginsFewWrites commands now → DropsChunks k now → AreSpared k commands now → (number : ℕ) (command : Command) → slice_get commands number ≡ Some command
+    → HasEnded k commands now number command (λ start end told. EndsSoon k start end command told)

@@ -1,5 +1,5 @@
 -- The world in which a transfer has survived is one between two commands.
-use Rattle.std.proofs.Common.{◌≡◌, ◌≢◌, ℕ, ◌+◌, ◌<◌, ◌≤◌, true, List, [], ◌∷◌, length, Option, Some, None, refl, ap, sym, ◌∙◌, subst, arith, length-append}
+use Rattle.std.proofs.Common.{◌≡◌, ◌≢◌, ℕ, ◌+◌, ◌<◌, ◌≤◌, true, List, [], length, Option, Some, None, refl, ap, sym, ◌∙◌, subst, arith, length-append}
 use Rattle.link_script.specs.declared.command.Command.{Command}
 use Rattle.rpc_ids.specs.declared.status.Status.{Status}
 use Rattle.rpc_handlers.specs.declared.event.Memo.{Memo}

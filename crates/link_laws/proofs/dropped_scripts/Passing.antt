@@ -1,5 +1,5 @@
 -- A transfer leads from one world between two commands to another, over links that drop frames.
-use Rattle.std.proofs.Common.{◌≡◌, ◌⊎◌, ℕ, ◌+◌, ◌*◌, ◌<◌, ◌≤◌, ◌^◌, min, true, List, [], ◌∷◌, codes, length, Some, refl, ap, sym, ◌∙◌, subst, inl, inr, arith}
+use Rattle.std.proofs.Common.{◌≡◌, ◌⊎◌, ℕ, ◌+◌, ◌*◌, ◌<◌, ◌≤◌, ◌^◌, min, List, [], ◌∷◌, codes, length, Some, refl, ap, sym, ◌∙◌, subst, inl, inr, arith}
 use Rattle.std.specs.Prelude.{count_by}
 use Rattle.link_io.specs.Resources.{first_of, found}
 use Rattle.link_io.specs.Stored.{shelf_of}
@@ -18,6 +18,7 @@ use Rattle.transfer_resume.specs.Opening.{agreed_offset}
 use Rattle.transfer_client.specs.Read.{new_download}
 use Rattle.transfer_client.specs.Write.{new_upload}
 use Rattle.demo_services.specs.Methods.{transfer_id}
+use Rattle.transfer_laws.specs.losses.Rounds.{LOSSY_ROUNDS}
 use Rattle.transfer_laws.specs.pairs.EndsWell.{write_ended}
 use Rattle.link_laws.specs.declared.world.limits.TheConstants.{TURN_OF_TIME}
 use Rattle.link_laws.specs.world.Starts.{left_length, live_transfers, opens_with, starts, starts_write, transfer_by}
@@ -30,7 +31,8 @@ use Rattle.link_laws.specs.lossless_transfer.Begins.{AsksClient}
 use Rattle.link_laws.specs.world.Lines.{line_telling}
 use Rattle.link_laws.specs.lossless_transfer.Finishes.{Passes}
 use Rattle.link_laws.specs.lossless_transfer.Shows.{Places}
-use Rattle.link_laws.specs.dropped_transfer.Dropped.{DropsFew}
+use Rattle.link_laws.specs.dropped_transfer.Dropped.{DropsChunks}
+use Rattle.link_laws.specs.dropped_transfer.Rounds.{IsSpared}
 use Rattle.link_laws.specs.dropped_transfer.Survives.{HasSurvived, ReadsSurviveDrops, RefusalsSurviveDrops, CanSurvive, WritesSurviveDrops}
 use Rattle.link_laws.proofs.lossless_scripts.Finishing.{one_more}
 use Rattle.link_laws.proofs.lossless_scripts.Offers.{IsRefused, IsServed, served_or_refused}
@@ -46,21 +48,22 @@ pub record CommandPasses (k : Setup) (w end : World) (command : Command) (rest :
   pub begun : Side → ℕ
   pub passes : PassesOn k (FitsLater k sessions times begun) w end sessions command rest
   pub times_are : passes.mid.times ≡ times
-  pub soon : times ≤ w.times + 3
+  pub soon : times ≤ w.times + LOSSY_ROUNDS
   pub few : sessions ≤ w.sessions + 1
   pub none_later : NoneLater sessions passes.mid.numbered
   pub ends : EndsOkay k w command passes.told
   pub reads : begun Read + count_by (asks_for Read) rest ≤ 256
   pub writes : begun Write + end.sessions ≤ sessions + count_by (asks_for Read) rest + 256
 
--- what a world between two commands has, in a run that drops few frames, where these are to come, and the first is a transfer in the
+-- what a world between two commands has, in a run that drops chunks and spares the next transfer, where these are to come, and the first is a transfer in the
 -- call of this method
 pub record IsBetween (k : Setup) (w end : World) (begun : Side → ℕ) (side : Side) (command : Command) (rest : List Command) : Type 0 where
   pub clean : IsClean k (FitsLater k w.sessions w.times begun) w
   pub coming : w.coming ≡ command ∷ rest
   pub run : RunsOn k w end
   pub good : HasGoneWell k w
-  pub drops : DropsFew k end
+  pub drops : DropsChunks k end
+  pub spared : IsSpared k (w.sessions + 1) w end
   pub sessions : w.sessions + 1 < 2 ^ 32
   pub early : TURN_OF_TIME * w.times + 4 * TIMEOUT < 2 ^ 63
   pub none_later : NoneLater w.sessions w.numbered
@@ -114,7 +117,7 @@ module _ (k : Setup) (setup : IsSetup k) (w end : World) (side : Side) (command 
       → starts k w command ≡ transfer_by w (live_transfers (method_id side) (client_deeds k w)) (opens_with transfer_id (method_id side) [] (client_deeds k w)) (call_count (client_deeds k w)) t
       → CanSurvive k x (older_of k setup w end side command rest begun b.most b.clean may) w end t
   starts_here t asking so =
-      starts_so k setup w end side command rest begun b.most b.clean b.room t asking b.coming b.good b.none_later so (runs_out k w end b.run) b.drops b.sessions b.early may
+      starts_so k setup w end side command rest begun b.most b.clean b.room t asking b.coming b.good b.none_later so (runs_out k w end b.run) b.drops b.spared b.sessions b.early may
 
 -- A READ
 module _ (survive : ReadsSurviveDrops) (refuse : RefusalsSurviveDrops) (k : Setup) (setup : IsSetup k) (w end : World) (rest : List Command) (begun : Side → ℕ) (resource offset : ℕ) (b : IsBetween k w end begun Read (ReadIt resource offset) rest) where

@@ -38,8 +38,9 @@ use Rattle.link_laws.specs.lossless_transfer.Begins.{AsksClient}
 use Rattle.link_laws.specs.lossless_transfer.Chunks.{is_chunk_of}
 use Rattle.link_laws.specs.lossless_transfer.Finishes.{RunsOut}
 use Rattle.link_laws.specs.lossless_transfer.Shows.{Places}
-use Rattle.link_laws.specs.dropped_transfer.Dropped.{DropsFew}
+use Rattle.link_laws.specs.dropped_transfer.Dropped.{DropsChunks}
 use Rattle.link_laws.specs.dropped_transfer.Passing.{IsBesideAtClient}
+use Rattle.link_laws.specs.dropped_transfer.Rounds.{IsSpared}
 use Rattle.link_laws.specs.dropped_transfer.Sessions.{AreBefore, AreBeside, AreSettled, IsBesideAtServer, IsSetForDrops, book_with}
 use Rattle.link_laws.specs.dropped_transfer.Shows.{HasNumbered}
 use Rattle.link_laws.specs.dropped_transfer.Survives.{OpensAnew, OpensThere, CanSurvive}
@@ -274,7 +275,7 @@ module _ (k : Setup) (setup : IsSetup k) (w end : World) (side : Side) (command 
           one_at_most c d o p i (is_other d p second there_second ticks_second) (clean.transfers i.other);
     }
 
-    is_set_for_drops : begun side < 256 → DropsFew k end → w.sessions + 1 < 2 ^ 32 → IsSetForDrops k x (older_of may)
+    is_set_for_drops : begun side < 256 → DropsChunks k end → w.sessions + 1 < 2 ^ 32 → IsSetForDrops k x (older_of may)
     is_set_for_drops room drops small = record {
       only = record { rule = setup.demo.rule; server = server_role k setup; client = client_role k setup; drops = drops.drops };
       places = are_places k setup fits w clean side rest (known room) small may;
@@ -315,12 +316,13 @@ module _ (k : Setup) (setup : IsSetup k) (w end : World) (side : Side) (command 
         all_join (λ (p : Packet). (later : ℕ) → w.sessions < later → is_chunk_of later p ≡ false) w.numbered (asked ∷ []) later ((λ other high. refl), tt)
     numbered_so (inr h) = later
 
-    pub starts_so : RunsOut k w end → DropsFew k end → w.sessions + 1 < 2 ^ 32 → TURN_OF_TIME * w.times + 4 * TIMEOUT < 2 ^ 63 → (may : May) → CanSurvive k (x_of may) (older_of may) w end t
-    starts_so run drops small early may = record {
+    pub starts_so : RunsOut k w end → DropsChunks k end → IsSpared k (w.sessions + 1) w end → w.sessions + 1 < 2 ^ 32 → TURN_OF_TIME * w.times + 4 * TIMEOUT < 2 ^ 63 → (may : May) → CanSurvive k (x_of may) (older_of may) w end t
+    starts_so run drops spared small early may = record {
       set = is_set_for_drops may room drops small;
       early = early;
       past = past_of may;
       begins = record { command = command; asks = asking; how = opens may; numbered = none_said (numbered_with k setup fits w clean side rest may) (numbered_so may) };
       run = run;
       drops = drops;
+      spared = spared;
     }

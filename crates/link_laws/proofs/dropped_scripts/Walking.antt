@@ -11,11 +11,11 @@ use Rattle.link_script.specs.declared.command.Command.{Command}
 use Rattle.link_script.specs.declared.command.Command.TheVariants.{Read as ReadIt, Write as WriteIt, Echo, Count, Sum, Chat, Close}
 use Rattle.link_script.specs.declared.loss.Loss.{Loss}
 use Rattle.link_script.specs.declared.report.ReportLine.{ReportLine}
-use Rattle.link_script.specs.declared.script.Script.{Script}
 use Rattle.link_script.specs.Script.{IsCommand}
 use Rattle.link_script.specs.lossy.Link.{loss_of}
 use Rattle.rpc_packet.specs.declared.owned.Packet.{Packet}
 use Rattle.transfer_base.specs.declared.limits.TheConstants.{MAX_RESOURCE}
+use Rattle.transfer_laws.specs.losses.Rounds.{LOSSY_ROUNDS}
 use Rattle.transfer_chunk.specs.Reading.{chunk_of}
 use Rattle.transfer_resume.specs.declared.side.Side.{Side}
 use Rattle.transfer_resume.specs.declared.side.Side.TheVariants.{Read, Write}
@@ -23,6 +23,7 @@ use Rattle.history_laws.proofs.messages.Members.{all_join, all_weaken}
 use Rattle.link_laws.specs.world.Reports.{carries_chunk}
 use Rattle.link_laws.specs.world.Setup.{setup_of}
 use Rattle.link_laws.specs.world.Sound.{NoFlips}
+use Rattle.link_laws.specs.world.Starts.{starts}
 use Rattle.link_laws.specs.world.Turns.{Turns}
 use Rattle.link_laws.specs.world.World.{Setup, World, client_store, first_world}
 use Rattle.link_laws.proofs.one_run.Ways.{turns_go_on}
@@ -32,24 +33,26 @@ use Rattle.link_laws.proofs.transfers_fit.OfScripts.{begins_small}
 use Rattle.link_laws.proofs.transfers_fit.Stores.{look_up}
 use Rattle.link_laws.specs.plain_calls.Between.{IsClean, asks_for}
 use Rattle.link_laws.specs.plain_calls.Commands.{IsPlain, PassesOn, PassesQuietly, RunsOn, SparesOthers}
-use Rattle.link_laws.specs.plain_calls.Ended.{EndsOkay, HasEnded}
+use Rattle.link_laws.specs.plain_calls.Ended.{EndsOkay, EndsSoon, HasEnded}
 use Rattle.link_laws.proofs.plain_calls.Commands.{lacking_writes_pass, next_by, plain_commands_pass, well_before}
 use Rattle.link_laws.specs.lossless_transfer.Chunks.{is_chunk_of, names_session}
-use Rattle.link_laws.specs.dropped_transfer.Dropped.{DropsFew}
+use Rattle.link_laws.specs.dropped_transfer.Dropped.{DropsChunks, is_dropped, lost_among}
+use Rattle.link_laws.specs.dropped_transfer.Rounds.{AreSpared, IsSpared, by_number, by_round}
 use Rattle.link_laws.proofs.dropped_transfer.Links.{undamaged}
+use Rattle.link_laws.proofs.dropped_transfer.Numbers.{lost_few}
 use Rattle.link_laws.proofs.dropped_transfer.Survive.{reads_survive_drops, refusals_survive_drops, writes_survive_drops}
-use Rattle.link_laws.specs.lossless_scripts.Scripts.{IsOpenScript, LeavesOpen}
-use Rattle.link_laws.proofs.lossless_scripts.Begun.{due, none_coming, start_counts, turns_due, write_begins}
+use Rattle.link_laws.specs.lossless_scripts.Scripts.{LeavesOpen}
+use Rattle.link_laws.proofs.lossless_scripts.Begun.{due, none_coming, read_begins, start_counts, turns_due, write_begins}
 use Rattle.link_laws.proofs.lossless_scripts.Finishing.{one_more}
 use Rattle.link_laws.proofs.lossless_scripts.Starting.{IsSetup}
 use Rattle.link_laws.proofs.lossless_scripts.Walk.{IsOnWay, Leads, all_end, ended_now, runs_to_end, same_numbered, same_sessions, script_setup, turns_join}
 use Rattle.link_laws.proofs.lossless_scripts.Walking.{first_is_clean, server_sizes}
-use Rattle.link_laws.specs.dropped_scripts.Losses.{LossyRunsEndWell}
+use Rattle.link_laws.specs.dropped_scripts.Losses.{FewLossesSpareEach, LossyRunsEndWell}
 use Rattle.link_laws.proofs.dropped_scripts.Passing.{CommandPasses, IsBetween, read_passes, write_passes}
 use Rattle.link_laws.proofs.dropped_scripts.Starting.{FitsLater, NoneLater}
 
 -- the links do nothing to a frame without a chunk
-spares_others : (k : Setup) (end : World) → DropsFew k end → SparesOthers k end
+spares_others : (k : Setup) (end : World) → DropsChunks k end → SparesOthers k end
 spares_others k end drops n p there quiet = at (loss_of (suc n) k.losses) refl
   where
     at : (o : Option Loss) → loss_of (suc n) k.losses ≡ o → loss_of (suc n) k.losses ≡ None
@@ -57,7 +60,7 @@ spares_others k end drops n p there quiet = at (loss_of (suc n) k.losses) refl
     at (Some loss) is = absurd (true≢false (sym (drops.chunks n p there (ap is_some is)) ∙ quiet))
 
 module _ (k : Setup) (setup : IsSetup k) (commands : List Command) (small : BeginsSmall k) (each : AllByRecursion IsCommand commands)
-    (sizes : (resource : ℕ) (bytes : List ℕ) → first_of resource k.server_store.full ≡ Some bytes → length bytes ≤ MAX_RESOURCE) (end : World) (drops : DropsFew k end) where
+    (sizes : (resource : ℕ) (bytes : List ℕ) → first_of resource k.server_store.full ≡ Some bytes → length bytes ≤ MAX_RESOURCE) (end : World) (drops : DropsChunks k end) (spared : AreSpared k commands end) where
   calm : NoFlips k.losses
   calm = undamaged k.losses drops.drops
 
@@ -86,14 +89,15 @@ module _ (k : Setup) (setup : IsSetup k) (commands : List Command) (small : Begi
       let none : due end ≡ end.sessions + 0 = ap (λ l. end.sessions + count_by (asks_for Read) l) (none_coming end s.run.is_last) in
       omega (arith, writes, coming, none, turns_due k s.run.count w end s.run.turns)
 
-  between : (side : Side) (command : Command) (rest : List Command) (w : World) → (s : Stands (command ∷ rest) w) → s.begun side < 256 → one_more side s.begun Read + count_by (asks_for Read) rest ≤ 256
+  between : (side : Side) (command : Command) (rest : List Command) (w : World) → (s : Stands (command ∷ rest) w) → (starts k w command).sessions ≡ w.sessions + 1 → s.begun side < 256 → one_more side s.begun Read + count_by (asks_for Read) rest ≤ 256
       → one_more side s.begun Write + end.sessions ≤ w.sessions + 1 + count_by (asks_for Read) rest + 256 → IsBetween k w end s.begun side command rest
-  between side command rest w s room reads writes = record {
+  between side command rest w s begins room reads writes = record {
     clean = s.clean;
     coming = s.coming;
     run = s.run;
     good = well_before k w end (turns_go_on k calm s.run.count w end s.run.turns) s.run.well;
     drops = drops;
+    spared = spared s.count w command rest s.way (next_by k (FitsLater k w.sessions w.times s.begun) w (command ∷ rest) s.clean s.coming) begins;
     sessions = (let sessions = s.sessions in omega (arith, sessions));
     early = (let times = s.times in omega (arith, times));
     none_later = s.none_later;
@@ -135,7 +139,7 @@ module _ (k : Setup) (setup : IsSetup k) (commands : List Command) (small : Begi
   passes : (command : Command) (rest : List Command) (w : World) → Stands (command ∷ rest) w → CommandPasses k w end command rest
   passes (ReadIt resource offset) rest w s =
       read_passes reads_survive_drops refusals_survive_drops k setup w end rest s.begun resource offset
-      (between Read (ReadIt resource offset) rest w s (let reads = s.reads in omega (arith, reads, one_read)) (let reads = s.reads in omega (arith, reads, one_read)) (let writes = s.writes in omega (arith, writes, one_read))) s.fit.0.0 s.fit.0.1 (sizes resource)
+      (between Read (ReadIt resource offset) rest w s (read_begins k w resource offset) (let reads = s.reads in omega (arith, reads, one_read)) (let reads = s.reads in omega (arith, reads, one_read)) (let writes = s.writes in omega (arith, writes, one_read))) s.fit.0.0 s.fit.0.1 (sizes resource)
     where
       one_read : count_by (asks_for Read) (ReadIt resource offset ∷ rest) ≡ 1 + count_by (asks_for Read) rest
       one_read = sum_by-cons (λ c. cond (asks_for Read c) 1 0) (ReadIt resource offset) rest
@@ -163,7 +167,7 @@ module _ (k : Setup) (setup : IsSetup k) (commands : List Command) (small : Begi
           (λ told bytes has. (let never : None ≡ Some bytes = sym none ∙ has in cc never))
       by_bytes (Some bytes) has =
           write_passes writes_survive_drops k setup w end rest s.begun resource offset
-          (between Write (WriteIt resource offset) rest w s (let writes = s.writes in omega (arith, writes, no_read, one_write bytes has)) (let reads = s.reads in omega (arith, reads, no_read)) (let writes = s.writes in omega (arith, writes, no_read))) bytes has s.fit.0.0
+          (between Write (WriteIt resource offset) rest w s (write_begins k w resource offset bytes has) (let writes = s.writes in omega (arith, writes, no_read, one_write bytes has)) (let reads = s.reads in omega (arith, reads, no_read)) (let writes = s.writes in omega (arith, writes, no_read))) bytes has s.fit.0.0
           (look_up (λ e. length e.1 ≤ MAX_RESOURCE) (is_at (nat_cmp resource)) (client_store k w).full bytes has in_store.full).holds
   passes (Echo bytes) rest w s = plainly w (Echo bytes) rest s tt refl (λ told. tt)
   passes (Count n) rest w s = plainly w (Count n) rest s tt refl (λ told. tt)
@@ -174,7 +178,11 @@ module _ (k : Setup) (setup : IsSetup k) (commands : List Command) (small : Begi
   on_way : (cs : List Command) (w : World) → Stands cs w → IsOnWay k commands end cs w
   on_way cs w s = record { kind = next_by k (FitsLater k w.sessions w.times s.begun) w cs s.clean s.coming; count = s.count; way = s.way; run = s.run }
 
-  leads : (command : Command) (rest : List Command) (w : World) → Stands (command ∷ rest) w → Leads k Stands (λ c start told. EndsOkay k start c told) command rest w
+  -- what a command comes to
+  abbrev EndsSo : Command → World → World → ReportLine → Type 0
+  EndsSo command start mid told = EndsSoon k start mid command told
+
+  leads : (command : Command) (rest : List Command) (w : World) → Stands (command ∷ rest) w → Leads k Stands EndsSo command rest w
   leads command rest w s =
       let p : CommandPasses k w end command rest = passes command rest w s in
       let joined = turns_join k s.count p.passes.count (first_world commands) w p.passes.mid s.way p.passes.way in
@@ -185,7 +193,7 @@ module _ (k : Setup) (setup : IsSetup k) (commands : List Command) (small : Begi
         told = p.passes.told;
         lines = p.passes.lines;
         is_of = p.passes.is_of;
-        ends = p.ends;
+        ends = record { okay = p.ends; soon = (let soon = p.soon in let same = p.times_are in omega (arith, soon, same)) };
         between = record {
           begun = p.begun;
           clean =
@@ -206,26 +214,32 @@ module _ (k : Setup) (setup : IsSetup k) (commands : List Command) (small : Begi
       }
 
   -- ALL COMMANDS END
-  commands_end : Stands commands (first_world commands) → (number : ℕ) (command : Command) → slice_get commands number ≡ Some command → HasEnded k commands end number command (λ start told. EndsOkay k start command told)
+  commands_end : Stands commands (first_world commands) → (number : ℕ) (command : Command) → slice_get commands number ≡ Some command → HasEnded k commands end number command (λ start mid told. EndsSoon k start mid command told)
   commands_end s number command there =
-      subst (λ n. HasEnded k commands end n command (λ start told. EndsOkay k start command told)) (omega arith)
-      ((all_end k commands end Stands on_way (λ c start told. EndsOkay k start c told) leads commands (first_world commands) s).ended number command there)
+      subst (λ n. HasEnded k commands end n command (EndsSo command)) (omega arith)
+      ((all_end k commands end Stands on_way EndsSo leads commands (first_world commands) s).ended number command there)
+
+-- what is dropped is so in each world with these packets
+spared_same : (k : Setup) (session : ℕ) (start a b : World) → a.numbered ≡ b.numbered → IsSpared k session start a → IsSpared k session start b
+spared_same k session start a b same (by_round c) = by_round (record { number = c.number; early = c.early; clean = λ place p at. c.clean place p (ap (λ ps. slice_get ps place) same ∙ at) })
+spared_same k session start a b same (by_number few) = by_number (subst (λ ps. length (lost_among (is_chunk_of session) (is_dropped k) 0 0 ps) ≤ LOSSY_ROUNDS) same few)
 
 pub lossy_runs_end_well : LossyRunsEndWell
-lossy_runs_end_well s now number command o drops run few server client there =
+lossy_runs_end_well s now number command o drops spared run few server client there =
     let k : Setup = setup_of s in
     let no_flips : NoFlips s.losses = undamaged s.losses drops.drops in
     let before : World = run.before in
     let quiet : now.numbered ≡ before.numbered = same_numbered s o no_flips now run server client in
-    let drops_before : DropsFew k before = record {
-      few = drops.few;
+    let drops_before : DropsChunks k before = record {
       drops = drops.drops;
       chunks = λ n p at. drops.chunks n p (ap (λ ps. slice_get ps n) quiet ∙ at);
       spares = λ n p at. drops.spares n p (ap (λ ps. slice_get ps n) quiet ∙ at);
     } in
+    let spared_before : AreSpared k s.commands before =
+    λ count start c rest way kind begins. spared_same k (start.sessions + 1) start now before quiet (spared count start c rest way kind begins) in
     let setup : IsSetup k = script_setup s o no_flips now run server client in
-    ended_now s o no_flips now run server client number command (λ start told. EndsOkay k start command told)
-    (commands_end k setup s.commands (begins_small s o.script) o.script.commands (server_sizes s o) before drops_before
+    ended_now s o no_flips now run server client number command (λ start mid told. EndsSoon k start mid command told)
+    (commands_end k setup s.commands (begins_small s o.script) o.script.commands (server_sizes s o) before drops_before spared_before
     (record {
       begun = λ side. 0;
       clean = first_is_clean k setup s.commands (FitsLater k 0 0 (λ side. 0));
@@ -241,3 +255,6 @@ lossy_runs_end_well s now number command o drops run few server client there =
       times = (let short = o.script.few in omega (arith, short));
       none_later = tt;
     }) number command there)
+
+pub few_losses_spare_each : FewLossesSpareEach
+few_losses_spare_each k commands now few count start command rest way kind begins = by_number (omega (arith, lost_few k (start.sessions + 1) now, few))

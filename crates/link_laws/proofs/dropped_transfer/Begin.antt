@@ -1,5 +1,5 @@
 -- A transfer begins, in a call that both ends have or in a new one, and what it says goes out on a link that drops frames.
-use Rattle.std.proofs.Common.{◌≡◌, ℕ, suc, ◌+◌, Bool, true, false, if◌then◌else◌, List, [], ◌∷◌, ◌++◌, length, map, slice_get, Some, None, ◌⊎◌, inl, inr, refl, ap, sym, ◌∙◌, subst, append_assoc}
+use Rattle.std.proofs.Common.{◌≡◌, ℕ, suc, ◌+◌, ◌≤◌, Bool, true, false, if◌then◌else◌, List, [], ◌∷◌, ◌++◌, length, map, slice_get, Some, None, ◌⊎◌, inl, inr, refl, ap, sym, ◌∙◌, subst, arith, append_assoc, length-append}
 use Rattle.std.proofs.lemmas.List.{append-nil}
 use Rattle.std.specs.List.{AllByRecursion}
 use Rattle.history_laws.proofs.messages.Members.{all_weaken}
@@ -12,22 +12,26 @@ use Rattle.transfer_words.specs.Saying.{Stepped}
 use Rattle.transfer_client.specs.Machine.{Rules}
 use Rattle.transfer_resume.specs.Session.{Row}
 use Rattle.demo_services.specs.Transfer.{transfer_memo}
-use Rattle.transfer_laws.specs.losses.Drops.{LossyPair, begun, kept, missing}
+use Rattle.transfer_laws.specs.losses.Drops.{Lost, LossyPair, begun, kept, missing}
 use Rattle.link_laws.specs.world.Reports.{carries_chunk}
+use Rattle.link_laws.specs.world.Starts.{request}
+use Rattle.link_laws.specs.world.Turns.{Turns}
 use Rattle.link_laws.specs.world.World.{Setup, Transfer, World}
 use Rattle.link_laws.specs.rounds.Carrying.{carrying}
 use Rattle.link_laws.specs.lossless_transfer.Finishes.{Passes, RunsOut}
-use Rattle.link_laws.specs.lossless_transfer.Shows.{GoesUp, Places, moment_at, up_packet}
+use Rattle.link_laws.specs.lossless_transfer.Shows.{GoesUp, Places, moment_at, packet_saying, up_packet}
 use Rattle.link_laws.proofs.lossless_transfer.Beginning.{CanBegin, Carries, HasBegun, begins_on_new, begins_on_old, first_words}
-use Rattle.link_laws.proofs.lossless_transfer.Chain.{here, then_passes}
 use Rattle.link_laws.proofs.lossless_transfer.Machines.{IsWrapped, KeepsOn}
 use Rattle.link_laws.proofs.plain_calls.Numbers.{numbered_grow}
-use Rattle.link_laws.specs.dropped_transfer.Dropped.{DropsFew, is_dropped, loses}
+use Rattle.link_laws.specs.dropped_transfer.Dropped.{DropsChunks, is_dropped, loses}
+use Rattle.link_laws.specs.dropped_transfer.Rounds.{IsNumberedAt}
 use Rattle.link_laws.specs.dropped_transfer.Sessions.{IsSetForDrops, book_with}
 use Rattle.link_laws.specs.dropped_transfer.Shows.{HasNumbered, IsLostIn, ShowsLossy}
 use Rattle.link_laws.specs.dropped_transfer.Survives.{BeginsDropping, OpensAnew, OpensThere}
 use Rattle.link_laws.proofs.dropped_transfer.Links.{client_sends, going_on, kept_all, undamaged}
-use Rattle.link_laws.proofs.dropped_transfer.Numbers.{lost_up, numbered_more_up, words_kept_up}
+use Rattle.link_laws.proofs.dropped_transfer.Numbers.{IsLostNow, lost_up, numbered_more_up, words_kept_up}
+use Rattle.link_laws.proofs.dropped_transfer.Chain.{below}
+use Rattle.link_laws.proofs.dropped_transfer.Rounds.{numbered_at_once}
 
 -- what stands behind a list
 get_behind : {A : Type 0} (xs : List A) (y : A) (ys : List A) → slice_get ((xs ++ y ∷ []) ++ ys) (length xs) ≡ Some y
@@ -35,7 +39,7 @@ get_behind [] y ys = refl
 get_behind (x ∷ xs) y ys = get_behind xs y ys
 
 module _ {A : Type 0} (rules : Rules A) (wrap : A → Transfer) (P : A → Type 0) (k : Setup) (x : Places) (older : List Row) (set : IsSetForDrops k x older) (wrapped : IsWrapped rules wrap) (keeps : KeepsOn rules (moment_at x) P)
-    (t : A) (can : CanBegin rules P (moment_at x) t) (far : World) (drops : DropsFew k far) where
+    (t : A) (can : CanBegin rules P (moment_at x) t) (start far : World) (drops : DropsChunks k far) where
   abbrev opens : Stepped A
   opens = rules.opens t (moment_at x)
 
@@ -77,10 +81,11 @@ module _ {A : Type 0} (rules : Rules A) (wrap : A → Transfer) (P : A → Type 
   first = begun x.service rules lossy (moment_at x) x.service.time t
 
   abbrev ShowsFirst : World → Type 0
-  ShowsFirst big = ShowsLossy wrap k x older [] big first
+  ShowsFirst big = ShowsLossy wrap k x older [] start big first
 
   -- the world shows it
-  module _ (nothing : HasNumbered x.session x.numbered 0) (memo : Memo) (sessions : memo ≡ transfer_memo (book_with x older None)) (big : World) (b : HasBegun wrap k x opens.after told ups memo big) (run : RunsOut k big far) where
+  module _ (nothing : HasNumbered x.session x.numbered 0) (memo : Memo) (sessions : memo ≡ transfer_memo (book_with x older None)) (big : World) (many : ℕ) (way : Turns k many start big)
+      (b : HasBegun wrap k x opens.after told ups memo big) (run : RunsOut k big far) (times : start.times ≡ x.times) (few : length start.numbered ≤ length x.numbered) where
     fits : AllByRecursion FitsChunk told
     fits = all_weaken (GoesUp x) FitsChunk told (λ w goes. goes.fits) b.up
 
@@ -95,6 +100,22 @@ module _ {A : Type 0} (rules : Rules A) (wrap : A → Transfer) (P : A → Type 
 
     same_words : ups ≡ kept lossy 0 told
     same_words = words_kept_up k x far x.numbered more told 0 set.places.session numbered nothing set.service_is fits
+
+    -- what was lost was numbered in the first round
+    lost_first : (l : Lost) → IsLostNow k x (length x.numbered) (moment_at x) big l → IsLostIn k x start big l
+    lost_first l lost = record {
+      place = lost.place;
+      type = lost.type;
+      message = lost.message;
+      there = lost.there;
+      dropped = lost.dropped;
+      fits = lost.fits;
+      times = x.times;
+      numbered =
+          subst (IsNumberedAt k start lost.place) times
+          (numbered_at_once k many start big lost.place way (omega (arith, few, lost.later)) (below big.numbered lost.place (packet_saying lost.type x.client_opening.name x.session l.word) lost.there) (b.kept.times ∙ sym times));
+      moment = lost.moment;
+    }
 
     shows : ShowsFirst big
     shows = record {
@@ -118,27 +139,44 @@ module _ {A : Type 0} (rules : Rules A) (wrap : A → Transfer) (P : A → Type 
       now = refl;
       time = refl;
       lost =
-          subst (AllByRecursion (IsLostIn k x big)) (sym (append-nil (missing lossy (moment_at x) 0 told)))
-          (lost_up k x big far x.numbered more told (moment_at x) 0 set.places.session b.numbered grown nothing set.service_is fits);
+          subst (AllByRecursion (IsLostIn k x start big)) (sym (append-nil (missing lossy (moment_at x) 0 told)))
+          (all_weaken (IsLostNow k x (length x.numbered) (moment_at x) big) (IsLostIn k x start big) (missing lossy (moment_at x) 0 told) lost_first
+          (lost_up k x big far x.numbered more told (length x.numbered) (moment_at x) 0 (omega arith) set.places.session b.numbered grown nothing set.service_is fits));
     }
 
   -- THE RUN MAKES ITS START
-  pub begins_in : (big : World) → BeginsDropping k x older big (wrap t) → RunsOut k big far → Passes k big far ShowsFirst
-  begins_in big begins run = by_call begins.how
+  pub begins_in : BeginsDropping k x older start (wrap t) → RunsOut k start far → Passes k start far ShowsFirst
+  begins_in begins run = by_call begins.how
     where
-      by_call : OpensThere k x older big begins.command (wrap t) ⊎ OpensAnew k x older big begins.command (wrap t) → Passes k big far ShowsFirst
+      by_call : OpensThere k x older start begins.command (wrap t) ⊎ OpensAnew k x older start begins.command (wrap t) → Passes k start far ShowsFirst
       by_call (inl old) =
           let memo : Memo = old.begins.server.memo in
-          then_passes k big far (HasBegun wrap k x opens.after told ups memo) ShowsFirst
-          (begins_on_old rules wrap P k x set.places set.only.client wrapped keeps t can far ups carried big begins.command begins.asks old.begins run)
-          (λ mid b rest. here k mid far ShowsFirst rest (shows begins.numbered memo old.sessions mid b rest))
+          let p : Passes k start far (HasBegun wrap k x opens.after told ups memo) =
+          begins_on_old rules wrap P k x set.places set.only.client wrapped keeps t can far ups carried start begins.command begins.asks old.begins run in
+          let few : length start.numbered ≤ length x.numbered = omega (arith, ap length old.begins.numbered) in
+          record {
+            mid = p.mid;
+            many = p.many;
+            way = p.way;
+            rest = p.rest;
+            holds = shows begins.numbered memo old.sessions p.mid p.many p.way p.holds p.rest old.begins.idle.times few;
+          }
       by_call (inr new) =
           let memo : Memo = k.rule.next (k.rule.first k.server.seed new.begins.method) (Asked []) in
-          then_passes k big far (HasBegun wrap k x opens.after told ups memo) ShowsFirst
-          (begins_on_new rules wrap P k x set.places set.only.client wrapped keeps t can far ups carried set.only.rule big begins.command begins.asks new.begins run)
-          (λ mid b rest. here k mid far ShowsFirst rest (shows begins.numbered memo (new.sessions ∙ ap (λ rows. transfer_memo (book_with x rows None)) (sym new.none)) mid b rest))
+          let p : Passes k start far (HasBegun wrap k x opens.after told ups memo) =
+          begins_on_new rules wrap P k x set.places set.only.client wrapped keeps t can far ups carried set.only.rule start begins.command begins.asks new.begins run in
+          let few : length start.numbered ≤ length x.numbered =
+          omega (arith, ap length new.begins.numbered, length-append start.numbered (request x.client_opening.name [] ∷ [])) in
+          record {
+            mid = p.mid;
+            many = p.many;
+            way = p.way;
+            rest = p.rest;
+            holds =
+                shows begins.numbered memo (new.sessions ∙ ap (λ rows. transfer_memo (book_with x rows None)) (sym new.none)) p.mid p.many p.way p.holds p.rest new.begins.idle.times few;
+          }
 
 pub begins_so : {A : Type 0} (rules : Rules A) (wrap : A → Transfer) (P : A → Type 0) (k : Setup) (x : Places) (older : List Row) → IsSetForDrops k x older → IsWrapped rules wrap → KeepsOn rules (moment_at x) P
-    → (t : A) → CanBegin rules P (moment_at x) t → (big far : World) → DropsFew k far → BeginsDropping k x older big (wrap t) → RunsOut k big far
-    → Passes k big far (λ next. ShowsLossy wrap k x older [] next (begun x.service rules (loses k x.session far) (moment_at x) x.service.time t))
-begins_so rules wrap P k x older set wrapped keeps t can big far drops begins run = begins_in rules wrap P k x older set wrapped keeps t can far drops big begins run
+    → (t : A) → CanBegin rules P (moment_at x) t → (big far : World) → DropsChunks k far → BeginsDropping k x older big (wrap t) → RunsOut k big far
+    → Passes k big far (λ next. ShowsLossy wrap k x older [] big next (begun x.service rules (loses k x.session far) (moment_at x) x.service.time t))
+begins_so rules wrap P k x older set wrapped keeps t can big far drops begins run = begins_in rules wrap P k x older set wrapped keeps t can big far drops begins run

@@ -1,5 +1,5 @@
 -- A word is delivered to the client, and what its task says goes out on a link that drops frames.
-use Rattle.std.proofs.Common.{◌≡◌, ℕ, ◌+◌, ◌*◌, ◌<◌, ◌^◌, List, [], ◌∷◌, ◌++◌, length, map, Option, Some, None, refl, ap, sym, ◌∙◌, subst}
+use Rattle.std.proofs.Common.{◌≡◌, ℕ, ◌+◌, ◌*◌, ◌<◌, ◌^◌, List, [], ◌∷◌, ◌++◌, length, map, Option, Some, None, refl, ap, sym, ◌∙◌, subst, arith}
 use Rattle.std.specs.List.{AllByRecursion}
 use Rattle.rpc_ids.specs.declared.method.Role.TheVariants.{Server, Client}
 use Rattle.rpc_packet.specs.declared.owned.Packet.{Packet}
@@ -34,10 +34,10 @@ use Rattle.link_laws.proofs.lossless_transfer.Words.{words_up}
 use Rattle.link_laws.specs.dropped_transfer.Dropped.{is_dropped, loses}
 use Rattle.link_laws.specs.dropped_transfer.Passing.{Passing, own, passing_packet}
 use Rattle.link_laws.specs.dropped_transfer.Sessions.{IsSetForDrops, book_with}
-use Rattle.link_laws.specs.dropped_transfer.Shows.{HasNumbered, IsLostIn, StandsDropping}
+use Rattle.link_laws.specs.dropped_transfer.Shows.{HasNumbered, StandsDropping}
 use Rattle.link_laws.proofs.dropped_transfer.Ends.{calm, calm_set, of_calm_client, to_calm_client}
 use Rattle.link_laws.proofs.dropped_transfer.Links.{client_sends, going_on, kept_all, undamaged}
-use Rattle.link_laws.proofs.dropped_transfer.Numbers.{grown_from, lost_up, numbered_more_up, words_fit, words_kept_up}
+use Rattle.link_laws.proofs.dropped_transfer.Numbers.{IsLostNow, grown_from, lost_up, numbered_more_up, words_fit, words_kept_up}
 
 module _ {A : Type 0} (rules : Rules A) (wrap : A → Transfer) (P : A → Type 0) (k : Setup) (x : Places) (older : List Row) (set : IsSetForDrops k x older) (early : moment_at x + TIMEOUT < 2 ^ 63) (wrapped : IsWrapped rules wrap) (keeps : KeepsOn rules (moment_at x) P)
     (big now far : World) (stage : Option Stage) (t : A) (c : Word) (rest : List Passing) (n : ℕ) where
@@ -58,7 +58,7 @@ module _ {A : Type 0} (rules : Rules A) (wrap : A → Transfer) (P : A → Type 
     pub holds : P heard_step.after
     pub task : IsUnderWay x (wrap heard_step.after) world
     pub numbered : world.numbered ≡ big.numbered ++ map (up_packet x) told
-    pub lost : AllByRecursion (IsLostIn k x world) (missing (loses k x.session far) (moment_at x) n told)
+    pub lost : AllByRecursion (IsLostNow k x (length big.numbered) (moment_at x) world) (missing (loses k x.session far) (moment_at x) n told)
 
   module _ (st : StandsDropping k x older big stage [] (own c ∷ rest) n) (task : IsUnderWay x (wrap t) big) (holds : P t) (unended : rules.end_of t ≡ None) (turn : Turn k big now) (run : RunsOut k now far) where
     ready : IsSetFor (calm k) x
@@ -144,5 +144,5 @@ module _ {A : Type 0} (rules : Rules A) (wrap : A → Transfer) (P : A → Type 
       holds = does.0;
       task = record { under = under_is; lines = client_keeps k (λ z. z.lines) (λ z q. refl) v sure.after ∙ task.lines };
       numbered = numbered;
-      lost = lost_up k x world far big.numbered grown.0 told (moment_at x) n set.places.session numbered grown.1 st.said_are set.service_is told_fit;
+      lost = lost_up k x world far big.numbered grown.0 told (length big.numbered) (moment_at x) n (omega arith) set.places.session numbered grown.1 st.said_are set.service_is told_fit;
     }

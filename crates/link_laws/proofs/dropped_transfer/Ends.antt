@@ -5,13 +5,11 @@ use Rattle.rpc_journal.specs.declared.entry.Entry.{Entry}
 use Rattle.transfer_base.specs.declared.limits.TheConstants.{TIMEOUT}
 use Rattle.transfer_resume.specs.declared.stage.Stage.{Stage}
 use Rattle.transfer_resume.specs.Session.{Row}
-use Rattle.transfer_laws.specs.losses.Drops.{Lost}
 use Rattle.link_laws.specs.world.World.{Setup, Transfer, World}
 use Rattle.link_laws.specs.lossless_transfer.Finishes.{IsSetFor}
 use Rattle.link_laws.specs.lossless_transfer.Shows.{ArePlaces, AtClient, AtServer, IsUnderWay, Places, moment_at}
 use Rattle.link_laws.specs.dropped_transfer.Passing.{IsBesideAtClient, IsCallThere}
 use Rattle.link_laws.specs.dropped_transfer.Sessions.{IsSetForDrops, at_turn}
-use Rattle.link_laws.specs.dropped_transfer.Shows.{IsLostIn}
 
 -- with a link that loses nothing
 abbrev pub calm : Setup → Setup
@@ -61,10 +59,3 @@ module _ (x : Places) (time times : ℕ) (server : List Entry) where
   pub call_later : (k : Setup) (name : CallName) → IsCallThere k x name → IsCallThere k later_on name
   call_later k name (inl own) = inl own
   call_later k name (inr call) = inr (beside_later k name call)
-
-  -- what was lost is lost
-  pub lost_later : (k : Setup) (big : World) (w : Lost) → IsLostIn k x big w → IsLostIn k later_on big w
-  lost_later k big w lost = record { place = lost.place; type = lost.type; there = lost.there; dropped = lost.dropped; fits = lost.fits }
-
-  pub lost_before : (k : Setup) (big : World) (w : Lost) → IsLostIn k later_on big w → IsLostIn k x big w
-  lost_before k big w lost = record { place = lost.place; type = lost.type; there = lost.there; dropped = lost.dropped; fits = lost.fits }

@@ -36,6 +36,17 @@ use Rattle.link_laws.specs.dropped_transfer.Passing.{MayPass, Passing, Stray, ot
 use Rattle.link_laws.specs.dropped_transfer.Shows.{HasNumbered, IsLostIn}
 use Rattle.link_laws.proofs.dropped_transfer.Links.{going_on}
 
+-- the word was said by one of the ends behind so many frames, at this moment, in a frame that is dropped
+pub record IsLostNow (k : Setup) (x : Places) (from now : ℕ) (big : World) (l : Lost) : Type 0 where
+  pub place : ℕ
+  pub type : PacketType
+  pub message : is_stream type ≡ true
+  pub there : slice_get big.numbered place ≡ Some (packet_saying type x.client_opening.name x.session l.word)
+  pub dropped : is_dropped k (suc place) ≡ true
+  pub fits : FitsChunk l.word
+  pub later : from ≤ place
+  pub moment : l.moment ≡ now
+
 -- what is numbered in a world begins what is numbered in the whole run, also before the end of the turn
 pub grown_from : (k : Setup) (now world far : World) → now ≡ finished k world → RunsOut k now far → (more : List Packet) × (far.numbered ≡ world.numbered ++ more)
 grown_from k now world far ends run =
@@ -310,19 +321,19 @@ module _ (k : Setup) (x : Places) (small : x.session < 2 ^ 32) (service : x.clie
           by false is rest = rw is (ap (λ more. w ∷ more) rest)
 
       -- those that don't were said in frames that are dropped
-      words_lost : (big : World) (more before : List Packet) (ws : List Word) (now n : ℕ) → far.numbered ≡ big.numbered ++ more → big.numbered ≡ before ++ map (saying type message name named) ws → count_by test before ≡ n
-          → AllByRecursion FitsChunk ws → AllByRecursion (IsLostIn k x big) (missing lost now n ws)
-      words_lost big more before [] now n grown are many fits = tt
-      words_lost big more before (w ∷ ws) now n grown are many fits =
+      words_lost : (big : World) (more before : List Packet) (ws : List Word) (from now n : ℕ) → from ≤ length before → far.numbered ≡ big.numbered ++ more → big.numbered ≡ before ++ map (saying type message name named) ws → count_by test before ≡ n
+          → AllByRecursion FitsChunk ws → AllByRecursion (IsLostNow k x from now big) (missing lost now n ws)
+      words_lost big more before [] from now n behind grown are many fits = tt
+      words_lost big more before (w ∷ ws) from now n behind grown are many fits =
           by (is_dropped k (suc (length before))) refl
           (next_lost before (saying type message name named w) (map (saying type message name named) ws ++ more) n (grown ∙ (ap (λ (ps : List Packet). ps ++ more) are ∙ append_assoc before (saying type message name named w ∷ map (saying type message name named) ws) more)) many (says_own type message name named w fits.0))
-          (words_lost big more (before ++ saying type message name named w ∷ []) ws now (suc n) grown (are ∙ sym (append_assoc before (saying type message name named w ∷ []) (map (saying type message name named) ws))) (more_words type message name named before w n fits.0 many) fits.1)
+          (words_lost big more (before ++ saying type message name named w ∷ []) ws from now (suc n) (omega (arith, behind, behind_one before (saying type message name named w))) grown (are ∙ sym (append_assoc before (saying type message name named w ∷ []) (map (saying type message name named) ws))) (more_words type message name named before w n fits.0 many) fits.1)
         where
-          by : (d : Bool) → is_dropped k (suc (length before)) ≡ d → lost (suc n) ≡ is_dropped k (suc (length before)) → AllByRecursion (IsLostIn k x big) (missing lost now (suc n) ws)
-              → AllByRecursion (IsLostIn k x big) (if lost (suc n) then lost_at now w ∷ missing lost now (suc n) ws else missing lost now (suc n) ws)
+          by : (d : Bool) → is_dropped k (suc (length before)) ≡ d → lost (suc n) ≡ is_dropped k (suc (length before)) → AllByRecursion (IsLostNow k x from now big) (missing lost now (suc n) ws)
+              → AllByRecursion (IsLostNow k x from now big) (if lost (suc n) then lost_at now w ∷ missing lost now (suc n) ws else missing lost now (suc n) ws)
           by true here is rest =
               rw (is ∙ here)
-              (record { place = length before; type = type; there = ap (λ (ps : List Packet). slice_get ps (length before)) are ∙ (get_seam before (saying type message name named w) (map (saying type message name named) ws) ∙ as_named type name named w); dropped = here; fits = fits.0 }, rest)
+              (record { place = length before; type = type; message = message; there = ap (λ (ps : List Packet). slice_get ps (length before)) are ∙ (get_seam before (saying type message name named w) (map (saying type message name named) ws) ∙ as_named type name named w); dropped = here; fits = fits.0; later = behind; moment = refl }, rest)
           by false here is rest = rw (is ∙ here) rest
 
     -- what passes to the client
@@ -348,23 +359,23 @@ module _ (k : Setup) (x : Places) (small : x.session < 2 ^ 32) (service : x.clie
           by true rest = rest
           by false rest = rest
 
-      downs_lost : (big : World) (more before : List Packet) (ps : List Passing) (now n : ℕ) → far.numbered ≡ big.numbered ++ more → big.numbered ≡ before ++ map (passing_packet x) ps → count_by test before ≡ n
-          → AllByRecursion (MayPass k x) ps → AllByRecursion (IsLostIn k x big) (missing lost now n (own_words ps))
-      downs_lost big more before [] now n grown are many may = tt
-      downs_lost big more before (own w ∷ ps) now n grown are many may =
+      downs_lost : (big : World) (more before : List Packet) (ps : List Passing) (from now n : ℕ) → from ≤ length before → far.numbered ≡ big.numbered ++ more → big.numbered ≡ before ++ map (passing_packet x) ps → count_by test before ≡ n
+          → AllByRecursion (MayPass k x) ps → AllByRecursion (IsLostNow k x from now big) (missing lost now n (own_words ps))
+      downs_lost big more before [] from now n behind grown are many may = tt
+      downs_lost big more before (own w ∷ ps) from now n behind grown are many may =
           by (is_dropped k (suc (length before))) refl
           (next_lost before (down_packet x w) (map (passing_packet x) ps ++ more) n (grown ∙ (ap (λ (qs : List Packet). qs ++ more) are ∙ append_assoc before (down_packet x w ∷ map (passing_packet x) ps) more)) many
           (says_own ServerStream refl x.server_opening.name named w may.0))
-          (downs_lost big more (before ++ down_packet x w ∷ []) ps now (suc n) grown (are ∙ sym (append_assoc before (down_packet x w ∷ []) (map (passing_packet x) ps))) (more_words ServerStream refl x.server_opening.name named before w n may.0 many) may.1)
+          (downs_lost big more (before ++ down_packet x w ∷ []) ps from now (suc n) (omega (arith, behind, behind_one before (down_packet x w))) grown (are ∙ sym (append_assoc before (down_packet x w ∷ []) (map (passing_packet x) ps))) (more_words ServerStream refl x.server_opening.name named before w n may.0 many) may.1)
         where
-          by : (d : Bool) → is_dropped k (suc (length before)) ≡ d → lost (suc n) ≡ is_dropped k (suc (length before)) → AllByRecursion (IsLostIn k x big) (missing lost now (suc n) (own_words ps))
-              → AllByRecursion (IsLostIn k x big) (if lost (suc n) then lost_at now w ∷ missing lost now (suc n) (own_words ps) else missing lost now (suc n) (own_words ps))
+          by : (d : Bool) → is_dropped k (suc (length before)) ≡ d → lost (suc n) ≡ is_dropped k (suc (length before)) → AllByRecursion (IsLostNow k x from now big) (missing lost now (suc n) (own_words ps))
+              → AllByRecursion (IsLostNow k x from now big) (if lost (suc n) then lost_at now w ∷ missing lost now (suc n) (own_words ps) else missing lost now (suc n) (own_words ps))
           by true here is rest =
               rw (is ∙ here)
-              (record { place = length before; type = ServerStream; there = ap (λ (qs : List Packet). slice_get qs (length before)) are ∙ (get_seam before (down_packet x w) (map (passing_packet x) ps) ∙ as_named ServerStream x.server_opening.name named w); dropped = here; fits = may.0 }, rest)
+              (record { place = length before; type = ServerStream; message = refl; there = ap (λ (qs : List Packet). slice_get qs (length before)) are ∙ (get_seam before (down_packet x w) (map (passing_packet x) ps) ∙ as_named ServerStream x.server_opening.name named w); dropped = here; fits = may.0; later = behind; moment = refl }, rest)
           by false here is rest = rw (is ∙ here) rest
-      downs_lost big more before (other s ∷ ps) now n grown are many may =
-          downs_lost big more (before ++ stray_packet s ∷ []) ps now n grown (are ∙ sym (append_assoc before (stray_packet s ∷ []) (map (passing_packet x) ps)))
+      downs_lost big more before (other s ∷ ps) from now n behind grown are many may =
+          downs_lost big more (before ++ stray_packet s ∷ []) ps from now n (omega (arith, behind, behind_one before (stray_packet s))) grown (are ∙ sym (append_assoc before (stray_packet s ∷ []) (map (passing_packet x) ps)))
           (omega (arith, one_counted test false before (stray_packet s) n many (stray_not_own s may.0.0))) may.1
 
 -- OF WHAT PASSES TO THE CLIENT THE WORDS GO ON THAT AREN'T LOST
@@ -386,18 +397,18 @@ words_kept_up k x far before more ws n small are said service fits =
     words_go_on k x small service far ClientStream refl x.client_opening.name refl before more ws n (length before) (are ∙ append_assoc before (map (up_packet x) ws) more) refl said.words fits
 
 -- THOSE THAT ARE LOST WERE SAID IN DROPPED FRAMES
-pub lost_down : (k : Setup) (x : Places) (big far : World) (before more : List Packet) (ps : List Passing) (now n : ℕ) → ArePlaces x → big.numbered ≡ before ++ map (passing_packet x) ps → far.numbered ≡ big.numbered ++ more
-    → HasNumbered x.session before n → x.client_opening.name.service ≡ transfer_id → AllByRecursion (MayPass k x) ps → AllByRecursion (IsLostIn k x big) (missing (loses k x.session far) now n (own_words ps))
-lost_down k x big far before more ps now n are_places are grown said service may = downs_lost k x are_places.session service far are_places.named big more before ps now n grown are said.words may
+pub lost_down : (k : Setup) (x : Places) (big far : World) (before more : List Packet) (ps : List Passing) (from now n : ℕ) → from ≤ length before → ArePlaces x → big.numbered ≡ before ++ map (passing_packet x) ps → far.numbered ≡ big.numbered ++ more
+    → HasNumbered x.session before n → x.client_opening.name.service ≡ transfer_id → AllByRecursion (MayPass k x) ps → AllByRecursion (IsLostNow k x from now big) (missing (loses k x.session far) now n (own_words ps))
+lost_down k x big far before more ps from now n behind are_places are grown said service may = downs_lost k x are_places.session service far are_places.named big more before ps from now n behind grown are said.words may
 
 -- the server's alone, and the client's
-pub lost_down_alone : (k : Setup) (x : Places) (big far : World) (before more : List Packet) (ws : List Word) (now n : ℕ) → ArePlaces x → big.numbered ≡ before ++ map (down_packet x) ws → far.numbered ≡ big.numbered ++ more
-    → HasNumbered x.session before n → x.client_opening.name.service ≡ transfer_id → AllByRecursion FitsChunk ws → AllByRecursion (IsLostIn k x big) (missing (loses k x.session far) now n ws)
-lost_down_alone k x big far before more ws now n are_places are grown said service fits = words_lost k x are_places.session service far ServerStream refl x.server_opening.name are_places.named big more before ws now n grown are said.words fits
+pub lost_down_alone : (k : Setup) (x : Places) (big far : World) (before more : List Packet) (ws : List Word) (from now n : ℕ) → from ≤ length before → ArePlaces x → big.numbered ≡ before ++ map (down_packet x) ws → far.numbered ≡ big.numbered ++ more
+    → HasNumbered x.session before n → x.client_opening.name.service ≡ transfer_id → AllByRecursion FitsChunk ws → AllByRecursion (IsLostNow k x from now big) (missing (loses k x.session far) now n ws)
+lost_down_alone k x big far before more ws from now n behind are_places are grown said service fits = words_lost k x are_places.session service far ServerStream refl x.server_opening.name are_places.named big more before ws from now n behind grown are said.words fits
 
-pub lost_up : (k : Setup) (x : Places) (big far : World) (before more : List Packet) (ws : List Word) (now n : ℕ) → x.session < 2 ^ 32 → big.numbered ≡ before ++ map (up_packet x) ws → far.numbered ≡ big.numbered ++ more
-    → HasNumbered x.session before n → x.client_opening.name.service ≡ transfer_id → AllByRecursion FitsChunk ws → AllByRecursion (IsLostIn k x big) (missing (loses k x.session far) now n ws)
-lost_up k x big far before more ws now n small are grown said service fits = words_lost k x small service far ClientStream refl x.client_opening.name refl big more before ws now n grown are said.words fits
+pub lost_up : (k : Setup) (x : Places) (big far : World) (before more : List Packet) (ws : List Word) (from now n : ℕ) → from ≤ length before → x.session < 2 ^ 32 → big.numbered ≡ before ++ map (up_packet x) ws → far.numbered ≡ big.numbered ++ more
+    → HasNumbered x.session before n → x.client_opening.name.service ≡ transfer_id → AllByRecursion FitsChunk ws → AllByRecursion (IsLostNow k x from now big) (missing (loses k x.session far) now n ws)
+lost_up k x big far before more ws from now n behind small are grown said service fits = words_lost k x small service far ClientStream refl x.client_opening.name refl big more before ws from now n behind grown are said.words fits
 
 -- SO MANY WORDS MORE WERE SAID BEHIND THAT
 pub numbered_more : (k : Setup) (x : Places) (before : List Packet) (ps : List Passing) (n : ℕ) → ArePlaces x → x.client_opening.name.service ≡ transfer_id → AllByRecursion (MayPass k x) ps
@@ -412,16 +423,38 @@ pub numbered_more_up : (k : Setup) (x : Places) (before : List Packet) (ws : Lis
     → HasNumbered x.session before n → HasNumbered x.session (before ++ map (up_packet x) ws) (n + length ws)
 numbered_more_up k x before ws n small service fits said = words_numbered k x small service ClientStream refl x.client_opening.name refl before ws n fits said
 
--- what was lost stays lost
-pub still_lost : (k : Setup) (x : Places) (a b : World) (more : List Packet) → b.numbered ≡ a.numbered ++ more → (w : Lost) → IsLostIn k x a w → IsLostIn k x b w
-still_lost k x a b more grown w is = record {
-  place = is.place;
-  type = is.type;
-  there =
-      ap (λ (ps : List Packet). slice_get ps is.place) grown ∙ get_front a.numbered more is.place (packet_saying is.type x.client_opening.name x.session w.word) is.there;
-  dropped = is.dropped;
-  fits = is.fits;
-}
+-- WHAT WAS LOST STAYS LOST where more was numbered
+module _ (k : Setup) (x : Places) (a b : World) (more : List Packet) (grown : b.numbered ≡ a.numbered ++ more) where
+  still_there : (place : ℕ) (p : Packet) → slice_get a.numbered place ≡ Some p → slice_get b.numbered place ≡ Some p
+  still_there place p there = ap (λ (ps : List Packet). slice_get ps place) grown ∙ get_front a.numbered more place p there
 
-pub all_still_lost : (k : Setup) (x : Places) (a b : World) (more : List Packet) → b.numbered ≡ a.numbered ++ more → (ws : List Lost) → AllByRecursion (IsLostIn k x a) ws → AllByRecursion (IsLostIn k x b) ws
-all_still_lost k x a b more grown ws all = all_weaken (IsLostIn k x a) (IsLostIn k x b) ws (still_lost k x a b more grown) all
+  pub still_lost : (first : World) (l : Lost) → IsLostIn k x first a l → IsLostIn k x first b l
+  still_lost first l is = record {
+    place = is.place;
+    type = is.type;
+    message = is.message;
+    there = still_there is.place (packet_saying is.type x.client_opening.name x.session l.word) is.there;
+    dropped = is.dropped;
+    fits = is.fits;
+    times = is.times;
+    numbered = is.numbered;
+    moment = is.moment;
+  }
+
+  pub all_still_lost : (first : World) (ls : List Lost) → AllByRecursion (IsLostIn k x first a) ls → AllByRecursion (IsLostIn k x first b) ls
+  all_still_lost first ls all = all_weaken (IsLostIn k x first a) (IsLostIn k x first b) ls (still_lost first) all
+
+  pub all_lost_now : (from now : ℕ) (ls : List Lost) → AllByRecursion (IsLostNow k x from now a) ls → AllByRecursion (IsLostNow k x from now b) ls
+  all_lost_now from now ls all = all_weaken (IsLostNow k x from now a) (IsLostNow k x from now b) ls lost_now all
+    where
+      lost_now : (l : Lost) → IsLostNow k x from now a l → IsLostNow k x from now b l
+      lost_now l is = record {
+        place = is.place;
+        type = is.type;
+        message = is.message;
+        there = still_there is.place (packet_saying is.type x.client_opening.name x.session l.word) is.there;
+        dropped = is.dropped;
+        fits = is.fits;
+        later = is.later;
+        moment = is.moment;
+      }

@@ -1,5 +1,5 @@
 -- A word is delivered to the server, and what it says goes out on a link that drops frames.
-use Rattle.std.proofs.Common.{◌≡◌, ℕ, ◌+◌, ◌<◌, ◌^◌, List, [], ◌∷◌, ◌++◌, length, map, true, Option, refl, ap, sym, ◌∙◌, subst}
+use Rattle.std.proofs.Common.{◌≡◌, ℕ, ◌+◌, ◌<◌, ◌^◌, List, [], ◌∷◌, ◌++◌, length, map, true, Option, refl, ap, sym, ◌∙◌, subst, arith}
 use Rattle.std.proofs.lemmas.List.{map-append}
 use Rattle.std.specs.List.{AllByRecursion}
 use Rattle.rpc_ids.specs.declared.method.Role.TheVariants.{Server, Client}
@@ -36,11 +36,11 @@ use Rattle.link_laws.proofs.lossless_transfer.Words.{words_down}
 use Rattle.link_laws.specs.dropped_transfer.Dropped.{is_dropped, loses}
 use Rattle.link_laws.specs.dropped_transfer.Passing.{PassDown, PassesDown, Passing, own, passing_packet}
 use Rattle.link_laws.specs.dropped_transfer.Sessions.{IsSetForDrops, book_with}
-use Rattle.link_laws.specs.dropped_transfer.Shows.{HasNumbered, IsLostIn, StandsDropping}
+use Rattle.link_laws.specs.dropped_transfer.Shows.{HasNumbered, StandsDropping}
 use Rattle.link_laws.proofs.dropped_transfer.Books.{word_memo}
 use Rattle.link_laws.proofs.dropped_transfer.Ends.{calm, calm_set, of_calm_server, to_calm_server}
 use Rattle.link_laws.proofs.dropped_transfer.Links.{going_on, kept_all, server_sends, undamaged}
-use Rattle.link_laws.proofs.dropped_transfer.Numbers.{grown_from, lost_down_alone, numbered_more_down, own_packets, words_fit, words_kept_down}
+use Rattle.link_laws.proofs.dropped_transfer.Numbers.{IsLostNow, grown_from, lost_down_alone, numbered_more_down, own_packets, words_fit, words_kept_down}
 
 -- words of the transfer that pass
 pub own_pass : (k : Setup) (x : Places) (ws : List Word) → AllByRecursion (GoesDown x) ws → PassDown k x (map own ws)
@@ -69,7 +69,7 @@ module _ (k : Setup) (x : Places) (older : List Row) (set : IsSetForDrops k x ol
     pub under : world.under ≡ big.under
     pub lines : world.lines ≡ big.lines
     pub numbered : world.numbered ≡ big.numbered ++ map (down_packet x) told
-    pub lost : AllByRecursion (IsLostIn k x world) (missing (loses k x.session far) (moment_at x) n told)
+    pub lost : AllByRecursion (IsLostNow k x (length big.numbered) (moment_at x) world) (missing (loses k x.session far) (moment_at x) n told)
 
   module _ (st : StandsDropping k x older big stage (c ∷ rest) downs n) (fits : SessionFits stage) (turn : Turn k big now) (run : RunsOut k now far) where
     ready : IsSetFor (calm k) x
@@ -156,5 +156,5 @@ module _ (k : Setup) (x : Places) (older : List Row) (set : IsSetForDrops k x ol
       under = server_keeps k (λ z. z.under) (λ z q. refl) v sure.after;
       lines = server_keeps k (λ z. z.lines) (λ z q. refl) v sure.after;
       numbered = numbered;
-      lost = lost_down_alone k x world far big.numbered grown.0 told (moment_at x) n set.places numbered grown.1 st.said_are set.service_is told_fit;
+      lost = lost_down_alone k x world far big.numbered grown.0 told (length big.numbered) (moment_at x) n (omega arith) set.places numbered grown.1 st.said_are set.service_is told_fit;
     }

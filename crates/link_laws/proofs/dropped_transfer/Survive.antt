@@ -1,6 +1,7 @@
--- Reads and writes survive three dropped frames, and so do refusals.
-use Rattle.std.proofs.Common.{◌≡◌, ℕ, zero, suc, ◌+◌, ◌*◌, ◌<◌, ◌≤◌, ◌==◌, ◌&&◌, ◌^◌, Bool, true, false, List, [], ◌∷◌, ◌++◌, codes, length, Option, Some, None, Result, refl, ap, sym, ◌∙◌, subst, arith}
-use Rattle.std.proofs.lemmas.Bool.{eq-eqb}
+-- Reads and writes survive three lossy rounds, and so do refusals.
+use Rattle.std.proofs.Common.{◌≡◌, ℕ, ◌+◌, ◌*◌, ◌<◌, ◌≤◌, ◌==◌, ◌&&◌, ◌||◌, ◌⊎◌, inl, inr, ◌^◌, Bool, true, false, List, [], ◌∷◌, ◌++◌, codes, Option, Some, None, Result, refl, ap, sym, ◌∙◌, subst, arith}
+use Rattle.std.proofs.lemmas.Bool.{eq-eqb, eqb-true}
+use Rattle.std.specs.List.{AllByRecursion}
 use Rattle.link_script.specs.declared.report.ReportLine.{ReportLine}
 use Rattle.history_laws.proofs.messages.Members.{all_weaken}
 use Rattle.rpc_ids.specs.Names.{name_id}
@@ -16,16 +17,19 @@ use Rattle.transfer_client.specs.Write.{Upload, new_upload, write_rules}
 use Rattle.transfer_resume.specs.declared.stage.Stage.{Stage}
 use Rattle.transfer_resume.specs.declared.stage.Stage.TheVariants as stage
 use Rattle.transfer_resume.specs.Opening.{agreed_offset}
-use Rattle.transfer_resume.specs.Session.{Row, Service}
+use Rattle.transfer_resume.specs.Session.{Row}
 use Rattle.transfer_laws.specs.pairs.EndsWell.{read_ended, read_refused, write_ended}
 use Rattle.transfer_laws.specs.losses.Drops.{LeadsTo, Lost, LossyPair, begun, lost_at}
-use Rattle.transfer_laws.specs.losses.Survives.{Ends, HasEndedWell, IsNoConfirmation, IsSettled, IsSoon, KeepsARoundClean, LosesFew, SaysNoConfirmation, SparesConfirmations}
+use Rattle.transfer_laws.specs.losses.Survives.{Ends, HasEndedWell, IsNoConfirmation, IsSettled, KeepsARoundClean, SaysNoConfirmation, SparesConfirmations}
+use Rattle.transfer_laws.specs.losses.Rounds.{LOSSY_ROUNDS, is_lossy, moment_of}
 use Rattle.transfer_laws.proofs.losses.FewLosses.{few_losses_keep_a_round_clean}
 use Rattle.transfer_laws.proofs.losses.Numbers.{numbers_lose_few}
 use Rattle.transfer_laws.proofs.losses.ReadLaws.{reads_survive}
 use Rattle.transfer_laws.proofs.losses.RefusalSurvival.{refusals_survive}
 use Rattle.transfer_laws.proofs.losses.WriteLaws.{writes_survive}
+use Rattle.link_laws.specs.world.Turns.{Turns}
 use Rattle.link_laws.specs.world.World.{Setup, Transfer, World, reads, writes}
+use Rattle.link_laws.proofs.lossless_scripts.Walk.{turns_join}
 use Rattle.link_laws.specs.world.Lines.{line_telling}
 use Rattle.link_laws.specs.lossless_transfer.Finishes.{Passes, ReadFits, WriteFits}
 use Rattle.link_laws.specs.lossless_transfer.Shows.{Places, moment_at}
@@ -36,14 +40,16 @@ use Rattle.link_laws.proofs.lossless_transfer.Machines.{IsWrapped}
 use Rattle.link_laws.proofs.lossless_transfer.ReadSteps.{reads_wrapped}
 use Rattle.link_laws.proofs.lossless_transfer.WriteSteps.{writes_wrapped}
 use Rattle.link_laws.proofs.plain_calls.Numbers.{numbered_grow}
-use Rattle.link_laws.specs.dropped_transfer.Dropped.{DropsFew, is_confirmation, loses, lost_numbers}
+use Rattle.link_laws.specs.dropped_transfer.Dropped.{DropsChunks, is_confirmation, loses, lost_numbers}
+use Rattle.link_laws.specs.dropped_transfer.Rounds.{HasCleanRound, IsNumberedAt, IsSpared, by_number, by_round}
 use Rattle.link_laws.specs.dropped_transfer.Sessions.{at_turn}
 use Rattle.link_laws.specs.dropped_transfer.Shows.{IsLostIn, LeftDropping, ShowsLossy}
-use Rattle.link_laws.specs.dropped_transfer.Survives.{HasSurvived, ReadsSurviveDrops, RefusalsSurviveDrops, CanSurvive, WritesSurviveDrops}
+use Rattle.link_laws.specs.dropped_transfer.Survives.{BeginsDropping, CanSurvive, HasSurvived, OpensAnew, OpensThere, ReadsSurviveDrops, RefusalsSurviveDrops, WritesSurviveDrops}
 use Rattle.link_laws.proofs.dropped_transfer.Begin.{begins_so}
 use Rattle.link_laws.proofs.dropped_transfer.Chain.{Come, follows, leads_past}
 use Rattle.link_laws.proofs.dropped_transfer.Late.{ReadAt, WriteAt, reads_keep_time, writes_keep_time}
-use Rattle.link_laws.proofs.dropped_transfer.Numbers.{all_still_lost, lost_few}
+use Rattle.link_laws.proofs.dropped_transfer.Numbers.{all_still_lost, is_own}
+use Rattle.link_laws.proofs.dropped_transfer.Rounds.{IsBy, last_by}
 use Rattle.link_laws.proofs.dropped_transfer.Tail.{drains}
 use Rattle.link_laws.proofs.dropped_transfer.TimeStep.{KeepsTime}
 
@@ -55,14 +61,14 @@ well_settled (Some (stage.Receiving r)) well = well
 well_settled (Some (stage.Ended status)) well = tt
 
 -- what was lost in a read is no confirmation
-spared_word : (k : Setup) (x : Places) (far : World) → DropsFew k far → x.client_opening.name.method ≡ name_id (codes "Read") → x.session < 2 ^ 32 → (l : Lost) → IsLostIn k x far l → IsNoConfirmation l
-spared_word k x far drops named small l lost = by l.word lost
+spared_word : (k : Setup) (x : Places) (first far : World) → DropsChunks k far → x.client_opening.name.method ≡ name_id (codes "Read") → x.session < 2 ^ 32 → (l : Lost) → IsLostIn k x first far l → IsNoConfirmation l
+spared_word k x first far drops named small l lost = by l.word lost
   where
     both : (b : Bool) → b ≡ true → (b && true) ≡ false → ⊥
     both true is none = cc
     both false is none = cc
 
-    by : (w : Word) → IsLostIn k x far (lost_at l.moment w) → SaysNoConfirmation w
+    by : (w : Word) → IsLostIn k x first far (lost_at l.moment w) → SaysNoConfirmation w
     by (confirmation ask) lost =
         absurd (both (x.client_opening.name.method == name_id (codes "Read")) (eq-eqb x.client_opening.name.method (name_id (codes "Read")) named)
         (sym (ap (λ (r : Result Chunk ℕ). (x.client_opening.name.method == name_id (codes "Read")) && is_confirmation r) (words_are_heard x.session (confirmation ask) small lost.fits).read)
@@ -74,6 +80,14 @@ spared_word k x far drops named small l lost = by l.word lost
     by (completion status) lost = tt
     by completion_ack lost = tt
 
+-- when it begins
+begins_then : {k : Setup} {x : Places} {older : List Row} {big : World} {t : Transfer} → BeginsDropping k x older big t → big.times ≡ x.times
+begins_then {k} {x} {older} {big} {t} begins = by_how begins.how
+  where
+    by_how : OpensThere k x older big begins.command t ⊎ OpensAnew k x older big begins.command t → big.times ≡ x.times
+    by_how (inl old) = old.begins.idle.times
+    by_how (inr new) = new.begins.idle.times
+
 module _ {A : Type 0} (rules : Rules A) (wrap : A → Transfer) (P : ℕ → A → Type 0) (wrapped : IsWrapped rules wrap) (keeps : KeepsTime rules P) (k : Setup) (x : Places) (older : List Row) (big far : World) (t : A)
     (starts : CanSurvive k x older big far (wrap t)) (can : CanBegin rules (P (moment_at x)) (moment_at x) t) where
   abbrev lost : ℕ → Bool
@@ -83,38 +97,76 @@ module _ {A : Type 0} (rules : Rules A) (wrap : A → Transfer) (P : ℕ → A �
   abbrev w : LossyPair A
   w = begun x.service rules lost (moment_at x) x.service.time t
 
-  -- no more words are lost than frames are dropped, so one of the first four rounds is clean
-  pub rounds_clean : KeepsARoundClean x.service rules lost (moment_at x) w
-  rounds_clean = few_losses_keep_a_round_clean rules x.service lost (moment_at x) w loses_few
-    where
-      loses_few : LosesFew x.service rules lost w
-      loses_few count =
-          omega (arith, starts.drops.few, lost_few k x.session far, numbers_lose_few rules x.service (lost_numbers k x.session far) (moment_at x) x.service.time t count)
-
   -- THE RUN COMES TO EACH PAIR that it leads to in time
-  comes : (n : ℕ) (last : LossyPair A) → LeadsTo x.service rules lost n w last → IsSoon x.service rules lost (moment_at x) last → Passes k big far (Come rules wrap k x last)
+  comes : (n : ℕ) (last : LossyPair A) → LeadsTo x.service rules lost n w last → last.now ≤ moment_at x + TIMEOUT * LOSSY_ROUNDS → Passes k big far (Come rules wrap k x big last)
   comes n last leads soon =
-      then_passes k big far (λ next. ShowsLossy wrap k x older [] next w) (Come rules wrap k x last)
-      (begins_so rules wrap (P (moment_at x)) k x older starts.set wrapped (keeps.keeps (moment_at x)) t can big far starts.drops starts.begins starts.run)
-      (λ next shows run.
-      follows rules wrap P k x starts.set.only wrapped keeps far last (omega (arith, soon, starts.early)) n next older w.pair.server w.pair.client w.pair.to_server [] w.lost w.pair.said x.service.time x.times x.server
+      let p : Passes k big far (λ next. ShowsLossy wrap k x older [] big next w) =
+      begins_so rules wrap (P (moment_at x)) k x older starts.set wrapped (keeps.keeps (moment_at x)) t can big far starts.drops starts.begins starts.run in
+      let q : Passes k p.mid far (Come rules wrap k x big last) =
+      follows rules wrap P k x starts.set.only wrapped keeps big far last (omega (arith, soon, starts.early)) n p.mid (p.many, p.way) older w.pair.server w.pair.client w.pair.to_server [] w.lost w.pair.said x.service.time x.times x.server
       can.going leads
-      (record { set = starts.set; stands = shows.stands; task = shows.task; fits = tt; holds = can.holds; lost_are = shows.lost })
-      run)
+      (record { set = starts.set; stands = p.holds.stands; task = p.holds.task; fits = tt; holds = can.holds; lost_are = p.holds.lost })
+      p.rest in
+      let on : (count : ℕ) × Turns k count big q.mid = turns_join k p.many q.many big p.mid q.mid p.way q.way in
+      record { mid = q.mid; many = on.0; way = on.1; rest = q.rest; holds = q.holds }
+
+  -- what was lost on the way to such a pair was dropped in the run
+  lost_in_run : (n : ℕ) (last : LossyPair A) → LeadsTo x.service rules lost n w last → last.now ≤ moment_at x + TIMEOUT * LOSSY_ROUNDS → AllByRecursion (IsLostIn k x big far) last.lost
+  lost_in_run n last leads soon =
+      let there : Passes k big far (Come rules wrap k x big last) = comes n last leads soon in
+      let grown = numbered_grow k there.rest.total there.mid far there.rest.turns in
+      all_still_lost k x there.mid far grown.0 grown.1 big last.lost there.holds.lost_are
+
+  -- IN A CLEAN ROUND NOTHING WAS LOST
+  module _ (c : HasCleanRound k x.session big far) where
+    abbrev moment : ℕ
+    moment = moment_of (moment_at x) c.number
+
+    none_then : (ls : List Lost) → AllByRecursion (IsLostIn k x big far) ls → is_lossy ls moment ≡ true → ⊥
+    none_then [] all is = absurd cc
+    none_then (l ∷ ls) all is = by_test (l.moment == moment) refl (none_then ls all.1) is
+      where
+        same_turn : l.moment ≡ moment → all.0.times ≡ big.times + c.number
+        same_turn same = omega (arith, same, all.0.moment, begins_then starts.begins)
+
+        by_test : (b : Bool) → (l.moment == moment) ≡ b → (is_lossy ls moment ≡ true → ⊥) → (b || is_lossy ls moment) ≡ true → ⊥
+        by_test true same rest is =
+            c.clean all.0.place _ all.0.there
+            (is_own all.0.type x.client_opening.name x.session l.word starts.set.places.session all.0.fits all.0.message starts.set.service_is) all.0.dropped
+            (subst (IsNumberedAt k big all.0.place) (same_turn (eqb-true l.moment moment same)) all.0.numbered)
+        by_test false same rest is = rest is
+
+    stays_clean : KeepsARoundClean x.service rules lost (moment_at x) w
+    stays_clean n last leads = record { number = c.number; early = c.early; clean = by_test (is_lossy last.lost moment) refl }
+      where
+        soon : IsBy x.service rules lost (moment_at x + TIMEOUT * LOSSY_ROUNDS) w last
+        soon = last_by x.service rules lost (moment_at x + TIMEOUT * LOSSY_ROUNDS) n w last (omega arith) leads
+
+        by_test : (b : Bool) → is_lossy last.lost moment ≡ b → is_lossy last.lost moment ≡ false
+        by_test true is = absurd (none_then soon.mid.lost (lost_in_run soon.count soon.mid soon.way soon.soon) (soon.lost moment (omega (arith, c.early)) is))
+        by_test false is = is
+
+  -- ONE OF THE FIRST FOUR ROUNDS IS CLEAN
+  pub rounds_clean : KeepsARoundClean x.service rules lost (moment_at x) w
+  rounds_clean = by_case starts.spared
+    where
+      by_case : IsSpared k x.session big far → KeepsARoundClean x.service rules lost (moment_at x) w
+      by_case (by_round c) = stays_clean c
+      by_case (by_number few) =
+          few_losses_keep_a_round_clean rules x.service lost (moment_at x) w
+          (λ count. omega (arith, few, numbers_lose_few rules x.service (lost_numbers k x.session far) (moment_at x) x.service.time t count))
 
   -- what is lost in a read is no confirmation
   pub spared : x.client_opening.name.method ≡ name_id (codes "Read") → SparesConfirmations x.service rules lost (moment_at x) w
   spared named n last leads soon =
-      let there : Passes k big far (Come rules wrap k x last) = comes n last leads soon in
-      let grown = numbered_grow k there.rest.total there.mid far there.rest.turns in
-      all_weaken (IsLostIn k x far) IsNoConfirmation last.lost (spared_word k x far starts.drops named starts.set.places.session)
-      (all_still_lost k x there.mid far grown.0 grown.1 last.lost there.holds.lost_are)
+      all_weaken (IsLostIn k x big far) IsNoConfirmation last.lost (spared_word k x big far starts.drops named starts.set.places.session)
+      (lost_in_run n last leads (omega (arith, soon)))
 
   -- ITS LINE IS TOLD, and what is still on its way comes to nothing
   pub survives : (end : A) (status : Status) (Stood : Option Stage → Type 0) → ((o : Option Stage) → Stood o → IsSettled o) → Ends x.service rules lost Stood (moment_at x) w end → rules.end_of end ≡ Some status
       → Passes k big far (HasSurvived k x (wrap end) status)
   survives end status Stood settled e over =
-      then_passes k big far (Come rules wrap k x e.last) (HasSurvived k x (wrap end) status) (comes e.many e.last e.way e.soon)
+      then_passes k big far (Come rules wrap k x big e.last) (HasSurvived k x (wrap end) status) (comes e.many e.last e.way (omega (arith, e.soon)))
       (λ mid came run.
       let y : Places = at_turn x e.last.time came.times came.server in
       let told : (bytes : ℕ) × LeftDropping k y came.older (x.lines ++ line_telling (wrap e.last.pair.client) status bytes ∷ []) mid e.last.pair.server e.last.pair.to_server came.downs e.last.pair.said =

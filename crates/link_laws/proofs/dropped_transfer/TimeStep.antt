@@ -1,6 +1,6 @@
 -- Time passes: the client's task is polled at the later moment, the server is told of it, and what both say goes out on links
 -- that drop frames.
-use Rattle.std.proofs.Common.{◌≡◌, ℕ, ◌+◌, ◌*◌, ◌<◌, ◌≤◌, ◌^◌, Bool, List, [], ◌∷◌, ◌++◌, length, map, Option, Some, None, refl, ap, sym, ◌∙◌, subst, arith, append_assoc}
+use Rattle.std.proofs.Common.{◌≡◌, ℕ, ◌+◌, ◌*◌, ◌<◌, ◌≤◌, ◌^◌, Bool, List, [], ◌∷◌, ◌++◌, length, map, Option, Some, None, refl, ap, sym, ◌∙◌, subst, arith, append_assoc, length-append}
 use Rattle.std.specs.List.{AllByRecursion}
 use Rattle.rpc_ids.specs.declared.method.Role.TheVariants.{Server, Client}
 use Rattle.rpc_packet.specs.declared.owned.Packet.{Packet}
@@ -47,11 +47,11 @@ use Rattle.link_laws.proofs.lossless_transfer.Words.{words_down, words_up}
 use Rattle.link_laws.specs.dropped_transfer.Dropped.{is_dropped, loses}
 use Rattle.link_laws.specs.dropped_transfer.Passing.{IsFromOlder, MayPass, PassDown, PassesDown, Passing, own, other, own_words, passing_packet}
 use Rattle.link_laws.specs.dropped_transfer.Sessions.{IsSetForDrops, at_turn, book_with, ticked_rows}
-use Rattle.link_laws.specs.dropped_transfer.Shows.{HasNumbered, IsLostIn, StandsDropping}
+use Rattle.link_laws.specs.dropped_transfer.Shows.{HasNumbered, StandsDropping}
 use Rattle.link_laws.proofs.dropped_transfer.Ends.{call_later, client_later}
 use Rattle.link_laws.proofs.dropped_transfer.Few.{session_little}
 use Rattle.link_laws.proofs.dropped_transfer.Links.{client_sends, going_on, going_on_all, server_sends, undamaged}
-use Rattle.link_laws.proofs.dropped_transfer.Numbers.{all_still_lost, grown_from, lost_down, lost_up, numbered_more, numbered_more_up, words_kept, words_kept_up}
+use Rattle.link_laws.proofs.dropped_transfer.Numbers.{IsLostNow, all_lost_now, grown_from, lost_down, lost_up, numbered_more, numbered_more_up, words_kept, words_kept_up}
 use Rattle.link_laws.proofs.dropped_transfer.TickStep.{ServerTicked, server_ticked}
 
 -- A task that stood so at one moment stands so at the next, once it has looked at the time, and what it says fits.
@@ -136,8 +136,8 @@ module _ {A : Type 0} (rules : Rules A) (wrap : A → Transfer) (P : ℕ → A �
     pub fits : SessionFits tick.after
     pub holds : P t polls.after
     pub task : IsUnderWay (at_turn x t (x.times + 1) server) (wrap polls.after) world
-    pub lost_down : AllByRecursion (IsLostIn k x world) (missing lost t (n + length ups) told)
-    pub lost_up : AllByRecursion (IsLostIn k x world) (missing lost t n ups)
+    pub lost_down : AllByRecursion (IsLostNow k x (length big.numbered) t world) (missing lost t (n + length ups) told)
+    pub lost_up : AllByRecursion (IsLostNow k x (length big.numbered) t world) (missing lost t n ups)
 
   module _ (st : StandsDropping k x older big stage [] [] n) (fits : SessionFits stage) (on : IsUnderWay x (wrap b) big) (stood : P (moment_at x) b)
       (going : rules.end_of b ≡ None) (in_time : moment_at x + TIMEOUT + TIMEOUT < 2 ^ 63) (turn : Turn k big now) (run : RunsOut k now far) where
@@ -336,10 +336,10 @@ module _ {A : Type 0} (rules : Rules A) (wrap : A → Transfer) (P : ℕ → A �
         lines = server_keeps k (λ z. z.lines) (λ z q. refl) between passes.server ∙ (client_keeps k (λ z. z.lines) (λ z q. refl) v passes.client ∙ on.lines);
       };
       lost_down =
-          subst (λ (ws : List Word). AllByRecursion (IsLostIn k x world) (missing lost t (n + length ups) ws)) ticked.own
-          (lost_down k x world far between.numbered grown.0 ticked.mix t (n + length ups) set.places down_numbered grown.1 said_up set.service_is may_down);
+          subst (λ (ws : List Word). AllByRecursion (IsLostNow k x (length big.numbered) t world) (missing lost t (n + length ups) ws)) ticked.own
+          (lost_down k x world far between.numbered grown.0 ticked.mix (length big.numbered) t (n + length ups) (omega (arith, ap length up_numbered, length-append big.numbered (map (up_packet x) ups))) set.places down_numbered grown.1 said_up set.service_is may_down);
       lost_up =
-          all_still_lost k x between world (map (passing_packet x) ticked.mix) down_numbered (missing lost t n ups)
-          (lost_up k x between far big.numbered (map (passing_packet x) ticked.mix ++ grown.0) ups t n set.places.session up_numbered
+          all_lost_now k x between world (map (passing_packet x) ticked.mix) down_numbered (length big.numbered) t (missing lost t n ups)
+          (lost_up k x between far big.numbered (map (passing_packet x) ticked.mix ++ grown.0) ups (length big.numbered) t n (omega arith) set.places.session up_numbered
           (far_down ∙ append_assoc between.numbered (map (passing_packet x) ticked.mix) grown.0) st.said_are set.service_is fit_up);
     }

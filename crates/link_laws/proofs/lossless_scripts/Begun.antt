@@ -61,13 +61,14 @@ module _ (k : Setup) where
       ap (λ s. s.sessions) found_so
       ∙ begins_one w (live_transfers (name_id (codes "Write")) ds) (opens_with transfer_id (name_id (codes "Write")) [] ds) (call_count ds) (writes (new_upload resource bytes (min offset (length bytes))))
 
+  pub read_begins : (w : World) (resource offset : ℕ) → (starts k w (ReadIt resource offset)).sessions ≡ w.sessions + 1
+  read_begins w resource offset =
+      let ds = client_deeds k w in
+      begins_one w (live_transfers (name_id (codes "Read")) ds) (opens_with transfer_id (name_id (codes "Read")) [] ds) (call_count ds) (reads (new_download resource (min offset (left_length k w resource)) k.window k.chunk))
+
   -- a start begins one for a read at least
   start_begins : (w : World) (command : Command) → w.sessions + cond (asks_for Read command) 1 0 ≤ (starts k w command).sessions
-  start_begins w (ReadIt resource offset) =
-      let ds = client_deeds k w in
-      let one : (starts k w (ReadIt resource offset)).sessions ≡ w.sessions + 1
-      = begins_one w (live_transfers (name_id (codes "Read")) ds) (opens_with transfer_id (name_id (codes "Read")) [] ds) (call_count ds) (reads (new_download resource (min offset (left_length k w resource)) k.window k.chunk)) in
-      omega (arith, one)
+  start_begins w (ReadIt resource offset) = omega (arith, read_begins w resource offset)
   start_begins w (WriteIt resource offset) = by_bytes (found resource (client_store k w).full)
     where
       by_bytes : (o : Option (List ℕ)) → w.sessions + 0 ≤ (starts_write k w resource offset o).sessions

@@ -35,14 +35,14 @@ pub record IsOnWay (k : Setup) (commands : List Command) (end : World) (cs : Lis
   pub run : RunsOn k w end
 
 -- the command leads from this world to one between two commands, in which it ends so
-pub record Leads (k : Setup) (Between : List Command → World → Type 0) (EndsSo : Command → World → ReportLine → Type 0) (command : Command) (rest : List Command) (w : World) : Type 0 where
+pub record Leads (k : Setup) (Between : List Command → World → Type 0) (EndsSo : Command → World → World → ReportLine → Type 0) (command : Command) (rest : List Command) (w : World) : Type 0 where
   pub mid : World
   pub turns : ℕ
   pub goes : Turns k turns w mid
   pub told : ReportLine
   pub lines : mid.lines ≡ w.lines ++ told ∷ []
   pub is_of : IsLineOf command told
-  pub ends : EndsSo command w told
+  pub ends : EndsSo command w mid told
   pub between : Between rest mid
 
 module _ (k : Setup) (commands : List Command) (end : World) (Between : List Command → World → Type 0)
@@ -58,7 +58,7 @@ module _ (k : Setup) (commands : List Command) (end : World) (Between : List Com
       at zero same = sym same
       at (suc count) turns = absurd (subst (λ kind. TurnOf k w kind turns.0) s.kind turns.1.turn)
 
-  module _ (EndsSo : Command → World → ReportLine → Type 0) where
+  module _ (EndsSo : Command → World → World → ReportLine → Type 0) where
     -- the command with this number has ended
     abbrev Ended : ℕ → Command → Type 0
     Ended number command = HasEnded k commands end number command (EndsSo command)
@@ -153,7 +153,7 @@ module _ (s : Script) (o : IsOpenScript s) (calm : NoFlips s.losses) (now : Worl
       ∙ (client_keeps k (λ x. x.lines) (λ x p. refl) (with_server k run.before run.ends.server) run.ends.client ∙ server_keeps k (λ x. x.lines) (λ x p. refl) run.before run.ends.server)
 
   -- what has ended before the end of the run has ended in it
-  pub ended_now : (number : ℕ) (command : Command) (EndsSo : World → ReportLine → Type 0) → HasEnded k s.commands run.before number command EndsSo → HasEnded k s.commands now number command EndsSo
+  pub ended_now : (number : ℕ) (command : Command) (EndsSo : World → World → ReportLine → Type 0) → HasEnded k s.commands run.before number command EndsSo → HasEnded k s.commands now number command EndsSo
   ended_now number command EndsSo e = record {
     start = e.start;
     end = e.end;

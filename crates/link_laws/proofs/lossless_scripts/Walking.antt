@@ -280,8 +280,8 @@ module _ (k : Setup) (setup : IsSetup k) (losses : k.losses ≡ []) (commands : 
         both_counted carries_chunk (λ q. names_session (w.sessions + 1) (chunk_of q.payload)) p.passes.said,
       )
 
-  abbrev EndsSo : Command → World → ReportLine → Type 0
-  EndsSo command start told = EndsAs k start command told (chunks_of (start.sessions + 1) end)
+  abbrev EndsSo : Command → World → World → ReportLine → Type 0
+  EndsSo command start mid told = EndsAs k start command told (chunks_of (start.sessions + 1) end)
 
   leads : (command : Command) (rest : List Command) (w : World) → Stands (command ∷ rest) w → Leads k Stands EndsSo command rest w
   leads command rest w s =
@@ -299,7 +299,7 @@ module _ (k : Setup) (setup : IsSetup k) (losses : k.losses ≡ []) (commands : 
 
   -- ALL COMMANDS END
   commands_end : Stands commands (first_world commands) → (number : ℕ) (command : Command) → slice_get commands number ≡ Some command
-      → HasEnded k commands end number command (λ start told. EndsAs k start command told (chunks_of (start.sessions + 1) end))
+      → HasEnded k commands end number command (λ start mid told. EndsAs k start command told (chunks_of (start.sessions + 1) end))
   commands_end s number command there =
       subst (λ n. HasEnded k commands end n command (EndsSo command)) (omega arith)
       ((all_end k commands end Stands on_way EndsSo leads commands (first_world commands) s).ended number command there)
@@ -336,8 +336,8 @@ lossless_runs_end_well s now number command is run few server client there =
     let before : World = run.before in
     let setup : IsSetup k = script_setup s o no_flips now run server client in
     let quiet : now.numbered ≡ before.numbered = same_numbered s o no_flips now run server client in
-    ended_now s o no_flips now run server client number command (λ start told. EndsAs k start command told (chunks_of (start.sessions + 1) now))
-    (subst (λ ps. HasEnded k s.commands before number command (λ start told. EndsAs k start command told (count_by (is_chunk_of (start.sessions + 1)) ps))) (sym quiet)
+    ended_now s o no_flips now run server client number command (λ start mid told. EndsAs k start command told (chunks_of (start.sessions + 1) now))
+    (subst (λ ps. HasEnded k s.commands before number command (λ start mid told. EndsAs k start command told (count_by (is_chunk_of (start.sessions + 1)) ps))) (sym quiet)
     (commands_end k setup is.losses s.commands (begins_small s o.script) o.script.commands (server_sizes s o) before
     (record {
       begun = λ side. 0;

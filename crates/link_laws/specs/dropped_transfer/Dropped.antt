@@ -1,5 +1,5 @@
 -- Which frames a link drops, and which words of a session are lost by that.
-use Rattle.std.specs.Prelude.{◌≡◌, ℕ, suc, ◌≤◌, ◌==◌, ◌&&◌, Bool, true, false, if◌then◌else◌, List, [], ◌∷◌, codes, length, slice_get, Option, Some, is_some, Result, Ok, Err}
+use Rattle.std.specs.Prelude.{◌≡◌, ℕ, suc, ◌==◌, ◌&&◌, Bool, true, false, if◌then◌else◌, List, [], ◌∷◌, codes, slice_get, Option, Some, is_some, Result, Ok, Err}
 use Rattle.std.specs.List.{AllByRecursion}
 use Rattle.link_script.specs.declared.loss.Loss.{Loss}
 use Rattle.link_script.specs.declared.loss.Loss.TheVariants.{Lose}
@@ -40,10 +40,9 @@ is_confirmation (Err at) = false
 abbrev pub confirms_read : Packet → Bool
 confirms_read p = (p.name.method == name_id (codes "Read")) && is_confirmation (chunk_of p.payload)
 
--- WHAT IS LOST IN A RUN: the script has at most three losses, all of them drops. Each frame that is dropped carries a chunk,
--- and none of them the START_ACK_CONFIRMATION of a read. The frame of the packet at place n has number n + 1.
-pub record DropsFew (k : Setup) (now : World) : Type 0 where
-  pub few : length k.losses ≤ 3
+-- WHAT IS LOST IN A RUN: the script's losses are drops, as many as there are. Each frame that is dropped carries a chunk, and none of
+-- them the START_ACK_CONFIRMATION of a read. The frame of the packet at place n has number n + 1.
+pub record DropsChunks (k : Setup) (now : World) : Type 0 where
   pub drops : AreDrops k.losses
   pub chunks : (n : ℕ) (p : Packet) → slice_get now.numbered n ≡ Some p → is_dropped k (suc n) ≡ true → carries_chunk p ≡ true
   pub spares : (n : ℕ) (p : Packet) → slice_get now.numbered n ≡ Some p → is_dropped k (suc n) ≡ true → confirms_read p ≡ false

@@ -1,4 +1,4 @@
--- A transfer survives three losses in a run over a link that drops frames.
+-- A transfer survives three lossy rounds in a run over a link that drops frames.
 use Rattle.std.specs.Prelude.{◌≡◌, ◌⊎◌, ℕ, ◌+◌, ◌*◌, ◌<◌, ◌≤◌, ◌^◌, List, [], ◌∷◌, ◌++◌, codes, length, Option, Some, None, Err}
 use Rattle.link_io.specs.Resources.{first_of}
 use Rattle.link_script.specs.declared.command.Command.{Command}
@@ -16,6 +16,7 @@ use Rattle.transfer_client.specs.Read.{new_download}
 use Rattle.transfer_client.specs.Write.{new_upload}
 use Rattle.demo_services.specs.Transfer.{transfer_memo}
 use Rattle.transfer_laws.specs.pairs.EndsWell.{IsTuning, read_ended, read_refused, write_ended}
+use Rattle.transfer_laws.specs.losses.Rounds.{LOSSY_ROUNDS}
 use Rattle.transfer_laws.specs.losses.Survives.{IsSettled}
 use Rattle.link_laws.specs.declared.world.limits.TheConstants.{TURN_OF_TIME}
 use Rattle.link_laws.specs.world.World.{Setup, Transfer, World, reads, writes}
@@ -23,7 +24,8 @@ use Rattle.link_laws.specs.lossless_transfer.Begins.{AsksClient, BeginsOnNew, Be
 use Rattle.link_laws.specs.world.Lines.{line_telling}
 use Rattle.link_laws.specs.lossless_transfer.Finishes.{Passes, ReadFits, RunsOut}
 use Rattle.link_laws.specs.lossless_transfer.Shows.{Places, moment_at}
-use Rattle.link_laws.specs.dropped_transfer.Dropped.{DropsFew}
+use Rattle.link_laws.specs.dropped_transfer.Dropped.{DropsChunks}
+use Rattle.link_laws.specs.dropped_transfer.Rounds.{IsSpared}
 use Rattle.link_laws.specs.dropped_transfer.Sessions.{IsSetForDrops, at_turn, book_with}
 use Rattle.link_laws.specs.dropped_transfer.Shows.{HasNumbered, LeftDropping}
 
@@ -50,7 +52,7 @@ pub record BeginsDropping (k : Setup) (x : Places) (older : List Row) (big : Wor
 pub record HasSurvived (k : Setup) (x : Places) (t : Transfer) (status : Status) (mid : World) : Type 0 where
   pub bytes : ℕ
   pub times : ℕ
-  pub few : times ≤ x.times + 3
+  pub few : times ≤ x.times + LOSSY_ROUNDS
   -- the last Tick, and the server's history behind it
   pub time : ℕ
   pub past : time ≤ TURN_OF_TIME * times
@@ -69,7 +71,8 @@ pub record CanSurvive (k : Setup) (x : Places) (older : List Row) (big far : Wor
   pub past : x.service.time ≤ moment_at x
   pub begins : BeginsDropping k x older big t
   pub run : RunsOut k big far
-  pub drops : DropsFew k far
+  pub drops : DropsChunks k far
+  pub spared : IsSpared k x.session big far
 
 -- EACH READ SURVIVES, of a resource that the service lists, from an offset that isn't past its end
 abbrev pub ReadsSurviveDrops : Type 0

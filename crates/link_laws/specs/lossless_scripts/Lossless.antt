@@ -51,7 +51,7 @@ LosslessRunsEndWell =
     (s : Script) (now : World) (number : ℕ) (command : Command) → IsLosslessScript s → Turned (setup_of s) s.commands now
     → BeginsFewWrites s.commands now → IsLegal demo_rule (setup_of s).server now.server → IsLegal quiet_rule (setup_of s).client now.client
     → slice_get s.commands number ≡ Some command
-    → HasEnded (setup_of s) s.commands now number command (λ start told. EndsAs (setup_of s) start command told (chunks_of (start.sessions + 1) now))
+    → HasEnded (setup_of s) s.commands now number command (λ start end told. EndsAs (setup_of s) start command told (chunks_of (start.sessions + 1) now))
 
 -- AND ALL ARRIVES: when it ends, what has arrived at each end are the packets that the other end flushed, in order.
 abbrev pub LosslessRunsArrive : Type 0

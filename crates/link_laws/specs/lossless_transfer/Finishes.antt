@@ -1,7 +1,6 @@
 -- A transfer that has begun comes to its end, in a run over a link that loses nothing.
 use Rattle.std.specs.Prelude.{◌≡◌, ℕ, ◌+◌, ◌<◌, ◌≤◌, ◌^◌, List, [], ◌∷◌, ◌++◌, length, Option, Some, Err}
 use Rattle.link_io.specs.Resources.{first_of}
-use Rattle.link_script.specs.declared.report.ReportLine.{ReportLine}
 use Rattle.rpc_ids.specs.declared.Status.{Status}
 use Rattle.rpc_ids.specs.declared.Status.TheVariants.{Okay}
 use Rattle.transfer_base.specs.declared.limits.TheConstants.{MAX_CHUNK, MAX_RESOURCE, MAX_WINDOW, TIMEOUT}

@@ -1,9 +1,15 @@
 //! What follows from the definitions. Each function does nothing: what counts is its contract.
-ghost use Rattle.link_laws.specs.dropped_scripts.Losses.{LossyRunsEndWell};
+ghost use Rattle.link_laws.specs.dropped_scripts.Losses.{FewLossesSpareEach, LossyRunsEndWell};
 
-/// Over a link that drops three frames at most, each with a chunk in it and none of them the confirmation of a read, each command
-/// of a script that closes no channel comes to its line. A read whose resource the server has, from an offset in it, and a write
-/// whose resource the client has end with OK.
+/// Over a link that drops chunks, as many as it likes but for the confirmation of a read, each command of a script that closes no
+/// channel comes to its line, within three turns of time, where each transfer is spared: one of its first four rounds loses none of
+/// its chunks, or it loses three at most. A read whose resource the server has, from an offset in it, and a write whose resource the
+/// client has end with OK.
 pub fn lossy_runs_end_well()
     ensures { LossyRunsEndWell }
+{}
+
+/// A link with three losses at most spares each transfer.
+pub fn few_losses_spare_each()
+    ensures { FewLossesSpareEach }
 {}

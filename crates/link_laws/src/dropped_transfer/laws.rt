@@ -1,13 +1,13 @@
 //! What follows from the definitions. Each function does nothing: what counts is its contract.
 ghost use Rattle.link_laws.specs.dropped_transfer.Survives.{ReadsSurviveDrops, RefusalsSurviveDrops, WritesSurviveDrops};
 
-/// A read of a resource that the server has is told with OK, in a run whose link drops three chunk frames at most and no
-/// confirmation of a read. At most three turns of time pass on the way.
+/// A read of a resource that the server has is told with OK, in a run whose link drops chunks, but no confirmation of a read, where one
+/// of its first four rounds loses none of its chunks, or it loses three at most. At most three turns of time pass on the way.
 pub fn reads_survive_drops()
     ensures { ReadsSurviveDrops }
 {}
 
-/// So is a write, whichever three chunk frames are dropped.
+/// So is a write.
 pub fn writes_survive_drops()
     ensures { WritesSurviveDrops }
 {}
