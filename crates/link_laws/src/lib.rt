@@ -3,7 +3,7 @@
 //!
 //! What all this is for stands in three modules: [`okay_means_bytes`] with [`transfers_fit`] (a line with OK tells of bytes that
 //! are in the store), [`lossless_scripts`] (where nothing is lost each transfer ends well), [`dropped_scripts`] (it ends well
-//! although three chunks are dropped). The others are the steps to these.
+//! although chunks are dropped, where one of its first four rounds loses none). The others are the steps to these.
 //! Each law is a function that does nothing and promises something of the definitions.
 #![tactic(auto)]
 

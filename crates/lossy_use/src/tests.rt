@@ -4,6 +4,7 @@ mod again;
 mod damage;
 mod drops;
 mod lossless;
+mod rounds;
 
 use link_script::text::read_script;
 use link_script::{Report, ReportLine};

@@ -1,5 +1,5 @@
 -- All commands of a script, one after another, over links that drop few frames.
-use Rattle.std.proofs.Common.{◌≡◌, ℕ, zero, suc, ◌+◌, ◌*◌, ◌<◌, ◌≤◌, ◌^◌, false, List, ◌∷◌, length, slice_get, Option, Some, None, refl, ap, sym, ◌∙◌, subst, arith}
+use Rattle.std.proofs.Common.{◌≡◌, ℕ, zero, suc, ◌+◌, ◌*◌, ◌<◌, ◌≤◌, ◌^◌, false, List, [], ◌∷◌, length, slice_get, Option, Some, None, refl, ap, sym, ◌∙◌, subst, arith}
 use Rattle.std.specs.Prelude.{cond, count_by, is_some}
 use Rattle.std.proofs.lemmas.List.Sums.{sum_by-cons}
 use Rattle.std.proofs.lemmas.Bool.{and_left, true≢false}
@@ -11,6 +11,7 @@ use Rattle.link_script.specs.declared.command.Command.{Command}
 use Rattle.link_script.specs.declared.command.Command.TheVariants.{Read as ReadIt, Write as WriteIt, Echo, Count, Sum, Chat, Close}
 use Rattle.link_script.specs.declared.loss.Loss.{Loss}
 use Rattle.link_script.specs.declared.report.ReportLine.{ReportLine}
+use Rattle.link_script.specs.declared.script.Script.{Script}
 use Rattle.link_script.specs.Script.{IsCommand}
 use Rattle.link_script.specs.lossy.Link.{loss_of}
 use Rattle.rpc_packet.specs.declared.owned.Packet.{Packet}
@@ -20,11 +21,13 @@ use Rattle.transfer_chunk.specs.Reading.{chunk_of}
 use Rattle.transfer_resume.specs.declared.side.Side.{Side}
 use Rattle.transfer_resume.specs.declared.side.Side.TheVariants.{Read, Write}
 use Rattle.history_laws.proofs.messages.Members.{all_join, all_weaken}
+use Rattle.rpc_journal.specs.Lawful.{IsLegal}
+use Rattle.demo_services.specs.DemoRule.{demo_rule}
 use Rattle.link_laws.specs.world.Reports.{carries_chunk}
-use Rattle.link_laws.specs.world.Setup.{setup_of}
+use Rattle.link_laws.specs.world.Setup.{setup_of, quiet_rule}
 use Rattle.link_laws.specs.world.Sound.{NoFlips}
 use Rattle.link_laws.specs.world.Starts.{starts}
-use Rattle.link_laws.specs.world.Turns.{Turns}
+use Rattle.link_laws.specs.world.Turns.{Turns, Turned}
 use Rattle.link_laws.specs.world.World.{Setup, World, client_store, first_world}
 use Rattle.link_laws.proofs.one_run.Ways.{turns_go_on}
 use Rattle.link_laws.specs.transfers_fit.Fits.{BeginsSmall, IsSmall}
@@ -41,13 +44,13 @@ use Rattle.link_laws.specs.dropped_transfer.Rounds.{AreSpared, IsSpared, by_numb
 use Rattle.link_laws.proofs.dropped_transfer.Links.{undamaged}
 use Rattle.link_laws.proofs.dropped_transfer.Numbers.{lost_few}
 use Rattle.link_laws.proofs.dropped_transfer.Survive.{reads_survive_drops, refusals_survive_drops, writes_survive_drops}
-use Rattle.link_laws.specs.lossless_scripts.Scripts.{LeavesOpen}
+use Rattle.link_laws.specs.lossless_scripts.Scripts.{LeavesOpen, BeginsFewWrites, IsOpenScript}
 use Rattle.link_laws.proofs.lossless_scripts.Begun.{due, none_coming, read_begins, start_counts, turns_due, write_begins}
 use Rattle.link_laws.proofs.lossless_scripts.Finishing.{one_more}
 use Rattle.link_laws.proofs.lossless_scripts.Starting.{IsSetup}
-use Rattle.link_laws.proofs.lossless_scripts.Walk.{IsOnWay, Leads, all_end, ended_now, runs_to_end, same_numbered, same_sessions, script_setup, turns_join}
+use Rattle.link_laws.proofs.lossless_scripts.Walk.{IsOnWay, Leads, all_end, ended_now, none_left, runs_to_end, same_numbered, same_sessions, same_times, script_setup, turns_join}
 use Rattle.link_laws.proofs.lossless_scripts.Walking.{first_is_clean, server_sizes}
-use Rattle.link_laws.specs.dropped_scripts.Losses.{FewLossesSpareEach, LossyRunsEndWell}
+use Rattle.link_laws.specs.dropped_scripts.Losses.{FewLossesSpareEach, LossyRunsEndInTime, LossyRunsEndWell}
 use Rattle.link_laws.proofs.dropped_scripts.Passing.{CommandPasses, IsBetween, read_passes, write_passes}
 use Rattle.link_laws.proofs.dropped_scripts.Starting.{FitsLater, NoneLater}
 
@@ -60,7 +63,7 @@ spares_others k end drops n p there quiet = at (loss_of (suc n) k.losses) refl
     at (Some loss) is = absurd (true≢false (sym (drops.chunks n p there (ap is_some is)) ∙ quiet))
 
 module _ (k : Setup) (setup : IsSetup k) (commands : List Command) (small : BeginsSmall k) (each : AllByRecursion IsCommand commands)
-    (sizes : (resource : ℕ) (bytes : List ℕ) → first_of resource k.server_store.full ≡ Some bytes → length bytes ≤ MAX_RESOURCE) (end : World) (drops : DropsChunks k end) (spared : AreSpared k commands end) where
+    (sizes : (resource : ℕ) (bytes : List ℕ) → first_of resource k.server_store.full ≡ Some bytes → length bytes ≤ MAX_RESOURCE) (short : length commands < 2 ^ 32) (end : World) (drops : DropsChunks k end) (spared : AreSpared k commands end) where
   calm : NoFlips k.losses
   calm = undamaged k.losses drops.drops
 
@@ -77,7 +80,7 @@ module _ (k : Setup) (setup : IsSetup k) (commands : List Command) (small : Begi
     reads : begun Read + count_by (asks_for Read) cs ≤ 256
     writes : begun Write + end.sessions ≤ w.sessions + count_by (asks_for Read) cs + 256
     sessions : w.sessions + length cs < 2 ^ 32
-    times : w.times + 3 * length cs < 3 * 2 ^ 32
+    times : w.times + LOSSY_ROUNDS * length cs ≤ LOSSY_ROUNDS * length commands
     none_later : NoneLater w.sessions w.numbered
 
   -- no call has had more sessions than it may
@@ -99,7 +102,7 @@ module _ (k : Setup) (setup : IsSetup k) (commands : List Command) (small : Begi
     drops = drops;
     spared = spared s.count w command rest s.way (next_by k (FitsLater k w.sessions w.times s.begun) w (command ∷ rest) s.clean s.coming) begins;
     sessions = (let sessions = s.sessions in omega (arith, sessions));
-    early = (let times = s.times in omega (arith, times));
+    early = (let times = s.times in omega (arith, times, short));
     none_later = s.none_later;
     most = most (command ∷ rest) w s;
     room = room;
@@ -219,42 +222,79 @@ module _ (k : Setup) (setup : IsSetup k) (commands : List Command) (small : Begi
       subst (λ n. HasEnded k commands end n command (EndsSo command)) (omega arith)
       ((all_end k commands end Stands on_way EndsSo leads commands (first_world commands) s).ended number command there)
 
+  -- and so long does it take
+  ends_by : (cs : List Command) (w : World) → Stands cs w → end.times ≤ LOSSY_ROUNDS * length commands
+  ends_by [] w s = (let times = s.times in omega (arith, times, ap (λ (v : World). v.times) (none_left k commands end Stands on_way w s)))
+  ends_by (command ∷ rest) w s = (let p : Leads k Stands EndsSo command rest w = leads command rest w s in ends_by rest p.mid p.between)
+
 -- what is dropped is so in each world with these packets
 spared_same : (k : Setup) (session : ℕ) (start a b : World) → a.numbered ≡ b.numbered → IsSpared k session start a → IsSpared k session start b
 spared_same k session start a b same (by_round c) = by_round (record { number = c.number; early = c.early; clean = λ place p at. c.clean place p (ap (λ ps. slice_get ps place) same ∙ at) })
 spared_same k session start a b same (by_number few) = by_number (subst (λ ps. length (lost_among (is_chunk_of session) (is_dropped k) 0 0 ps) ≤ LOSSY_ROUNDS) same few)
 
+-- THE RUN OF SUCH A SCRIPT
+module _ (s : Script) (o : IsOpenScript s) (now : World) (drops : DropsChunks (setup_of s) now) (spared : AreSpared (setup_of s) s.commands now) (run : Turned (setup_of s) s.commands now) (few : BeginsFewWrites s.commands now)
+    (server : IsLegal demo_rule (setup_of s).server now.server) (client : IsLegal quiet_rule (setup_of s).client now.client) where
+  abbrev script : Setup
+  script = setup_of s
+
+  no_flips : NoFlips s.losses
+  no_flips = undamaged s.losses drops.drops
+
+  quiet : now.numbered ≡ run.before.numbered
+  quiet = same_numbered s o no_flips now run server client
+
+  drops_before : DropsChunks script run.before
+  drops_before = record {
+    drops = drops.drops;
+    chunks = λ n p at. drops.chunks n p (ap (λ ps. slice_get ps n) quiet ∙ at);
+    spares = λ n p at. drops.spares n p (ap (λ ps. slice_get ps n) quiet ∙ at);
+  }
+
+  spared_before : AreSpared script s.commands run.before
+  spared_before count start c rest way kind begins = spared_same script (start.sessions + 1) start now run.before quiet (spared count start c rest way kind begins)
+
+  setup : IsSetup script
+  setup = script_setup s o no_flips now run server client
+
+  abbrev StandsIn : List Command → World → Type 0
+  StandsIn = Stands script setup s.commands (begins_small s o.script) o.script.commands (server_sizes s o) o.script.few run.before drops_before spared_before
+
+  first_stands : StandsIn s.commands (first_world s.commands)
+  first_stands = record {
+    begun = λ side. 0;
+    clean = first_is_clean script setup s.commands (FitsLater script 0 0 (λ side. 0));
+    coming = refl;
+    count = zero;
+    way = refl;
+    run = runs_to_end s o no_flips now run server client;
+    fit = o.script.commands;
+    leave_open = o.closes_none;
+    reads = (let few_reads = o.few_reads in omega (arith, few_reads));
+    writes = (let same = same_sessions s o no_flips now run server client in omega (arith, few, same));
+    sessions = (let short = o.script.few in omega (arith, short));
+    times = omega arith;
+    none_later = tt;
+  }
+
+  each_ends : (number : ℕ) (command : Command) → slice_get s.commands number ≡ Some command → HasEnded script s.commands now number command (λ start mid told. EndsSoon script start mid command told)
+  each_ends number command there =
+      ended_now s o no_flips now run server client number command (λ start mid told. EndsSoon script start mid command told)
+      (commands_end script setup s.commands (begins_small s o.script) o.script.commands (server_sizes s o) o.script.few run.before drops_before spared_before first_stands number command there)
+
+  ends_in_time : now.times ≤ LOSSY_ROUNDS * length s.commands
+  ends_in_time =
+      omega (
+        arith,
+        same_times s o no_flips now run server client,
+        ends_by script setup s.commands (begins_small s o.script) o.script.commands (server_sizes s o) o.script.few run.before drops_before spared_before s.commands (first_world s.commands) first_stands,
+      )
+
 pub lossy_runs_end_well : LossyRunsEndWell
-lossy_runs_end_well s now number command o drops spared run few server client there =
-    let k : Setup = setup_of s in
-    let no_flips : NoFlips s.losses = undamaged s.losses drops.drops in
-    let before : World = run.before in
-    let quiet : now.numbered ≡ before.numbered = same_numbered s o no_flips now run server client in
-    let drops_before : DropsChunks k before = record {
-      drops = drops.drops;
-      chunks = λ n p at. drops.chunks n p (ap (λ ps. slice_get ps n) quiet ∙ at);
-      spares = λ n p at. drops.spares n p (ap (λ ps. slice_get ps n) quiet ∙ at);
-    } in
-    let spared_before : AreSpared k s.commands before =
-    λ count start c rest way kind begins. spared_same k (start.sessions + 1) start now before quiet (spared count start c rest way kind begins) in
-    let setup : IsSetup k = script_setup s o no_flips now run server client in
-    ended_now s o no_flips now run server client number command (λ start mid told. EndsSoon k start mid command told)
-    (commands_end k setup s.commands (begins_small s o.script) o.script.commands (server_sizes s o) before drops_before spared_before
-    (record {
-      begun = λ side. 0;
-      clean = first_is_clean k setup s.commands (FitsLater k 0 0 (λ side. 0));
-      coming = refl;
-      count = zero;
-      way = refl;
-      run = runs_to_end s o no_flips now run server client;
-      fit = o.script.commands;
-      leave_open = o.closes_none;
-      reads = (let few_reads = o.few_reads in omega (arith, few_reads));
-      writes = (let same = same_sessions s o no_flips now run server client in omega (arith, few, same));
-      sessions = (let short = o.script.few in omega (arith, short));
-      times = (let short = o.script.few in omega (arith, short));
-      none_later = tt;
-    }) number command there)
+lossy_runs_end_well s now number command o drops spared run few server client there = each_ends s o now drops spared run few server client number command there
+
+pub lossy_runs_end_in_time : LossyRunsEndInTime
+lossy_runs_end_in_time s now o drops spared run few server client = ends_in_time s o now drops spared run few server client
 
 pub few_losses_spare_each : FewLossesSpareEach
 few_losses_spare_each k commands now few count start command rest way kind begins = by_number (omega (arith, lost_few k (start.sessions + 1) now, few))

@@ -147,6 +147,12 @@ module _ (s : Script) (o : IsOpenScript s) (calm : NoFlips s.losses) (now : Worl
       ap (λ (x : World). x.sessions) run.ends.is
       ∙ (client_keeps k (λ x. x.sessions) (λ x p. refl) (with_server k run.before run.ends.server) run.ends.client ∙ server_keeps k (λ x. x.sessions) (λ x p. refl) run.before run.ends.server)
 
+  -- and no time passes
+  pub same_times : now.times ≡ run.before.times
+  same_times =
+      ap (λ (x : World). x.times) run.ends.is
+      ∙ (client_keeps k (λ x. x.times) (λ x p. refl) (with_server k run.before run.ends.server) run.ends.client ∙ server_keeps k (λ x. x.times) (λ x p. refl) run.before run.ends.server)
+
   same_lines : now.lines ≡ run.before.lines
   same_lines =
       ap (λ (x : World). x.lines) run.ends.is

@@ -1,5 +1,5 @@
 -- Over a link that drops chunks each transfer ends well, where one of its first four rounds is clean.
-use Rattle.std.specs.Prelude.{◌≡◌, ℕ, ◌≤◌, List, length, slice_get, Some}
+use Rattle.std.specs.Prelude.{◌≡◌, ℕ, ◌*◌, ◌≤◌, List, length, slice_get, Some}
 use Rattle.link_script.specs.declared.command.Command.{Command}
 use Rattle.link_script.specs.declared.script.Script.{Script}
 use Rattle.rpc_journal.specs.Lawful.{IsLegal}
@@ -22,6 +22,13 @@ LossyRunsEndWell =
     (s : Script) (now : World) (number : ℕ) (command : Command) → IsOpenScript s → DropsChunks (setup_of s) now → AreSpared (setup_of s) s.commands now → Turned (setup_of s) s.commands now
     → BeginsFewWrites s.commands now → IsLegal demo_rule (setup_of s).server now.server → IsLegal quiet_rule (setup_of s).client now.client
     → slice_get s.commands number ≡ Some command → HasEnded (setup_of s) s.commands now number command (λ start end told. EndsSoon (setup_of s) start end command told)
+
+-- AND SUCH A RUN TAKES at most three turns of time for each command
+abbrev pub LossyRunsEndInTime : Type 0
+LossyRunsEndInTime =
+    (s : Script) (now : World) → IsOpenScript s → DropsChunks (setup_of s) now → AreSpared (setup_of s) s.commands now → Turned (setup_of s) s.commands now
+    → BeginsFewWrites s.commands now → IsLegal demo_rule (setup_of s).server now.server → IsLegal quiet_rule (setup_of s).client now.client
+    → now.times ≤ LOSSY_ROUNDS * length s.commands
 
 -- THREE LOSSES SPARE EACH TRANSFER of any run, whichever they are
 abbrev pub FewLossesSpareEach : Type 0

@@ -1,5 +1,5 @@
 //! What follows from the definitions. Each function does nothing: what counts is its contract.
-ghost use Rattle.link_laws.specs.dropped_scripts.Losses.{FewLossesSpareEach, LossyRunsEndWell};
+ghost use Rattle.link_laws.specs.dropped_scripts.Losses.{FewLossesSpareEach, LossyRunsEndInTime, LossyRunsEndWell};
 
 /// Over a link that drops chunks, as many as it likes but for the confirmation of a read, each command of a script that closes no
 /// channel comes to its line, within three turns of time, where each transfer is spared: one of its first four rounds loses none of
@@ -7,6 +7,11 @@ ghost use Rattle.link_laws.specs.dropped_scripts.Losses.{FewLossesSpareEach, Los
 /// client has end with OK.
 pub fn lossy_runs_end_well()
     ensures { LossyRunsEndWell }
+{}
+
+/// Such a run takes at most three turns of time for each command.
+pub fn lossy_runs_end_in_time()
+    ensures { LossyRunsEndInTime }
 {}
 
 /// A link with three losses at most spares each transfer.

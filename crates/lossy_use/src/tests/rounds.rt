@@ -1,0 +1,237 @@
+//! Losses round by round: what lies between two turns of time is a round, and one that loses no chunk among the first four is enough.
+
+use super::{ends_well, is_so, told};
+use link_script::{Report, ReportLine};
+use rpc_ids::Status;
+use std::alloc::{AllocError, Global};
+use std::process::Abort;
+use std::test::Fail;
+
+/// The resource has sixteen chunks, all of which go out in one round.
+const LONG: u64 = 4000;
+
+/// The resource has three chunks, of which the last is short.
+const SHORT: u64 = 600;
+
+/// The first frames of a read and of a write that carry a piece.
+const FIRST_READ: u32 = 5;
+
+const FIRST_WRITE: u32 = 6;
+
+/// How a transfer of resource 7 ends, and the length that its line tells.
+struct Row {
+    script: &'static str,
+    status: Status,
+    length: u64,
+}
+
+/// Three lossy rounds, and the fourth: START is asked with again at each turn of time.
+const START_LOST: &[Row] = &[
+    Row {
+        script: "server 7 600 1\ndrop 2\ndrop 3\ndrop 4\nread 7 0\n",
+        status: Status::Okay,
+        length: SHORT,
+    },
+    Row {
+        script: "server 7 600 1\ndrop 2\ndrop 3\ndrop 4\ndrop 5\nread 7 0\n",
+        status: Status::DeadlineExceeded,
+        length: 0,
+    },
+    Row {
+        script: "client 7 600 1\ndrop 2\ndrop 3\ndrop 4\nwrite 7 0\n",
+        status: Status::Okay,
+        length: SHORT,
+    },
+    Row {
+        script: "client 7 600 1\ndrop 2\ndrop 3\ndrop 4\ndrop 5\nwrite 7 0\n",
+        status: Status::DeadlineExceeded,
+        length: 0,
+    },
+    Row {
+        script: "drop 2\ndrop 3\ndrop 4\nread 7 0\n",
+        status: Status::NotFound,
+        length: 0,
+    },
+    Row {
+        script: "drop 2\ndrop 3\ndrop 4\ndrop 5\nread 7 0\n",
+        status: Status::DeadlineExceeded,
+        length: 0,
+    },
+];
+
+/// What no promise holds for. The REQUEST and a read's confirmation aren't sent again. Where frames are kept back, a round without a
+/// drop may end nothing, and then three drops are too many. A write that was told DEADLINE_EXCEEDED may have been stored.
+const NOT_PROMISED: &[Row] = &[
+    Row {
+        script: "server 7 600 1\ndrop 1\nread 7 0\n",
+        status: Status::FailedPrecondition,
+        length: 0,
+    },
+    Row {
+        script: "server 7 600 1\ndrop 4\nread 7 0\n",
+        status: Status::DeadlineExceeded,
+        length: 0,
+    },
+    Row {
+        script: "window 2\nserver 7 700 1\nswap 5\nswap 7\nread 7 0\n",
+        status: Status::Okay,
+        length: 700,
+    },
+    Row {
+        script: "window 2\nserver 7 700 1\nswap 5\nswap 7\ndrop 10\ndrop 11\ndrop 12\nread 7 0\n",
+        status: Status::DeadlineExceeded,
+        length: 0,
+    },
+    Row {
+        script: "window 2\nclient 7 700 1\nswap 6\nswap 8\ndrop 11\ndrop 12\ndrop 13\nwrite 7 0\n",
+        status: Status::DeadlineExceeded,
+        length: 0,
+    },
+    Row {
+        script: "client 7 200 1\ndrop 7\ndrop 8\ndrop 9\ndrop 10\nwrite 7 0\n",
+        status: Status::DeadlineExceeded,
+        length: 200,
+    },
+];
+
+/// Whether the script's one transfer ended so.
+fn ended_so(report: &Report, status: Status, size: u64) -> bool {
+    match report.lines.as_slice() {
+        [
+            ReportLine::Read {
+                resource: 7,
+                status: told,
+                length,
+                ..
+            }
+            | ReportLine::Write {
+                resource: 7,
+                status: told,
+                length,
+                ..
+            },
+        ] => *told == status && *length == size,
+        _ => false,
+    }
+}
+
+// The transfer of a row ends as it says.
+fn ends_so(rt: &impl Abort, alloc: Global, row: &Row) -> Result<(), AllocError> {
+    let report = told(alloc, row.script)?;
+    is_so(
+        rt,
+        row.script,
+        report.is_some_and(|report| ended_so(&report, row.status, row.length)),
+    );
+    Ok(())
+}
+
+#[test]
+fn three_lossy_rounds_are_survived_and_four_are_not(rt: HostRuntime) -> Result<(), Fail> {
+    for row in START_LOST {
+        ends_so(&rt, rt.alloc(), row)?;
+    }
+    Ok(())
+}
+
+#[test]
+fn what_is_not_promised_of_losses(rt: HostRuntime) -> Result<(), Fail> {
+    for row in NOT_PROMISED {
+        ends_so(&rt, rt.alloc(), row)?;
+    }
+    Ok(())
+}
+
+// The lines of so many losses, one behind the other.
+fn burst(alloc: Global, first: u32, many: u32) -> Result<String, AllocError> {
+    let mut lines = String::new(alloc);
+    for lost in 0..many {
+        let frame = first.saturating_add(lost);
+        write!(lines, "drop {frame}\n")?;
+    }
+    Ok(lines)
+}
+
+#[test]
+fn a_read_survives_a_burst_in_one_round(rt: HostRuntime) -> Result<(), Fail> {
+    let alloc = rt.alloc();
+    for many in 1..=12 {
+        let drops = burst(alloc, FIRST_READ, many)?;
+        let script = format!(in alloc; "window 16\nserver 7 {LONG} 1\n{drops}read 7 0\n")?;
+        ends_well(&rt, alloc, script.as_str(), LONG)?;
+    }
+    Ok(())
+}
+
+#[test]
+fn a_write_survives_a_burst_in_one_round(rt: HostRuntime) -> Result<(), Fail> {
+    let alloc = rt.alloc();
+    for many in 1..=12 {
+        let drops = burst(alloc, FIRST_WRITE, many)?;
+        let script = format!(in alloc; "window 16\nclient 7 {LONG} 1\n{drops}write 7 0\n")?;
+        ends_well(&rt, alloc, script.as_str(), LONG)?;
+    }
+    Ok(())
+}
+
+// Three frames of a burst are the pieces, and each further one is the ask of a round.
+fn short_status(many: u32) -> Status {
+    if many <= 5 {
+        Status::Okay
+    } else {
+        Status::DeadlineExceeded
+    }
+}
+
+// The transfer of a short resource ends so behind a burst.
+fn burst_ends_so(
+    rt: &impl Abort,
+    alloc: Global,
+    script: &str,
+    many: u32,
+) -> Result<(), AllocError> {
+    let status = short_status(many);
+    let length = if many <= 5 { SHORT } else { 0 };
+    let report = told(alloc, script)?;
+    is_so(
+        rt,
+        script,
+        report.is_some_and(|report| ended_so(&report, status, length)),
+    );
+    Ok(())
+}
+
+#[test]
+fn a_burst_over_the_rounds_is_survived_up_to_the_third(rt: HostRuntime) -> Result<(), Fail> {
+    let alloc = rt.alloc();
+    for many in 1..=12 {
+        let drops = burst(alloc, FIRST_READ, many)?;
+        let script = format!(in alloc; "server 7 {SHORT} 1\n{drops}read 7 0\n")?;
+        burst_ends_so(&rt, alloc, script.as_str(), many)?;
+    }
+    for many in 1..=12 {
+        let drops = burst(alloc, FIRST_WRITE, many)?;
+        let script = format!(in alloc; "client 7 {SHORT} 1\n{drops}write 7 0\n")?;
+        burst_ends_so(&rt, alloc, script.as_str(), many)?;
+    }
+    Ok(())
+}
+
+/// One loss, by which 64 pieces of a wide window are thrown away, and two asks more: 66 chunks above the bound.
+const WIDE: &str = "chunk 128\nwindow 1\nclient 7 32000 1\ndrop 110\nwrite 7 0\n";
+
+/// The bound of 250 pieces where nothing is lost.
+const WIDE_BOUND: u64 = 268;
+
+#[test]
+fn one_loss_may_cost_66_chunks(rt: HostRuntime) -> Result<(), Fail> {
+    let report = told(rt.alloc(), WIDE)?;
+    is_so(
+        &rt,
+        WIDE,
+        report.is_some_and(|report| {
+            ended_so(&report, Status::Okay, 32_000) && report.chunks == WIDE_BOUND + 66
+        }),
+    );
+    Ok(())
+}
