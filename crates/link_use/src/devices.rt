@@ -2,6 +2,7 @@ ghost use Rattle.std.specs.Prelude.{◌≡◌, ◌<◌, false, length};
 
 mod folders;
 mod links;
+mod places;
 mod stores;
 
 use link_io::{

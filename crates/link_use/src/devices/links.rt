@@ -1,18 +1,21 @@
 //! Clocks and linkers: in memory, and over the system's own.
 
+ghost use Rattle.std.specs.Prelude.{◌≡◌, true, false};
+
 use super::bytes_are;
+use super::places::{is_there, path_of};
 use link_io::{
-    Clock, Failed, Linker, MemLinker, MemSink, MemSource, Sink, Source, StepClock, Still,
+    Clock, Failed, Linker, MemLinker, MemSink, MemSource, Sink, Source, StdIn, StepClock, Still,
     UnixLinker, WallClock, write_whole,
 };
 use std::alloc::{AllocError, Global};
 use std::fs::Files;
 use std::net::Net;
-use std::os::unix::net::UnixListener;
+use std::os::unix::net::{UnixListener, UnixStream};
 use std::process::Abort;
 use std::test::Fail;
-use std::thread::join;
-use std::{env, fs, time};
+use std::thread::{Threads, join};
+use std::{fs, time};
 
 fn moments_are(rt: &impl Abort, given: &[u64], wanted: &[u64]) {
     assert_eq!(rt; given, wanted);
@@ -91,47 +94,52 @@ fn read_all<S: Source>(source: &mut S, buf: &mut [u8]) -> Result<usize, Failed> 
     Ok(done)
 }
 
-// Whether a file is there.
-fn is_there<R: Files + Abort>(rt: &R, path: &str, wanted: bool) -> Result<(), Fail> {
-    assert_eq!(rt; fs::exists(rt, path)?, wanted);
-    Ok(())
+// An end hears these bytes, three of them before zeros.
+fn hears_three<S: Source>(rt: &impl Abort, source: &mut S, wanted: &[u8; 8]) {
+    let mut buf = [0; 8];
+    counted(rt, read_all(source, &mut buf), Ok(3));
+    bytes_are(rt, &buf, wanted);
 }
 
-#[test]
-fn two_ends_of_a_socket_meet(rt: HostRuntime) -> Result<(), Fail> {
-    let alloc = rt.alloc();
-    let now = time::Clock::since_1970(&rt)?.as_nanos();
-    let base = env::temp_dir(&rt)?;
-    let base = base.as_str();
-    let path = format!(in alloc; "{base}/link-io-socket-{now}")?;
-    let mut linker = UnixLinker::new(alloc, &rt);
-    linker.listen(&path)?;
-    // A file is there now, so that a second one can't listen at the path.
-    ended(&rt, UnixLinker::new(alloc, &rt).listen(&path), Err(Failed));
-    // A connection waits until it is accepted, so one thread holds both ends.
-    let mut client = UnixLinker::new(alloc, &rt);
-    let (mut client_in, mut client_out) = client.connect(&path)?;
-    let (mut link_in, mut link_out) = linker.accept()?;
-    write_whole(&mut client_out, &[1, 2, 3])?;
-    client_out.finish()?;
-    let mut buf = [0; 8];
-    counted(&rt, read_all(&mut link_in, &mut buf), Ok(3));
-    bytes_are(&rt, &buf, &[1, 2, 3, 0, 0, 0, 0, 0]);
-    // The other way is open still, and the ends may go to other threads.
-    write_whole(&mut link_out, &[4])?;
-    link_out.finish()?;
-    let (read, _) = join(
-        &rt,
+// Writes all of these bytes, behind which nothing comes.
+fn say<S: Sink>(sink: &mut S, bytes: &[u8]) -> Result<(), Failed>
+    requires { S.finished sink.old ≡ false }
+{
+    write_whole(sink, bytes)?;
+    sink.finish()
+}
+
+// How many bytes an end hears on another thread.
+fn heard_elsewhere<R: Threads>(rt: &R, mut source: StdIn<UnixStream>) -> Result<usize, Failed> {
+    let (heard, _) = join(
+        rt,
         move || {
             let mut buf = [0; 8];
-            read_all(&mut client_in, &mut buf)
+            read_all(&mut source, &mut buf)
         },
         || (),
     );
-    counted(&rt, read, Ok(1));
-    linker.back(link_in, link_out);
-    drop(linker);
-    is_there(&rt, path.as_str(), false)?;
+    heard
+}
+
+// Both ways of a connection from a linker that listens at the path. One thread holds both ends, since a connection waits until it is
+// accepted.
+fn both_ways<R: Net + Files + Threads + Abort>(
+    rt: &R,
+    path: &str,
+    listening: &mut UnixLinker<'_, R>,
+    calling: &mut UnixLinker<'_, R>,
+) -> Result<(), Fail>
+    requires { listening.old.listens ≡ true }
+{
+    let (client_in, mut client_out) = calling.connect(path)?;
+    let (mut link_in, mut link_out) = listening.accept()?;
+    say(&mut client_out, &[1, 2, 3])?;
+    hears_three(rt, &mut link_in, &[1, 2, 3, 0, 0, 0, 0, 0]);
+    // The other way is open still, and the ends may go to other threads.
+    say(&mut link_out, &[4])?;
+    counted(rt, heard_elsewhere(rt, client_in), Ok(1));
+    listening.back(link_in, link_out);
     Ok(())
 }
 
@@ -146,23 +154,46 @@ fn listen_row<R: Net + Files + AllocGlobal + Abort>(
 }
 
 #[test]
-fn a_socket_that_nobody_listens_at_makes_way(rt: HostRuntime) -> Result<(), Fail> {
-    let now = time::Clock::since_1970(&rt)?.as_nanos();
-    let base = env::temp_dir(&rt)?;
-    let base = base.as_str();
-    let path = format!(in rt.alloc(); "{base}/link-io-left-{now}")?;
-    // A listener of the system leaves its file.
-    drop(UnixListener::bind(&rt, &path)?);
-    is_there(&rt, path.as_str(), true)?;
-    listen_row(&rt, &path, Ok(()));
-    is_there(&rt, path.as_str(), false)?;
-    // What is no socket is left alone.
-    fs::write(&rt, &path, "text")?;
+fn two_ends_of_a_socket_meet(rt: HostRuntime) -> Result<(), Fail> {
+    let path = path_of(&rt, "link-io-socket")?;
+    let mut linker = UnixLinker::new(rt.alloc(), &rt);
+    linker.listen(&path)?;
+    // A file is there now, so that a second one can't listen at the path.
     listen_row(&rt, &path, Err(Failed));
-    assert_eq!(rt; fs::read_to_string(&rt, &path)?.as_str(), "text");
-    fs::remove_file(&rt, &path)?;
-    fs::create_dir(&rt, &path)?;
-    listen_row(&rt, &path, Err(Failed));
-    fs::remove_dir(&rt, &path)?;
+    let mut client = UnixLinker::new(rt.alloc(), &rt);
+    both_ways(&rt, &path, &mut linker, &mut client)?;
+    drop(linker);
+    is_there(&rt, &path, false)
+}
+
+// A listener of the system leaves its file, which makes way.
+fn makes_way<R: Net + Files + AllocGlobal + Abort>(rt: &R, path: &str) -> Result<(), Fail> {
+    drop(UnixListener::bind(rt, path)?);
+    is_there(rt, path, true)?;
+    listen_row(rt, path, Ok(()));
+    is_there(rt, path, false)
+}
+
+fn file_stays<R: Net + Files + AllocGlobal + Abort>(rt: &R, path: &str) -> Result<(), Fail> {
+    fs::write(rt, path, "text")?;
+    listen_row(rt, path, Err(Failed));
+    assert_eq!(rt; fs::read_to_string(rt, path)?.as_str(), "text");
+    fs::remove_file(rt, path)?;
     Ok(())
+}
+
+fn folder_stays<R: Net + Files + AllocGlobal + Abort>(rt: &R, path: &str) -> Result<(), Fail> {
+    fs::create_dir(rt, path)?;
+    listen_row(rt, path, Err(Failed));
+    fs::remove_dir(rt, path)?;
+    Ok(())
+}
+
+#[test]
+fn a_socket_that_nobody_listens_at_makes_way(rt: HostRuntime) -> Result<(), Fail> {
+    let path = path_of(&rt, "link-io-left")?;
+    makes_way(&rt, &path)?;
+    // What is no socket is left alone.
+    file_stays(&rt, &path)?;
+    folder_stays(&rt, &path)
 }

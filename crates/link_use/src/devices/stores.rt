@@ -2,13 +2,13 @@
 
 ghost use Rattle.std.specs.Prelude.{◌≡◌, [], ◌∷◌, IfOk};
 
+use super::places::{fill, holds, path_of};
 use bytes::Bytes;
 use link_io::{FolderStore, Fulls, MemStore, Shelf, Store, StoreKey, StoreRefused};
 use std::alloc::Global;
+use std::fs;
 use std::process::Abort;
 use std::test::Fail;
-use std::time::Clock;
-use std::{env, fs};
 
 fn key(call: u32, session: u32) -> StoreKey {
     StoreKey { call, session }
@@ -92,14 +92,35 @@ fn is_left(rt: &impl Abort, shelf: &Shelf, resource: u32, want: Option<u64>) {
     assert_eq!(rt; shelf.left.get(resource), want, "resource {resource}");
 }
 
+// So many resources are whole, and this is left of others.
+fn shelf_has(rt: &impl Abort, shelf: &Shelf, full: usize, left: &[(u32, u64)]) {
+    assert_eq!(rt; shelf.full.as_slice().len(), full);
+    assert_eq!(rt; shelf.left.as_slice(), left);
+}
+
 fn check_shelf(rt: &impl Abort, shelf: &Shelf) {
     is_full(rt, shelf, 5, None);
     is_full(rt, shelf, 7, Some(&[1, 2, 8, 5]));
     is_full(rt, shelf, 9, Some(&[9]));
-    assert_eq!(rt; shelf.full.as_slice().len(), 2);
-    assert_eq!(rt; shelf.left.as_slice(), [(5, 2)].as_slice());
+    shelf_has(rt, shelf, 2, &[(5, 2)]);
     is_left(rt, shelf, 5, Some(2));
     is_left(rt, shelf, 7, None);
+}
+
+fn cannot_list<S: Store>(rt: &impl Abort, store: &mut S) {
+    assert!(rt; matches!(store.list(), Err(StoreRefused::Failed)));
+}
+
+// The uploads to this store end as they should.
+fn uploads_end<R: AllocGlobal + Abort, S: Store>(rt: &R, store: &mut S) -> Result<(), Fail> {
+    let shelf = uploads(rt.alloc(), store)?;
+    check_shelf(rt, &shelf);
+    Ok(())
+}
+
+// What a store in memory has of a resource.
+fn is_kept(rt: &impl Abort, kept: Option<&Bytes>, want: Option<&[u8]>) {
+    assert_eq!(rt; kept.map(Bytes::as_slice), want);
 }
 
 #[test]
@@ -108,10 +129,9 @@ fn uploads_end_in_memory(rt: HostRuntime) -> Result<(), Fail> {
     let full = one(alloc, 9, &[9])?;
     let left = one(alloc, 7, &[1, 2, 3])?;
     let mut store = MemStore::new(alloc, full, left, Vec::new(alloc))?;
-    let shelf = uploads(alloc, &mut store)?;
-    check_shelf(&rt, &shelf);
-    assert_eq!(rt; store.left(5).map(Bytes::as_slice), Some([4, 4].as_slice()));
-    assert!(rt; store.full(5).is_none());
+    uploads_end(&rt, &mut store)?;
+    is_kept(&rt, store.left(5), Some(&[4, 4]));
+    is_kept(&rt, store.full(5), None);
     Ok(())
 }
 
@@ -141,8 +161,8 @@ fn a_call_that_fails_changes_nothing(rt: HostRuntime) -> Result<(), Fail> {
         steps_so(&rt, alloc, &mut store, *step, failed);
         steps_so(&rt, alloc, &mut store, *step, Ok(()));
     }
-    assert!(rt; store.list().is_err());
-    assert_eq!(rt; store.full(7).map(Bytes::as_slice), Some([8].as_slice()));
+    cannot_list(&rt, &mut store);
+    is_kept(&rt, store.full(7), Some(&[8]));
     Ok(())
 }
 
@@ -155,22 +175,13 @@ const FILES: &[(&str, &[u8])] = &[
 
 #[test]
 fn uploads_end_in_a_folder(rt: HostRuntime) -> Result<(), Fail> {
-    let alloc = rt.alloc();
-    let now = rt.since_1970()?.as_nanos();
-    let base = env::temp_dir(&rt)?;
-    let base = base.as_str();
-    let folder = format!(in alloc; "{base}/link-io-store-{now}")?;
-    let mut store = FolderStore::new(alloc, &rt, &folder)?;
+    let folder = path_of(&rt, "link-io-store")?;
+    let mut store = FolderStore::new(rt.alloc(), &rt, &folder)?;
     // The folder isn't there yet.
-    assert!(rt; matches!(store.list(), Err(StoreRefused::Failed)));
-    fs::create_dir_all(&rt, &folder)?;
-    for (name, bytes) in FILES {
-        fs::write(&rt, &format!(in alloc; "{folder}/{name}")?, *bytes)?;
-    }
-    let shelf = uploads(alloc, &mut store)?;
-    check_shelf(&rt, &shelf);
-    let left = fs::read(&rt, &format!(in alloc; "{folder}/left-5")?)?;
-    assert_eq!(rt; left.as_slice(), [4, 4].as_slice());
+    cannot_list(&rt, &mut store);
+    fill(&rt, &folder, FILES)?;
+    uploads_end(&rt, &mut store)?;
+    holds(&rt, &folder, "left-5", Some(&[4, 4]))?;
     fs::remove_dir_all(&rt, &folder)?;
     Ok(())
 }
