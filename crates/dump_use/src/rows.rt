@@ -33,6 +33,11 @@ const ROWS: &[(&[u8], &str)] = &[
         b"ab\x7E\x7Ec",
         "0 skipped 2\n4 open 1\nframes 0 bad 0 other 0 dropped 0\n",
     ),
+    // Half a frame.
+    (
+        b"\x7E\xA5\x03\x10\x01\x1D\xFB\x5C\xF4",
+        "1 open 8\nframes 0 bad 0 other 0 dropped 0\n",
+    ),
     // A frame to another address, one with another control octet, and one with an empty payload.
     (
         b"\x7E\xF7\x03\x3F\x34\x2D\x83\x7E",
@@ -124,6 +129,21 @@ const UPLOAD_TEXT: &str = "1 frame 82 20 request 1 pw.transfer.Transfer Write 1 
 200 frame 82 22 client_request_completion 1 pw.transfer.Transfer Write 1 payload 0\n\
 frames 7 bad 0 other 0 dropped 0\n";
 
+// What its server answered.
+const ANSWER: &[&[u8]] = &[
+    b"\x7E\xA5\x03\x08\x07\x10\x01\x1D\x7B\xC8\xD6\x5B\x25\x86\x05\x63\xD4\x2A\x06\x50\x06\x60\x01\x68\x02\x38\x01\x67\xDE\x2A\xD2\x7E",
+    b"\x7E\xA5\x03\x08\x07\x10\x01\x1D\x7B\xC8\xD6\x5B\x25\x86\x05\x63\xD4\x2A\x0A\x18\x80\x02\x48\x80\x08\x50\x02\x60\x01\x38\x01\x50\x16\x88\x9E\x7E",
+    b"\x7E\xA5\x03\x08\x07\x10\x01\x1D\x7B\xC8\xD6\x5B\x25\x86\x05\x63\xD4\x2A\x06\x40\x00\x50\x04\x60\x01\x38\x01\x1D\xC4\x29\xC6\x7E",
+    b"\x7E\xA5\x03\x08\x01\x10\x01\x1D\x7B\xC8\xD6\x5B\x25\x86\x05\x63\xD4\x38\x01\xE0\x8D\x10\x47\x7E",
+];
+
+const ANSWER_TEXT: &str =
+    "1 frame 82 30 server_stream 1 pw.transfer.Transfer Write 1 chunk START_ACK session 1 version 2\n\
+33 frame 82 34 server_stream 1 pw.transfer.Transfer Write 1 chunk PARAMETERS_RETRANSMIT session 1 window_end 1024 max_chunk 256\n\
+69 frame 82 30 server_stream 1 pw.transfer.Transfer Write 1 chunk COMPLETION session 1 status OK\n\
+101 frame 82 22 response 1 pw.transfer.Transfer Write 1 status OK payload 0\n\
+frames 4 bad 0 other 0 dropped 0\n";
+
 // The sink behind a dump with these names, whose calls of these numbers fail, and why the dump ended.
 fn dumped(
     alloc: Global,
@@ -141,7 +161,8 @@ fn dumped(
     Ok((why, sink))
 }
 
-fn tells(
+/// These names, over a stream, tell this text.
+pub(super) fn tells(
     rt: &impl Abort,
     alloc: Global,
     names: &[MethodName<'_>],
@@ -175,11 +196,40 @@ fn each_segment_has_its_line(rt: HostRuntime) -> Result<(), AllocError> {
 
 #[test]
 fn an_upload_is_told_in_words(rt: HostRuntime) -> Result<(), AllocError> {
-    let mut stream = Vec::new(rt.alloc());
-    for frame in UPLOAD {
+    frames_tell(&rt, rt.alloc(), UPLOAD, UPLOAD_TEXT)
+}
+
+#[test]
+fn the_answer_to_an_upload_is_told_in_words(rt: HostRuntime) -> Result<(), AllocError> {
+    frames_tell(&rt, rt.alloc(), ANSWER, ANSWER_TEXT)
+}
+
+fn frames_tell(
+    rt: &impl Abort,
+    alloc: Global,
+    frames: &[&[u8]],
+    text: &str,
+) -> Result<(), AllocError> {
+    let mut stream = Vec::new(alloc);
+    for frame in frames {
         stream.extend_from_slice(frame)?;
     }
-    tells(&rt, rt.alloc(), NAMES, &stream, UPLOAD_TEXT)
+    tells(rt, alloc, NAMES, &stream, text)
+}
+
+#[test]
+fn more_than_a_frame_may_carry_is_long(rt: HostRuntime) -> Result<(), AllocError> {
+    let stream = flagged(rt.alloc(), 8_197)?;
+    let text = "1 bad Long 8197\nframes 0 bad 1 other 0 dropped 0\n";
+    tells(&rt, rt.alloc(), NAMES, &stream, text)
+}
+
+// So many bytes between two flags.
+fn flagged(alloc: Global, count: usize) -> Result<Vec<u8>, AllocError> {
+    let mut stream = vec![in alloc; 0x7E]?;
+    stream.extend_from_slice(&vec![in alloc; 0; count]?)?;
+    stream.push(0x7E)?;
+    Ok(stream)
 }
 
 #[test]

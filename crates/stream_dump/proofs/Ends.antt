@@ -9,7 +9,7 @@ use Rattle.link_io.specs.Device.{AppendsSome}
 use Rattle.stream_dump.specs.Dump.{dump_text}
 use Rattle.stream_dump.specs.Dumps.{Dumps, DumpsBy}
 use Rattle.stream_dump.specs.Names.{Name}
-use Rattle.stream_dump.specs.Progress.{DumpsOn, DumpsPart, HasTaken, IsDumped, Progress, StopsIn}
+use Rattle.stream_dump.specs.Progress.{DumpsOn, HasTaken, Progress, StopsIn}
 use Rattle.stream_dump.specs.Steps.{last_lines}
 use Rattle.stream_dump.proofs.DumpLemmas.{dumped_part, dumped_whole}
 

@@ -3,6 +3,7 @@ pub mod Ends
 pub mod Flags
 pub mod LineLemmas
 pub mod NameLemmas
+pub mod NamedLemmas
 pub mod PrintLemmas
 pub mod Texts
 pub mod WordLemmas

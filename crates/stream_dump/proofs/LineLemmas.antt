@@ -1,5 +1,5 @@
 -- How the lines of a dump grow.
-use Rattle.std.proofs.Common.{◌≡◌, ℕ, suc, ◌==◌, ◌+◌, Bool, true, false, cond, List, [], ◌∷◌, ◌++◌, length, map, Option, Some, None, refl, sym, ap, ◌∙◌, arith, append-nil, append_assoc, codes}
+use Rattle.std.proofs.Common.{◌≡◌, ℕ, suc, ◌==◌, ◌+◌, true, false, cond, List, [], ◌∷◌, ◌++◌, length, map, Some, None, refl, sym, ap, ◌∙◌, arith, append-nil, append_assoc, codes}
 use Rattle.std.specs.Fmt.{decimal}
 use Rattle.hdlc_frame.specs.Found.{Found, found_in}
 use Rattle.hdlc_frame.specs.Laws.{ended}

@@ -1,7 +1,7 @@
 -- Words that are added, some behind others.
 use Rattle.std.proofs.Common.{◌≡◌, ℕ, ◌+◌, ◌≤◌, List, ◌++◌, Result, Ok, Err, ap, ◌∙◌, subst, arith, append_assoc}
 use Rattle.std.specs.Prelude.{OnOk, OnErr}
-use Rattle.arrayvec.specs.ArrayVec.{ArrayVec, array_vec_len}
+use Rattle.arrayvec.specs.ArrayVec.{ArrayVec}
 use Rattle.stream_dump.specs.declared.words.Word.{Word}
 use Rattle.stream_dump.specs.Words.{Adds, texts}
 

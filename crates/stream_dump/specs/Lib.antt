@@ -4,6 +4,7 @@ pub mod Dump
 pub mod Dumps
 pub mod Ends
 pub mod Lines
+pub mod Named
 pub mod Names
 pub mod Packets
 pub mod Progress

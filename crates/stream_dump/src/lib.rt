@@ -9,6 +9,7 @@ mod dumper;
 mod dumping;
 mod ids;
 pub mod laws;
+mod named;
 mod names;
 mod packet_words;
 mod printing;
@@ -17,4 +18,5 @@ mod words;
 
 pub use dumping::{INPUT_LIMIT, dump};
 pub use ids::{READ, TRANSFER, WRITE};
+pub use named::{MAX_NAMED, MAX_NAMES, MethodNames, SLASH};
 pub use names::MethodName;

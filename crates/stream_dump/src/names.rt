@@ -9,6 +9,15 @@ pub struct MethodName<'a> {
     pub method: &'a [u8],
 }
 
+impl Default for MethodName<'_> {
+    fn default() -> Self {
+        MethodName {
+            service: b"",
+            method: b"",
+        }
+    }
+}
+
 ghost use Rattle.std.specs.Prelude.{◌≡◌};
 ghost use Rattle.stream_dump.specs.Names.{has_ids, has_service, method_text, name_of, names_of, service_text};
 ghost use Rattle.stream_dump.specs.Words.{word_text};

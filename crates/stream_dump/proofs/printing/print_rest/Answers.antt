@@ -1,4 +1,3 @@
-use Rattle.std.proofs.Common.{arith}
 use Rattle.stream_dump.proofs.PrintLemmas.{newline_some, rest_some}
 use Rattle.stream_dump.proofs.printing.print_rest.Goals as goal
 
