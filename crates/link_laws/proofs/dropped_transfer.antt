@@ -7,6 +7,8 @@ mod Ends
 mod Few
 mod Late
 pub mod Links
+mod Comes
+mod InTime
 mod Mixes
 pub mod Numbers
 mod Rounds

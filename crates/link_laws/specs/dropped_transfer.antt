@@ -4,3 +4,4 @@ pub mod Rounds
 pub mod Sessions
 pub mod Shows
 pub mod Survives
+pub mod InTime

@@ -318,11 +318,13 @@ module _ (k : Setup) (setup : IsSetup k) (w end : World) (side : Side) (command 
 
     pub starts_so : RunsOut k w end → DropsChunks k end → IsSpared k (w.sessions + 1) w end → w.sessions + 1 < 2 ^ 32 → TURN_OF_TIME * w.times + 4 * TIMEOUT < 2 ^ 63 → (may : May) → CanSurvive k (x_of may) (older_of may) w end t
     starts_so run drops spared small early may = record {
-      set = is_set_for_drops may room drops small;
-      early = early;
-      past = past_of may;
-      begins = record { command = command; asks = asking; how = opens may; numbered = none_said (numbered_with k setup fits w clean side rest may) (numbered_so may) };
-      run = run;
-      drops = drops;
+      starts = record {
+        set = is_set_for_drops may room drops small;
+        early = omega (arith, early);
+        past = past_of may;
+        begins = record { command = command; asks = asking; how = opens may; numbered = none_said (numbered_with k setup fits w clean side rest may) (numbered_so may) };
+        run = run;
+        drops = drops;
+      };
       spared = spared;
     }

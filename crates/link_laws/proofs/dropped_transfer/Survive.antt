@@ -1,5 +1,5 @@
 -- Reads and writes survive three lossy rounds, and so do refusals.
-use Rattle.std.proofs.Common.{◌≡◌, ℕ, ◌+◌, ◌*◌, ◌<◌, ◌≤◌, ◌==◌, ◌&&◌, ◌||◌, ◌⊎◌, inl, inr, ◌^◌, Bool, true, false, List, [], ◌∷◌, ◌++◌, codes, Option, Some, None, Result, refl, ap, sym, ◌∙◌, subst, arith}
+use Rattle.std.proofs.Common.{◌≡◌, ℕ, ◌+◌, ◌*◌, ◌<◌, ◌==◌, ◌&&◌, ◌||◌, ◌⊎◌, inl, inr, ◌^◌, Bool, true, false, List, [], ◌∷◌, ◌++◌, codes, Option, Some, None, Result, refl, ap, sym, ◌∙◌, subst, arith}
 use Rattle.std.proofs.lemmas.Bool.{eq-eqb, eqb-true}
 use Rattle.std.specs.List.{AllByRecursion}
 use Rattle.link_script.specs.declared.report.ReportLine.{ReportLine}
@@ -19,7 +19,7 @@ use Rattle.transfer_resume.specs.declared.stage.Stage.TheVariants as stage
 use Rattle.transfer_resume.specs.Opening.{agreed_offset}
 use Rattle.transfer_resume.specs.Session.{Row}
 use Rattle.transfer_laws.specs.pairs.EndsWell.{read_ended, read_refused, write_ended}
-use Rattle.transfer_laws.specs.losses.Drops.{LeadsTo, Lost, LossyPair, begun, lost_at}
+use Rattle.transfer_laws.specs.losses.Drops.{Lost, LossyPair, begun, lost_at}
 use Rattle.transfer_laws.specs.losses.Survives.{Ends, HasEndedWell, IsNoConfirmation, IsSettled, KeepsARoundClean, SaysNoConfirmation, SparesConfirmations}
 use Rattle.transfer_laws.specs.losses.Rounds.{LOSSY_ROUNDS, is_lossy, moment_of}
 use Rattle.transfer_laws.proofs.losses.FewLosses.{few_losses_keep_a_round_clean}
@@ -27,9 +27,7 @@ use Rattle.transfer_laws.proofs.losses.Numbers.{numbers_lose_few}
 use Rattle.transfer_laws.proofs.losses.ReadLaws.{reads_survive}
 use Rattle.transfer_laws.proofs.losses.RefusalSurvival.{refusals_survive}
 use Rattle.transfer_laws.proofs.losses.WriteLaws.{writes_survive}
-use Rattle.link_laws.specs.world.Turns.{Turns}
 use Rattle.link_laws.specs.world.World.{Setup, Transfer, World, reads, writes}
-use Rattle.link_laws.proofs.lossless_scripts.Walk.{turns_join}
 use Rattle.link_laws.specs.world.Lines.{line_telling}
 use Rattle.link_laws.specs.lossless_transfer.Finishes.{Passes, ReadFits, WriteFits}
 use Rattle.link_laws.specs.lossless_transfer.Shows.{Places, moment_at}
@@ -39,16 +37,15 @@ use Rattle.link_laws.proofs.lossless_transfer.Finishing.{read_begins, write_begi
 use Rattle.link_laws.proofs.lossless_transfer.Machines.{IsWrapped}
 use Rattle.link_laws.proofs.lossless_transfer.ReadSteps.{reads_wrapped}
 use Rattle.link_laws.proofs.lossless_transfer.WriteSteps.{writes_wrapped}
-use Rattle.link_laws.proofs.plain_calls.Numbers.{numbered_grow}
 use Rattle.link_laws.specs.dropped_transfer.Dropped.{DropsChunks, is_confirmation, loses, lost_numbers}
 use Rattle.link_laws.specs.dropped_transfer.Rounds.{HasCleanRound, IsNumberedAt, IsSpared, by_number, by_round}
 use Rattle.link_laws.specs.dropped_transfer.Sessions.{at_turn}
-use Rattle.link_laws.specs.dropped_transfer.Shows.{IsLostIn, LeftDropping, ShowsLossy}
+use Rattle.link_laws.specs.dropped_transfer.Shows.{IsLostIn, LeftDropping}
 use Rattle.link_laws.specs.dropped_transfer.Survives.{BeginsDropping, CanSurvive, HasSurvived, OpensAnew, OpensThere, ReadsSurviveDrops, RefusalsSurviveDrops, WritesSurviveDrops}
-use Rattle.link_laws.proofs.dropped_transfer.Begin.{begins_so}
-use Rattle.link_laws.proofs.dropped_transfer.Chain.{Come, follows, leads_past}
+use Rattle.link_laws.proofs.dropped_transfer.Chain.{Come, leads_past}
+use Rattle.link_laws.proofs.dropped_transfer.Comes.{comes, lost_in_run}
 use Rattle.link_laws.proofs.dropped_transfer.Late.{ReadAt, WriteAt, reads_keep_time, writes_keep_time}
-use Rattle.link_laws.proofs.dropped_transfer.Numbers.{all_still_lost, is_own}
+use Rattle.link_laws.proofs.dropped_transfer.Numbers.{is_own}
 use Rattle.link_laws.proofs.dropped_transfer.Rounds.{IsBy, last_by}
 use Rattle.link_laws.proofs.dropped_transfer.Tail.{drains}
 use Rattle.link_laws.proofs.dropped_transfer.TimeStep.{KeepsTime}
@@ -97,26 +94,6 @@ module _ {A : Type 0} (rules : Rules A) (wrap : A → Transfer) (P : ℕ → A �
   abbrev w : LossyPair A
   w = begun x.service rules lost (moment_at x) x.service.time t
 
-  -- THE RUN COMES TO EACH PAIR that it leads to in time
-  comes : (n : ℕ) (last : LossyPair A) → LeadsTo x.service rules lost n w last → last.now ≤ moment_at x + TIMEOUT * LOSSY_ROUNDS → Passes k big far (Come rules wrap k x big last)
-  comes n last leads soon =
-      let p : Passes k big far (λ next. ShowsLossy wrap k x older [] big next w) =
-      begins_so rules wrap (P (moment_at x)) k x older starts.set wrapped (keeps.keeps (moment_at x)) t can big far starts.drops starts.begins starts.run in
-      let q : Passes k p.mid far (Come rules wrap k x big last) =
-      follows rules wrap P k x starts.set.only wrapped keeps big far last (omega (arith, soon, starts.early)) n p.mid (p.many, p.way) older w.pair.server w.pair.client w.pair.to_server [] w.lost w.pair.said x.service.time x.times x.server
-      can.going leads
-      (record { set = starts.set; stands = p.holds.stands; task = p.holds.task; fits = tt; holds = can.holds; lost_are = p.holds.lost })
-      p.rest in
-      let on : (count : ℕ) × Turns k count big q.mid = turns_join k p.many q.many big p.mid q.mid p.way q.way in
-      record { mid = q.mid; many = on.0; way = on.1; rest = q.rest; holds = q.holds }
-
-  -- what was lost on the way to such a pair was dropped in the run
-  lost_in_run : (n : ℕ) (last : LossyPair A) → LeadsTo x.service rules lost n w last → last.now ≤ moment_at x + TIMEOUT * LOSSY_ROUNDS → AllByRecursion (IsLostIn k x big far) last.lost
-  lost_in_run n last leads soon =
-      let there : Passes k big far (Come rules wrap k x big last) = comes n last leads soon in
-      let grown = numbered_grow k there.rest.total there.mid far there.rest.turns in
-      all_still_lost k x there.mid far grown.0 grown.1 big last.lost there.holds.lost_are
-
   -- IN A CLEAN ROUND NOTHING WAS LOST
   module _ (c : HasCleanRound k x.session big far) where
     abbrev moment : ℕ
@@ -127,12 +104,12 @@ module _ {A : Type 0} (rules : Rules A) (wrap : A → Transfer) (P : ℕ → A �
     none_then (l ∷ ls) all is = by_test (l.moment == moment) refl (none_then ls all.1) is
       where
         same_turn : l.moment ≡ moment → all.0.times ≡ big.times + c.number
-        same_turn same = omega (arith, same, all.0.moment, begins_then starts.begins)
+        same_turn same = omega (arith, same, all.0.moment, begins_then starts.starts.begins)
 
         by_test : (b : Bool) → (l.moment == moment) ≡ b → (is_lossy ls moment ≡ true → ⊥) → (b || is_lossy ls moment) ≡ true → ⊥
         by_test true same rest is =
             c.clean all.0.place _ all.0.there
-            (is_own all.0.type x.client_opening.name x.session l.word starts.set.places.session all.0.fits all.0.message starts.set.service_is) all.0.dropped
+            (is_own all.0.type x.client_opening.name x.session l.word starts.starts.set.places.session all.0.fits all.0.message starts.starts.set.service_is) all.0.dropped
             (subst (IsNumberedAt k big all.0.place) (same_turn (eqb-true l.moment moment same)) all.0.numbered)
         by_test false same rest is = rest is
 
@@ -143,7 +120,7 @@ module _ {A : Type 0} (rules : Rules A) (wrap : A → Transfer) (P : ℕ → A �
         soon = last_by x.service rules lost (moment_at x + TIMEOUT * LOSSY_ROUNDS) n w last (omega arith) leads
 
         by_test : (b : Bool) → is_lossy last.lost moment ≡ b → is_lossy last.lost moment ≡ false
-        by_test true is = absurd (none_then soon.mid.lost (lost_in_run soon.count soon.mid soon.way soon.soon) (soon.lost moment (omega (arith, c.early)) is))
+        by_test true is = absurd (none_then soon.mid.lost (lost_in_run rules wrap P wrapped keeps k x older big far t LOSSY_ROUNDS starts.starts can soon.count soon.mid soon.way soon.soon) (soon.lost moment (omega (arith, c.early)) is))
         by_test false is = is
 
   -- ONE OF THE FIRST FOUR ROUNDS IS CLEAN
@@ -159,21 +136,21 @@ module _ {A : Type 0} (rules : Rules A) (wrap : A → Transfer) (P : ℕ → A �
   -- what is lost in a read is no confirmation
   pub spared : x.client_opening.name.method ≡ name_id (codes "Read") → SparesConfirmations x.service rules lost (moment_at x) w
   spared named n last leads soon =
-      all_weaken (IsLostIn k x big far) IsNoConfirmation last.lost (spared_word k x big far starts.drops named starts.set.places.session)
-      (lost_in_run n last leads (omega (arith, soon)))
+      all_weaken (IsLostIn k x big far) IsNoConfirmation last.lost (spared_word k x big far starts.starts.drops named starts.starts.set.places.session)
+      (lost_in_run rules wrap P wrapped keeps k x older big far t LOSSY_ROUNDS starts.starts can n last leads (omega (arith, soon)))
 
   -- ITS LINE IS TOLD, and what is still on its way comes to nothing
   pub survives : (end : A) (status : Status) (Stood : Option Stage → Type 0) → ((o : Option Stage) → Stood o → IsSettled o) → Ends x.service rules lost Stood (moment_at x) w end → rules.end_of end ≡ Some status
       → Passes k big far (HasSurvived k x (wrap end) status)
   survives end status Stood settled e over =
-      then_passes k big far (Come rules wrap k x big e.last) (HasSurvived k x (wrap end) status) (comes e.many e.last e.way (omega (arith, e.soon)))
+      then_passes k big far (Come rules wrap k x big e.last) (HasSurvived k x (wrap end) status) (comes rules wrap P wrapped keeps k x older big far t LOSSY_ROUNDS starts.starts can e.many e.last e.way (omega (arith, e.soon)))
       (λ mid came run.
       let y : Places = at_turn x e.last.time came.times came.server in
       let told : (bytes : ℕ) × LeftDropping k y came.older (x.lines ++ line_telling (wrap e.last.pair.client) status bytes ∷ []) mid e.last.pair.server e.last.pair.to_server came.downs e.last.pair.said =
       came.left status (ap rules.end_of e.client ∙ over) in
       let lines : List ReportLine = x.lines ++ line_telling (wrap e.last.pair.client) status told.0 ∷ [] in
       then_passes k mid far (λ next. LeftDropping k y came.older lines next e.session [] [] e.last.pair.said) (HasSurvived k x (wrap end) status)
-      (drains k y came.older came.set (omega (arith, e.soon, starts.early, came.now)) lines far e.last.pair.to_server came.downs mid e.last.pair.server e.session e.last.pair.said e.server
+      (drains k y came.older came.set (omega (arith, e.soon, starts.starts.early, came.now)) lines far e.last.pair.to_server came.downs mid e.last.pair.server e.session e.last.pair.said e.server
       (came.own_are ∙ e.to_client) came.fits told.1 run)
       (λ next left rest.
       here k next far (HasSurvived k x (wrap end) status) rest
@@ -182,7 +159,7 @@ module _ {A : Type 0} (rules : Rules A) (wrap : A → Transfer) (P : ℕ → A �
         times = came.times;
         few = omega (arith, e.soon, came.now);
         time = e.last.time;
-        past = omega (arith, leads_past x.service rules lost e.many w e.last e.way starts.past, came.now);
+        past = omega (arith, leads_past x.service rules lost e.many w e.last e.way starts.starts.past, came.now);
         server = came.server;
         older = came.older;
         set = came.set;
@@ -193,11 +170,11 @@ module _ {A : Type 0} (rules : Rules A) (wrap : A → Transfer) (P : ℕ → A �
       })))
 
 -- how a read begins, and how a write does
-read_can : (now resource offset window chunk : ℕ) → now + TIMEOUT < 2 ^ 63 → ReadFits (new_download resource offset window chunk) → CanBegin read_rules (ReadAt now) now (new_download resource offset window chunk)
+pub read_can : (now resource offset window chunk : ℕ) → now + TIMEOUT < 2 ^ 63 → ReadFits (new_download resource offset window chunk) → CanBegin read_rules (ReadAt now) now (new_download resource offset window chunk)
 read_can now resource offset window chunk early fits =
     let can = read_begins now resource offset window chunk early fits in record { holds = (early, can.holds); fits = can.fits; going = can.going }
 
-write_can : (now resource offset : ℕ) (bytes : List ℕ) → now + TIMEOUT < 2 ^ 63 → WriteFits (new_upload resource bytes offset) → CanBegin write_rules (WriteAt now) now (new_upload resource bytes offset)
+pub write_can : (now resource offset : ℕ) (bytes : List ℕ) → now + TIMEOUT < 2 ^ 63 → WriteFits (new_upload resource bytes offset) → CanBegin write_rules (WriteAt now) now (new_upload resource bytes offset)
 write_can now resource offset bytes early fits =
     let can = write_begins now resource offset bytes early fits in record { holds = (early, can.holds); fits = can.fits; going = can.going }
 
@@ -205,7 +182,7 @@ pub reads_survive_drops : ReadsSurviveDrops
 reads_survive_drops k x older big far resource offset window chunk bytes starts side named there small tuning size within =
     let d : Download = new_download resource offset window chunk in
     let can : CanBegin read_rules (ReadAt (moment_at x)) (moment_at x) d =
-    read_can (moment_at x) resource offset window chunk (omega (arith, starts.early)) (record { resource = small; asked = omega (arith, size, within); window = tuning.window_high; chunk = tuning.chunk_high }) in
+    read_can (moment_at x) resource offset window chunk (omega (arith, starts.starts.early)) (record { resource = small; asked = omega (arith, size, within); window = tuning.window_high; chunk = tuning.chunk_high }) in
     survives read_rules reads ReadAt reads_wrapped reads_keep_time k x older big far d starts can (read_ended d offset) Okay HasEndedWell well_settled
     (reads_survive x.service (loses k x.session far) (moment_at x) x.service.time resource offset window chunk bytes side there tuning size within
     (rounds_clean read_rules reads ReadAt reads_wrapped reads_keep_time k x older big far d starts can)
@@ -216,16 +193,16 @@ pub writes_survive_drops : WritesSurviveDrops
 writes_survive_drops k x older big far resource offset bytes starts side small tuning size within =
     let u : Upload = new_upload resource bytes offset in
     let can : CanBegin write_rules (WriteAt (moment_at x)) (moment_at x) u =
-    write_can (moment_at x) resource offset bytes (omega (arith, starts.early)) (record { resource = small; size = size; within = within }) in
+    write_can (moment_at x) resource offset bytes (omega (arith, starts.starts.early)) (record { resource = small; size = size; within = within }) in
     survives write_rules writes WriteAt writes_wrapped writes_keep_time k x older big far u starts can (write_ended u (agreed_offset x.service.shelf resource offset)) Okay HasEndedWell well_settled
-    (writes_survive x.service (loses k x.session far) (moment_at x) x.service.time resource offset bytes side tuning size within starts.past
+    (writes_survive x.service (loses k x.session far) (moment_at x) x.service.time resource offset bytes side tuning size within starts.starts.past
     (rounds_clean write_rules writes WriteAt writes_wrapped writes_keep_time k x older big far u starts can))
     refl
 
 pub refusals_survive_drops : RefusalsSurviveDrops
 refusals_survive_drops k x older big far resource offset window chunk status starts fits side refused =
     let d : Download = new_download resource offset window chunk in
-    let can : CanBegin read_rules (ReadAt (moment_at x)) (moment_at x) d = read_can (moment_at x) resource offset window chunk (omega (arith, starts.early)) fits in
+    let can : CanBegin read_rules (ReadAt (moment_at x)) (moment_at x) d = read_can (moment_at x) resource offset window chunk (omega (arith, starts.starts.early)) fits in
     survives read_rules reads ReadAt reads_wrapped reads_keep_time k x older big far d starts can (read_refused d status) status IsSettled (λ o settled. settled)
     (refusals_survive x.service (loses k x.session far) (moment_at x) x.service.time resource offset window chunk status side refused
     (rounds_clean read_rules reads ReadAt reads_wrapped reads_keep_time k x older big far d starts can))

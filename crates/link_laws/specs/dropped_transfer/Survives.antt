@@ -64,14 +64,18 @@ pub record HasSurvived (k : Setup) (x : Places) (t : Transfer) (status : Status)
   pub said : ℕ
   pub left : LeftDropping k (at_turn x time times server) older (x.lines ++ line_telling t status bytes ∷ []) mid session [] [] said
 
--- what each transfer begins with in a run
-pub record CanSurvive (k : Setup) (x : Places) (older : List Row) (big far : World) (t : Transfer) : Type 0 where
+-- what each transfer begins with in a run, where so many turns of time may pass
+pub record CanEnd (k : Setup) (x : Places) (older : List Row) (big far : World) (t : Transfer) (most : ℕ) : Type 0 where
   pub set : IsSetForDrops k x older
-  pub early : moment_at x + 4 * TIMEOUT < 2 ^ 63
+  pub early : moment_at x + TIMEOUT * (most + 1) < 2 ^ 63
   pub past : x.service.time ≤ moment_at x
   pub begins : BeginsDropping k x older big t
   pub run : RunsOut k big far
   pub drops : DropsChunks k far
+
+-- and it is spared
+pub record CanSurvive (k : Setup) (x : Places) (older : List Row) (big far : World) (t : Transfer) : Type 0 where
+  pub starts : CanEnd k x older big far t LOSSY_ROUNDS
   pub spared : IsSpared k x.session big far
 
 -- EACH READ SURVIVES, of a resource that the service lists, from an offset that isn't past its end
