@@ -1,6 +1,6 @@
 //! What an errand does and says, step by step.
 use bytes::Bytes;
-use live_client::asks::{Errand, TaskErrand, WatchErrand};
+use live_client::asks::{CallErrand, Errand, TaskErrand};
 use rpc_handlers::{Event, Out};
 use rpc_ids::Status;
 use std::alloc::AllocError;
@@ -9,37 +9,37 @@ use std::test::Fail;
 use task_core::bells::Bells;
 use transfer_client::WriteTask;
 
-// Whether the watch took the event.
-fn took(watch: &mut WatchErrand, event: Event) -> Result<bool, AllocError> {
-    if !watch.listens() {
+// Whether the call took the event.
+fn took(call: &mut CallErrand, event: Event) -> Result<bool, AllocError> {
+    if !call.listens() {
         return Ok(false);
     }
-    watch.hear(event)?;
+    call.hear(event)?;
     Ok(true)
 }
 
 fn takes(
     rt: &impl Abort,
-    watch: &mut WatchErrand,
+    call: &mut CallErrand,
     event: Event,
     wanted: bool,
 ) -> Result<(), AllocError> {
-    let is_taken = took(watch, event)?;
+    let is_taken = took(call, event)?;
     assert_eq!(rt; is_taken, wanted);
     Ok(())
 }
 
 // Cancels the call where it is to be cancelled, which answers this.
-fn cut_with(watch: &mut WatchErrand, status: Status) -> bool {
-    if !watch.cuts() {
+fn cut_with(call: &mut CallErrand, status: Status) -> bool {
+    if !call.cuts() {
         return false;
     }
-    watch.cut(status);
+    call.cut(status);
     true
 }
 
-fn is_cut(rt: &impl Abort, watch: &mut WatchErrand, wanted: bool) {
-    let is_cut = cut_with(watch, Status::Cancelled);
+fn is_cut(rt: &impl Abort, call: &mut CallErrand, wanted: bool) {
+    let is_cut = cut_with(call, Status::Cancelled);
     assert_eq!(rt; is_cut, wanted);
 }
 
@@ -47,7 +47,7 @@ fn end_is(rt: &impl Abort, end: Option<Status>, wanted: Option<Status>) {
     assert_eq!(rt; end, wanted);
 }
 
-fn count_is(rt: &impl Abort, count: u32, wanted: u32) {
+fn count_is(rt: &impl Abort, count: usize, wanted: usize) {
     assert_eq!(rt; count, wanted);
 }
 
@@ -56,29 +56,29 @@ fn message() -> Event {
 }
 
 #[test]
-fn a_watch_is_cut_at_its_limit(rt: HostRuntime) -> Result<(), Fail> {
-    let mut watch = WatchErrand::new(2);
-    takes(&rt, &mut watch, message(), true)?;
-    is_cut(&rt, &mut watch, false);
-    takes(&rt, &mut watch, message(), true)?;
-    takes(&rt, &mut watch, message(), false)?;
-    is_cut(&rt, &mut watch, true);
-    end_is(&rt, watch.end(), Some(Status::Cancelled));
-    count_is(&rt, watch.messages, 2);
-    is_cut(&rt, &mut watch, false);
+fn a_call_is_cut_at_its_limit(rt: HostRuntime) -> Result<(), Fail> {
+    let mut call = CallErrand::new(rt.alloc(), 2);
+    takes(&rt, &mut call, message(), true)?;
+    is_cut(&rt, &mut call, false);
+    takes(&rt, &mut call, message(), true)?;
+    takes(&rt, &mut call, message(), false)?;
+    is_cut(&rt, &mut call, true);
+    end_is(&rt, call.end(), Some(Status::Cancelled));
+    count_is(&rt, call.messages.len(), 2);
+    is_cut(&rt, &mut call, false);
     Ok(())
 }
 
 #[test]
-fn a_watch_ends_with_its_call(rt: HostRuntime) -> Result<(), Fail> {
-    let mut watch = WatchErrand::new(2);
-    takes(&rt, &mut watch, message(), true)?;
-    end_is(&rt, watch.end(), None);
-    takes(&rt, &mut watch, Event::Ended(Status::Okay), true)?;
-    end_is(&rt, watch.end(), Some(Status::Okay));
-    takes(&rt, &mut watch, message(), false)?;
-    is_cut(&rt, &mut watch, false);
-    count_is(&rt, watch.messages, 1);
+fn a_call_ends_with_its_call(rt: HostRuntime) -> Result<(), Fail> {
+    let mut call = CallErrand::new(rt.alloc(), 2);
+    takes(&rt, &mut call, message(), true)?;
+    end_is(&rt, call.end(), None);
+    takes(&rt, &mut call, Event::Ended(Status::Okay), true)?;
+    end_is(&rt, call.end(), Some(Status::Okay));
+    takes(&rt, &mut call, message(), false)?;
+    is_cut(&rt, &mut call, false);
+    count_is(&rt, call.messages.len(), 1);
     Ok(())
 }
 

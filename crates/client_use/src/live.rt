@@ -17,6 +17,7 @@ use std::thread::Threads;
 use transfer_base::Ask;
 use transfer_words::{WordRef, text_of};
 
+mod calls;
 mod frames;
 mod silence;
 
@@ -202,7 +203,7 @@ fn offset_is(rt: &impl Abort, offset: u64, wanted: u64) {
     assert_eq!(rt; offset, wanted);
 }
 
-fn count_is(rt: &impl Abort, count: u32, wanted: u32) {
+fn count_is(rt: &impl Abort, count: usize, wanted: usize) {
     assert_eq!(rt; count, wanted);
 }
 
@@ -296,7 +297,7 @@ fn a_stream_is_watched_to_its_end(rt: HostRuntime) -> Result<(), Fail> {
     let did = does(&rt, alloc, input, &mut Still::new(), watch(64))?;
     why_is(&rt, did.why, Why::Settled);
     end_is(&rt, did.ended, Some(Status::Okay));
-    count_is(&rt, did.messages, 2);
+    count_is(&rt, did.messages.len(), 2);
     Ok(())
 }
 
@@ -312,7 +313,7 @@ fn is_cancelled_at<R: Threads + Wait + Sync + Abort>(
     let input = counted(alloc, messages, false)?;
     let did = does(rt, alloc, input, &mut Still::new(), watch(limit))?;
     why_is(rt, did.why, Why::Settled);
-    count_is(rt, did.messages, limit);
+    count_is(rt, did.messages.len(), limit as usize);
     has_ended(rt, did.ended);
     Ok(())
 }
@@ -339,7 +340,7 @@ fn a_fault_of_the_source_ends_the_input(rt: HostRuntime) -> Result<(), Fail> {
     )?;
     why_is(&rt, did.why, Why::Source);
     end_is(&rt, did.ended, Some(Status::Unavailable));
-    count_is(&rt, did.messages, 1);
+    count_is(&rt, did.messages.len(), 1);
     Ok(())
 }
 

@@ -1,6 +1,7 @@
 -- How what was asked went, from what the errand was told.
-use Rattle.std.proofs.Common.{◌≡◌, ℕ, ◌<◌, ◌≤◌, ◌==◌, ◌&&◌, Bool, true, false, List, [], ◌++◌, map, Option, Some, None, is_none, is_some, refl, ap, sym, ◌∙◌, subst, arith, append_assoc, eq-eqb, ne_eqb}
+use Rattle.std.proofs.Common.{◌≡◌, ℕ, ◌<◌, ◌≤◌, ◌==◌, ◌&&◌, Bool, true, false, List, [], ◌++◌, length, map, Option, Some, None, is_none, is_some, refl, ap, sym, ◌∙◌, subst, arith, append_assoc, eq-eqb, ne_eqb}
 use Rattle.std.proofs.lemmas.Bool.{false≢true, true≢false}
+use Rattle.rpc_ids.specs.declared.method.MethodRef.{MethodRef}
 use Rattle.rpc_ids.specs.declared.status.Status.{Status}
 use Rattle.rpc_handlers.specs.declared.answer.Out.{Out}
 use Rattle.rpc_journal.specs.declared.entry.Entry.{Entry}
@@ -14,8 +15,8 @@ use Rattle.task_core.specs.Visit.{Visit}
 use Rattle.live_client.specs.asks.Events.{first_end, messages_in}
 use Rattle.live_client.specs.asks.Tasks.{TaskRan, WantedIf}
 use Rattle.live_client.specs.asks.Telling.{IsAll, Tells, waiting}
-use Rattle.live_client.specs.asks.Watching.{EndsBy, Watched, has_enough}
-use Rattle.live_client.specs.declared.asks.watch.WatchErrand.{WatchErrand}
+use Rattle.live_client.specs.asks.Calling.{Called, EndsBy, has_enough}
+use Rattle.live_client.specs.declared.asks.call.CallErrand.{CallErrand}
 use Rattle.transfer_client.specs.Read.{Download}
 use Rattle.transfer_client.specs.Tasks.{Reads, Writes}
 use Rattle.transfer_client.specs.Write.{Upload}
@@ -34,9 +35,9 @@ wanted_so false true log calm so = whole_before log so
 wanted_so true false log calm so = absurd (true≢false (calm refl))
 wanted_so true true log calm so = so
 
-module _ {T : Type 0} (polls : T → Visit → T → Type 0) (task : T) (tasks : Tasks T) (ear : Heard) (short : Bool) (start end : ℕ) (h : List Entry) (told : HasTold (λ all. Tells polls task tasks ear short all start end) h) where
-  task_ran : (is_halted live_setting h ≡ false → short ≡ false) → (now : T) → ((log : List (Step T)) → StandsFor tasks log → task_of log 0 ≡ Some now) → (ended : Option Status) → ended ≡ told.ended
-      → TaskRan polls task start end (is_halted live_setting h) (events_run live_setting h 0) (told.outs ++ (told.lost ++ waiting tasks)) now ended
+module _ (method : MethodRef) {T : Type 0} (polls : T → Visit → T → Type 0) (task : T) (tasks : Tasks T) (ear : Heard) (short : Bool) (start end : ℕ) (h : List Entry) (told : HasTold method (λ all. Tells polls task tasks ear short all start end) h) where
+  task_ran : (is_halted (live_setting method) h ≡ false → short ≡ false) → (now : T) → ((log : List (Step T)) → StandsFor tasks log → task_of log 0 ≡ Some now) → (ended : Option Status) → ended ≡ told.ended
+      → TaskRan polls task start end (is_halted (live_setting method) h) (events_run (live_setting method) h 0) (told.outs ++ (told.lost ++ waiting tasks)) now ended
   task_ran calm now is_now ended same =
       let so = told.heard.told in
       record {
@@ -44,7 +45,7 @@ module _ {T : Type 0} (polls : T → Visit → T → Type 0) (task : T) (tasks :
         alone = so.alone;
         turns = so.turns;
         between = so.between;
-        whole = wanted_so short (is_halted live_setting h) so.log calm so.whole;
+        whole = wanted_so short (is_halted (live_setting method) h) so.log calm so.whole;
         mail = so.mail;
         said = so.said ∙ append_assoc told.outs told.lost (waiting tasks);
         last = is_now so.log so.stands;
@@ -55,8 +56,8 @@ module _ {T : Type 0} (polls : T → Visit → T → Type 0) (task : T) (tasks :
   none_waits true is none = ap (map (λ (said : ℕ × Out). said.1)) none
   none_waits false is none = absurd (false≢true is)
 
-  pub transfer_ran : (is_halted live_setting h ≡ false → short ≡ false) → (now : T) → ((log : List (Step T)) → StandsFor tasks log → task_of log 0 ≡ Some now) → (ended : Option Status) → ended ≡ told.ended → (Ran : List Out → T → Type 0)
-      → ((outs : List Out) → TaskRan polls task start end (is_halted live_setting h) (events_run live_setting h 0) outs now ended → Ran outs now) → TransferRan Ran h
+  pub transfer_ran : (is_halted (live_setting method) h ≡ false → short ≡ false) → (now : T) → ((log : List (Step T)) → StandsFor tasks log → task_of log 0 ≡ Some now) → (ended : Option Status) → ended ≡ told.ended → (Ran : List Out → T → Type 0)
+      → ((outs : List Out) → TaskRan polls task start end (is_halted (live_setting method) h) (events_run (live_setting method) h 0) outs now ended → Ran outs now) → TransferRan method Ran h
   transfer_ran whole now is_now ended same Ran so = record {
     outs = told.outs;
     unsaid = told.lost ++ waiting tasks;
@@ -67,7 +68,7 @@ module _ {T : Type 0} (polls : T → Visit → T → Type 0) (task : T) (tasks :
     ran = so (told.outs ++ (told.lost ++ waiting tasks)) (task_ran whole now is_now ended same);
   }
 
-  pub transfer_over : (ended : Option Status) → ended ≡ told.ended → is_halted live_setting h ≡ false → is_some ended ≡ true
+  pub transfer_over : (ended : Option Status) → ended ≡ told.ended → is_halted (live_setting method) h ≡ false → is_some ended ≡ true
   transfer_over ended same calm = ap is_some same ∙ told.is_over calm
 
 pub reads_is : (t : Reads) (session : ℕ) (d : Download) → t.session ≡ session → t.download ≡ d → t ≡ record { session = session; download = d }
@@ -76,39 +77,39 @@ reads_is t session d same is = ap (λ s. record { session = s; download = t.down
 pub writes_is : (t : Writes) (session : ℕ) (u : Upload) → t.session ≡ session → t.upload ≡ u → t ≡ record { session = session; upload = u }
 writes_is t session u same is = ap (λ s. record { session = s; upload = t.upload }) same ∙ ap (λ x. record { session = session; upload = x }) is
 
--- ---- a watch
+-- ---- a call
 
-module _ (w : WatchErrand) (limit : ℕ) (same : w.limit ≡ limit) (uncut : has_enough w ≡ false) (h : List Entry) (told : HasTold (λ all. Watched w) h) where
-  pub watch_counted : w.messages ≡ messages_in (events_run live_setting h 0)
-  watch_counted = told.heard.counted
+module _ (method : MethodRef) (w : CallErrand) (limit : ℕ) (same : w.limit ≡ limit) (uncut : has_enough w ≡ false) (h : List Entry) (told : HasTold method (λ all. Called w) h) where
+  pub call_kept : w.messages.items ≡ messages_in (events_run (live_setting method) h 0)
+  call_kept = told.heard.told
 
-  pub watch_within : w.messages ≤ limit
-  watch_within = omega (arith, told.heard.within, same)
+  pub call_within : length w.messages.items ≤ limit
+  call_within = omega (arith, told.heard.within, same)
 
-  below : (o : Option Status) → w.ended ≡ o → (is_some w.ended ≡ true → w.messages < w.limit) → (w.messages == limit) ≡ false
-  below None is some = subst (λ o. (is_none o && (w.messages == w.limit)) ≡ false → (w.messages == limit) ≡ false) (sym is) (λ off. ap (λ n. w.messages == n) (sym same) ∙ off) uncut
-  below (Some status) is some = let less = some (ap is_some is) in ne_eqb w.messages limit (λ equal. absurd (omega (arith, less, same, equal)))
+  below : (o : Option Status) → w.ended ≡ o → (is_some w.ended ≡ true → length w.messages.items < w.limit) → (length w.messages.items == limit) ≡ false
+  below None is some = subst (λ o. (is_none o && (length w.messages.items == w.limit)) ≡ false → (length w.messages.items == limit) ≡ false) (sym is) (λ off. ap (λ n. length w.messages.items == n) (sym same) ∙ off) uncut
+  below (Some status) is some = let less = some (ap is_some is) in ne_eqb (length w.messages.items) limit (λ equal. absurd (omega (arith, less, same, equal)))
 
-  cut_is : (cut : Option Status) → IsCutSo h cut → EndsBy w cut (events_run live_setting h 0) → cancels h ≡ (w.messages == limit)
+  cut_is : (cut : Option Status) → IsCutSo method h cut → EndsBy w cut (events_run (live_setting method) h 0) → cancels h ≡ (length w.messages.items == limit)
   cut_is None off ends = off ∙ sym (below w.ended refl ends.1)
-  cut_is (Some status) on ends = on.0 ∙ sym (eq-eqb w.messages limit (ends.0 ∙ same))
+  cut_is (Some status) on ends = on.0 ∙ sym (eq-eqb (length w.messages.items) limit (ends.0 ∙ same))
 
-  pub watch_cut : cancels h ≡ (w.messages == limit)
-  watch_cut = cut_is told.cut told.is_cut told.heard.ends
+  pub call_cut : cancels h ≡ (length w.messages.items == limit)
+  call_cut = cut_is told.cut told.is_cut told.heard.ends
 
-  answered_is : (cut : Option Status) → IsCutSo h cut → EndsBy w cut (events_run live_setting h 0) → cancels h ≡ true → end_of (history live_setting h) 0 ≡ w.ended
+  answered_is : (cut : Option Status) → IsCutSo method h cut → EndsBy w cut (events_run (live_setting method) h 0) → cancels h ≡ true → end_of (history (live_setting method) h) 0 ≡ w.ended
   answered_is None off ends on = absurd (false≢true (sym off ∙ on))
   answered_is (Some status) cut ends on = cut.1 ∙ sym ends.1
 
-  pub watch_answered : cancels h ≡ true → end_of (history live_setting h) 0 ≡ w.ended
-  watch_answered = answered_is told.cut told.is_cut told.heard.ends
+  pub call_answered : cancels h ≡ true → end_of (history (live_setting method) h) 0 ≡ w.ended
+  call_answered = answered_is told.cut told.is_cut told.heard.ends
 
-  told_is : (cut : Option Status) → IsCutSo h cut → EndsBy w cut (events_run live_setting h 0) → cancels h ≡ false → w.ended ≡ first_end (events_run live_setting h 0)
+  told_is : (cut : Option Status) → IsCutSo method h cut → EndsBy w cut (events_run (live_setting method) h 0) → cancels h ≡ false → w.ended ≡ first_end (events_run (live_setting method) h 0)
   told_is None cut ends off = ends.0
   told_is (Some status) cut ends off = absurd (true≢false (sym cut.0 ∙ off))
 
-  pub watch_told : cancels h ≡ false → w.ended ≡ first_end (events_run live_setting h 0)
-  watch_told = told_is told.cut told.is_cut told.heard.ends
+  pub call_told : cancels h ≡ false → w.ended ≡ first_end (events_run (live_setting method) h 0)
+  call_told = told_is told.cut told.is_cut told.heard.ends
 
-  pub watch_over : is_halted live_setting h ≡ false → is_some w.ended ≡ true
-  watch_over calm = ap is_some told.heard.ended_is ∙ told.is_over calm
+  pub call_over : is_halted (live_setting method) h ≡ false → is_some w.ended ≡ true
+  call_over calm = ap is_some told.heard.ended_is ∙ told.is_over calm

@@ -17,8 +17,8 @@ use Rattle.transfer_words.specs.Saying.{Saying, says, begins, appends, commits, 
 use Rattle.transfer_client.specs.Read.{new_download, read_offset}
 use Rattle.rpc_shared.specs.session.Sessions.{is_halted}
 use Rattle.live_client.specs.declared.ask.Live.{Live}
-use Rattle.live_client.specs.declared.ask.LiveAsk.TheVariants.{Get, Put, Watch}
-use Rattle.live_client.specs.Ask.{live_setting}
+use Rattle.live_client.specs.declared.ask.LiveAsk.TheVariants.{Get, Put, Watch, Call}
+use Rattle.live_client.specs.Ask.{live_setting, method_asked, read_method, write_method}
 use Rattle.live_client.specs.Fetched.{DeadlinesTakeTime, FetchedWell, FetchesAreWhole, IsFetched, deeds_of, run_of}
 use Rattle.live_client.specs.Histories.{AreActed, AreOfLive, AreSaid, is_cancel, is_entry_of, is_spoken, says_of}
 use Rattle.live_client.specs.asks.Ends.{IsTold, TellsEnd}
@@ -31,10 +31,11 @@ use Rattle.live_client.proofs.asks.FetchLemmas.{deeds}
 
 pub deadlines_take_time : DeadlinesTakeTime
 deadlines_take_time (Get resource offset) start end l other asked is =
-    read_deadline start end (run_of l) (asked.outs ++ asked.unsaid) (is_halted live_setting l.journal.entries) resource offset 4 256 asked.now l.ended asked.ran.0 is
+    read_deadline start end (run_of read_method l) (asked.outs ++ asked.unsaid) (is_halted (live_setting read_method) l.journal.entries) resource offset 4 256 asked.now l.ended asked.ran.0 is
 deadlines_take_time (Put resource offset bytes) start end l other asked is =
-    write_deadline start end (run_of l) (asked.outs ++ asked.unsaid) (is_halted live_setting l.journal.entries) resource bytes offset asked.now l.ended asked.ran.0 is
+    write_deadline start end (run_of write_method l) (asked.outs ++ asked.unsaid) (is_halted (live_setting write_method) l.journal.entries) resource bytes offset asked.now l.ended asked.ran.0 is
 deadlines_take_time (Watch n limit) start end l other asked is = absurd (true≢false other)
+deadlines_take_time (Call opening limit) start end l other asked is = absurd (true≢false other)
 
 -- ---- no call of a transfer is cancelled
 
@@ -94,9 +95,9 @@ module _ (resource offset start end : ℕ) (l : Live) (well : FetchedWell resour
   abbrev h : List Entry
   h = l.journal.entries
 
-  pub calls_on : is_cancelled (history live_setting h) 0 ≡ false
+  pub calls_on : is_cancelled (history (live_setting read_method) h) 0 ≡ false
   calls_on =
-      uncancelled (reverse h) 0
+      uncancelled read_method (reverse h) 0
       (all-reverse (λ (e : Entry). is_cancel e.kind ≡ false) h
       (subst (AllByRecursion (λ e. is_cancel e.kind ≡ false)) (sym well.history.begins) (refl, none_cancel well.history.rest well.history.kinds)))
 
@@ -106,19 +107,19 @@ module _ (resource offset start end : ℕ) (l : Live) (well : FetchedWell resour
   abbrev asked : Reads
   asked = record { session = 1; download = new_download resource offset 4 256 }
 
-  ran_whole : TaskRan PollsRead asked start end false (run_of l) well.ran.outs well.ran.now l.ended
+  ran_whole : TaskRan PollsRead asked start end false (run_of read_method l) well.ran.outs well.ran.now l.ended
   ran_whole =
-      subst (λ outs. TaskRan PollsRead asked start end false (run_of l) outs well.ran.now l.ended) outs_whole
-      (subst (λ b. TaskRan PollsRead asked start end b (run_of l) (well.ran.outs ++ well.ran.unsaid) well.ran.now l.ended) well.calm well.ran.ran.0)
+      subst (λ outs. TaskRan PollsRead asked start end false (run_of read_method l) outs well.ran.now l.ended) outs_whole
+      (subst (λ b. TaskRan PollsRead asked start end b (run_of read_method l) (well.ran.outs ++ well.ran.unsaid) well.ran.now l.ended) well.calm well.ran.ran.0)
 
-  fetched : HasMade start end (run_of l) well.ran.outs false resource (read_offset well.ran.now.download) → IsFetched resource l.from (run_of l) (says_of h)
+  fetched : HasMade start end (run_of read_method l) well.ran.outs false resource (read_offset well.ran.now.download) → IsFetched resource l.from (run_of read_method l) (says_of h)
   fetched made =
       let from : read_offset well.ran.now.download ≡ l.from = sym well.ran.ran.1 in
-      subst (λ n. IsFetched resource n (run_of l) (says_of h)) from
+      subst (λ n. IsFetched resource n (run_of read_method l) (says_of h)) from
       (record {
         added = made.whole.added;
         deeds =
-            said_deeds live_setting 0 h calls_on well.ran.outs (says_of h) well.ran.said
+            said_deeds (live_setting read_method) 0 h calls_on well.ran.outs (says_of h) well.ran.said
             ∙ (ap deeds_of made.outs_are
             ∙ (deeds-outs made.said
             ∙ (ap (map (out_of 1)) made.whole.deeds_are
@@ -126,13 +127,13 @@ module _ (resource offset start end : ℕ) (l : Live) (well : FetchedWell resour
         joins = made.whole.joins;
       })
 
-  whole_or_told : HasMade start end (run_of l) well.ran.outs false resource (read_offset well.ran.now.download) ⊎ IsTold (TellsEnd 1 Okay) (run_of l)
-      → IsFetched resource l.from (run_of l) (says_of h) ⊎ IsTold (TellsEnd 1 Okay) (run_of l)
+  whole_or_told : HasMade start end (run_of read_method l) well.ran.outs false resource (read_offset well.ran.now.download) ⊎ IsTold (TellsEnd 1 Okay) (run_of read_method l)
+      → IsFetched resource l.from (run_of read_method l) (says_of h) ⊎ IsTold (TellsEnd 1 Okay) (run_of read_method l)
   whole_or_told (inl made) = inl (fetched made)
   whole_or_told (inr told) = inr told
 
-  pub fetch_whole : IsFetched resource l.from (run_of l) (says_of h) ⊎ IsTold (TellsEnd 1 Okay) (run_of l)
-  fetch_whole = whole_or_told (read_okay start end (run_of l) well.ran.outs false resource offset 4 256 well.ran.now l.ended ran_whole well.okay)
+  pub fetch_whole : IsFetched resource l.from (run_of read_method l) (says_of h) ⊎ IsTold (TellsEnd 1 Okay) (run_of read_method l)
+  fetch_whole = whole_or_told (read_okay start end (run_of read_method l) well.ran.outs false resource offset 4 256 well.ran.now l.ended ran_whole well.okay)
 
 pub fetches_are_whole : FetchesAreWhole
 fetches_are_whole = fetch_whole

@@ -10,6 +10,7 @@ use Rattle.link_io.specs.declared.reading.Ending.TheVariants.{Failed}
 use Rattle.turn_cell.specs.Passes.{AllFit, AreAll, IsIdle, IsNew, IsSame}
 use Rattle.turn_cell.proofs.Passes.{all_back}
 use Rattle.link_io.specs.Stored.{Stored}
+use Rattle.rpc_ids.specs.declared.method.MethodRef.{MethodRef}
 use Rattle.rpc_packet.specs.declared.call_name.CallName.{CallName}
 use Rattle.rpc_handlers.specs.HandlerRule.{empty_memo}
 use Rattle.rpc_journal.specs.declared.entry.EntryKind.{EntryKind}
@@ -102,62 +103,64 @@ both_idle r p0 p1 q0 q1 all same0 idle0 same1 idle1 = all_back r (p0 ∷ p1 ∷ 
     each (suc zero) x at = (q1, refl, subst (λ z. IsSame z q1) (some-injective p1 x at) same1, idle1)
     each (suc (suc k)) x at = absurd (cc at)
 
--- what a run of a live client did, once both passes are back
-pub run_ends : (r : Lock) → r.base ≡ live_setting → (watches : Bool) (service method : ℕ) (payload : List ℕ) (c : ℕ) (p q0 q1 : Seat) → Opens r (live_name service method) payload c p
-    → (did now : Bool → ℕ → ℕ → Did) (cuts : Bool) (start upto : ℕ) (left left' w w' : Option (List ℕ)) (d d' : Option Stored) (f f' g g' : ℕ) (ending : Option Ending) (read : ℕ) (listener : Listening) → did true start start None [] [] None
-    → Reader is_readers r q0 → HasRead r.base left left' ending read listener q0 → {A E : Type 0} (result : Result A E) → Drove watches did now cuts r c (is_ok result) start upto w w' d d' f f' g g' p q1
-    → OnOk result (is_settled (history r.base q1.view.known.seen) ≡ true) → OnErr result (is_halted r.base q1.view.known.seen ≡ true)
-    → (t : Table) → AllFit log_of seat_of base_of (q0 ∷ q1 ∷ []) t → t.setting ≡ r.base → IsLegal silent_rule t.setting t.entries
-    → Ends watches (opens service method payload) (λ all. now all start upto) left left' w w' d d' f f' g g' ending read t.entries
-run_ends r base watches service method payload c p q0 q1 opened did now cuts start upto left left' w w' d d' f f' g g' ending read listener fresh reader has_read result drove settled halted t fits setting legal =
-    ends_of r base watches (request (live_name service method) payload) empty_memo (λ all. now all start upto) c left left' w w' d d' f f' g g' ending read listener q0 q1 t
-    (record {
-      reader = reader;
-      has_read = has_read;
-      ended = driver_ended watches r (live_name service method) payload c p opened did now cuts start upto w w' d d' f f' g g' q1 fresh result drove settled halted;
-      fits = fits;
-      legal = subst (λ set. IsLegal silent_rule set t.entries) setting legal;
-    })
+-- a table that knows this method alone
+module _ (method : MethodRef) where
+  -- what a run of a live client did, once both passes are back
+  pub run_ends : (r : Lock) → r.base ≡ (live_setting method) → (watches : Bool) (payload : List ℕ) (c : ℕ) (p q0 q1 : Seat) → Opens r (live_name method) payload c p
+      → (did now : Bool → ℕ → ℕ → Did) (cuts : Bool) (start upto : ℕ) (left left' w w' : Option (List ℕ)) (d d' : Option Stored) (f f' g g' : ℕ) (ending : Option Ending) (read : ℕ) (listener : Listening) → did true start start None [] [] None
+      → Reader is_readers r q0 → HasRead r.base left left' ending read listener q0 → {A E : Type 0} (result : Result A E) → Drove watches did now cuts r c (is_ok result) start upto w w' d d' f f' g g' p q1
+      → OnOk result (is_settled (history r.base q1.view.known.seen) ≡ true) → OnErr result (is_halted r.base q1.view.known.seen ≡ true)
+      → (t : Table) → AllFit log_of seat_of base_of (q0 ∷ q1 ∷ []) t → t.setting ≡ r.base → IsLegal silent_rule t.setting t.entries
+      → (Ends method) watches (opens method payload) (λ all. now all start upto) left left' w w' d d' f f' g g' ending read t.entries
+  run_ends r base watches payload c p q0 q1 opened did now cuts start upto left left' w w' d d' f f' g g' ending read listener fresh reader has_read result drove settled halted t fits setting legal =
+      (ends_of method) r base watches (request (live_name method) payload) empty_memo (λ all. now all start upto) c left left' w w' d d' f f' g g' ending read listener q0 q1 t
+      (record {
+        reader = reader;
+        has_read = has_read;
+        ended = driver_ended watches r (live_name method) payload c p opened did now cuts start upto w w' d d' f f' g g' q1 fresh result drove settled halted;
+        fits = fits;
+        legal = subst (λ set. IsLegal silent_rule set t.entries) setting legal;
+      })
 
--- what holds of a driver that ended well holds of a run that no halt ended
-pub run_well : (r : Lock) → r.base ≡ live_setting → (watches : Bool) (service method : ℕ) (payload : List ℕ) (c : ℕ) (p q0 q1 : Seat) → Opens r (live_name service method) payload c p
-    → (did now : Bool → ℕ → ℕ → Did) (cuts : Bool) (start upto : ℕ) (left left' w w' : Option (List ℕ)) (d d' : Option Stored) (f f' g g' : ℕ) (ending : Option Ending) (read : ℕ) (listener : Listening) → did true start start None [] [] None
-    → Reader is_readers r q0 → HasRead r.base left left' ending read listener q0 → {A E X : Type 0} (result : Result A E) → Drove watches did now cuts r c (is_ok result) start upto w w' d d' f f' g g' p q1
-    → OnOk result X → OnOk result (is_settled (history r.base q1.view.known.seen) ≡ true) → OnErr result (is_halted r.base q1.view.known.seen ≡ true)
-    → (t : Table) → AllFit log_of seat_of base_of (q0 ∷ q1 ∷ []) t → t.setting ≡ r.base → IsLegal silent_rule t.setting t.entries
-    → is_halted live_setting t.entries ≡ false → X
-run_well r base watches service method payload c p q0 q1 opened did now cuts start upto left left' w w' d d' f f' g g' ending read listener fresh reader has_read {A} {E} {X} (Ok a) drove well settled halted t fits setting legal calm = well
-run_well r base watches service method payload c p q0 q1 opened did now cuts start upto left left' w w' d d' f f' g g' ending read listener fresh reader has_read {A} {E} {X} (Err e) drove well settled halted t fits setting legal calm =
-    absurd (true≢false (sym
-    (stops_of r base watches (request (live_name service method) payload) empty_memo (λ all. now all start upto) c left left' w w' d d' f f' g g' ending read listener q0 q1 t
-    (record {
-      reader = reader;
-      has_read = has_read;
-      ended = driver_ended watches r (live_name service method) payload c p opened did now cuts start upto w w' d d' f f' g g' q1 fresh {A = A} {E = E} (Err e) drove settled halted;
-      fits = fits;
-      legal = subst (λ set. IsLegal silent_rule set t.entries) setting legal;
-    }) halted) ∙ calm))
+  -- what holds of a driver that ended well holds of a run that no halt ended
+  pub run_well : (r : Lock) → r.base ≡ (live_setting method) → (watches : Bool) (payload : List ℕ) (c : ℕ) (p q0 q1 : Seat) → Opens r (live_name method) payload c p
+      → (did now : Bool → ℕ → ℕ → Did) (cuts : Bool) (start upto : ℕ) (left left' w w' : Option (List ℕ)) (d d' : Option Stored) (f f' g g' : ℕ) (ending : Option Ending) (read : ℕ) (listener : Listening) → did true start start None [] [] None
+      → Reader is_readers r q0 → HasRead r.base left left' ending read listener q0 → {A E X : Type 0} (result : Result A E) → Drove watches did now cuts r c (is_ok result) start upto w w' d d' f f' g g' p q1
+      → OnOk result X → OnOk result (is_settled (history r.base q1.view.known.seen) ≡ true) → OnErr result (is_halted r.base q1.view.known.seen ≡ true)
+      → (t : Table) → AllFit log_of seat_of base_of (q0 ∷ q1 ∷ []) t → t.setting ≡ r.base → IsLegal silent_rule t.setting t.entries
+      → is_halted (live_setting method) t.entries ≡ false → X
+  run_well r base watches payload c p q0 q1 opened did now cuts start upto left left' w w' d d' f f' g g' ending read listener fresh reader has_read {A} {E} {X} (Ok a) drove well settled halted t fits setting legal calm = well
+  run_well r base watches payload c p q0 q1 opened did now cuts start upto left left' w w' d d' f f' g g' ending read listener fresh reader has_read {A} {E} {X} (Err e) drove well settled halted t fits setting legal calm =
+      absurd (true≢false (sym
+      ((stops_of method) r base watches (request (live_name method) payload) empty_memo (λ all. now all start upto) c left left' w w' d d' f f' g g' ending read listener q0 q1 t
+      (record {
+        reader = reader;
+        has_read = has_read;
+        ended = driver_ended watches r (live_name method) payload c p opened did now cuts start upto w w' d d' f f' g g' q1 fresh {A = A} {E = E} (Err e) drove settled halted;
+        fits = fits;
+        legal = subst (λ set. IsLegal silent_rule set t.entries) setting legal;
+      }) halted) ∙ calm))
 
--- with why it ended
-pub has_run : (watches : Bool) (first : EntryKind) (did : Bool → Did) (left left' w w' : Option (List ℕ)) (d d' : Option Stored) (i i' f f' g g' : ℕ) (ending : Option Ending) (read : ℕ) (h : List Entry) (why : Why)
-    → Ends watches first did left left' w w' d d' f f' g g' ending read h → why ≡ reason_of (halt_reason (history live_setting h)) ending → (ending ≡ Some Failed → Rose i i')
-    → HasRun watches first left left' w w' d d' i i' f f' g g' why read h
-has_run watches first did left left' w w' d d' i i' f f' g g' ending read h why ends is fault = record {
-  history = ends.historic why is;
-  begins = ends.begins;
-  explains = ends.explains;
-  at_end = ends.at_end why is;
-  at_limit = ends.at_limit why is;
-  below = ends.below why is;
-  full = ends.full why is;
-  source = λ same. fault (ends.failed why is same);
-  sink = ends.sink why is;
-  store = ends.store why is;
-}
+  -- with why it ended
+  pub has_run : (watches : Bool) (first : EntryKind) (did : Bool → Did) (left left' w w' : Option (List ℕ)) (d d' : Option Stored) (i i' f f' g g' : ℕ) (ending : Option Ending) (read : ℕ) (h : List Entry) (why : Why)
+      → (Ends method) watches first did left left' w w' d d' f f' g g' ending read h → why ≡ reason_of (halt_reason (history (live_setting method) h)) ending → (ending ≡ Some Failed → Rose i i')
+      → HasRun method watches first left left' w w' d d' i i' f f' g g' why read h
+  has_run watches first did left left' w w' d d' i i' f f' g g' ending read h why ends is fault = record {
+    history = ends.historic why is;
+    begins = ends.begins;
+    explains = ends.explains;
+    at_end = ends.at_end why is;
+    at_limit = ends.at_limit why is;
+    below = ends.below why is;
+    full = ends.full why is;
+    source = λ same. fault (ends.failed why is same);
+    sink = ends.sink why is;
+    store = ends.store why is;
+  }
 
-pub why_halted : (setting : Setting) (h : List Entry) (halted : Option Why) → setting ≡ live_setting → halted ≡ halt_reason (history setting h) → halted ≡ halt_reason (history live_setting h)
-why_halted setting h halted set is = is ∙ ap (λ s. halt_reason (history s h)) set
+  pub why_halted : (setting : Setting) (h : List Entry) (halted : Option Why) → setting ≡ (live_setting method) → halted ≡ halt_reason (history setting h) → halted ≡ halt_reason (history (live_setting method) h)
+  why_halted setting h halted set is = is ∙ ap (λ s. halt_reason (history s h)) set
 
-pub why_told : (setting : Setting) (h : List Entry) (halted : Option Why) (ending : Option Ending) (why : Why) → setting ≡ live_setting → halted ≡ halt_reason (history setting h) → why ≡ reason_of halted ending
-    → why ≡ reason_of (halt_reason (history live_setting h)) ending
-why_told setting h halted ending why set is same = same ∙ ap (λ o. reason_of o ending) (why_halted setting h halted set is)
+  pub why_told : (setting : Setting) (h : List Entry) (halted : Option Why) (ending : Option Ending) (why : Why) → setting ≡ (live_setting method) → halted ≡ halt_reason (history setting h) → why ≡ reason_of halted ending
+      → why ≡ reason_of (halt_reason (history (live_setting method) h)) ending
+  why_told setting h halted ending why set is same = same ∙ ap (λ o. reason_of o ending) (why_halted setting h halted set is)

@@ -1,6 +1,6 @@
 -- What a fetch leaves in its store.
 use Rattle.std.proofs.Common.{◌≡◌, ◌⊎◌, ◌&&◌, ◌==◌, ◌<◌, ◌≤◌, ℕ, nat_le, Bool, true, false, List, [], ◌∷◌, ◌++◌, map, fold, length, slice_get, take, drop, Option, Some, None, cond, unwrap_or, refl, ap, sym, ◌∙◌, subst, inl, inr, arith, reverse, append_assoc}
-use Rattle.std.proofs.lemmas.Bool.{false≢true, leb-false}
+use Rattle.std.proofs.lemmas.Bool.{false≢true, true≢false, leb-false}
 use Rattle.std.proofs.lemmas.List.{append-nil, reverse-append, reverse-reverse}
 use Rattle.std.proofs.lemmas.List.Sums.{fold-append}
 use Rattle.std.specs.List.{AllByRecursion, concat}
@@ -38,12 +38,11 @@ use Rattle.rpc_journal.proofs.Allowed.{allowed}
 use Rattle.rpc_journal.proofs.Push.{all-reverse}
 use Rattle.rpc_schedule.specs.Kept.{change_by, key, kept}
 use Rattle.transfer_receiver.proofs.RunLaws.{joined_parts_are_the_resource}
-use Rattle.demo_services.specs.declared.ids.TheConstants.{READ, TRANSFER}
 use Rattle.live_client.specs.declared.ask.LiveAsk.TheVariants.{Get}
-use Rattle.live_client.specs.Ask.{live_name, live_setting, opening_of}
+use Rattle.live_client.specs.Ask.{live_name, live_setting, opening_of, read_method}
 use Rattle.live_client.specs.Fetched.{FetchesAreStored, HasStored, IsFetched, deeds_of, run_of, work_on}
 use Rattle.live_client.specs.Histories.{is_cancel, is_entry_of, said_by, says_of}
-use Rattle.live_client.specs.Live.{AreReplies}
+use Rattle.live_client.specs.Live.{AreReplies, IsReply}
 use Rattle.live_client.specs.Silent.{is_silent}
 use Rattle.live_client.specs.asks.Ends.{IsTold, TellsEnd, pieces_in}
 use Rattle.live_client.proofs.ClientEntries.{Uncut, is_late, late_quiet, one_call, uncancelled}
@@ -59,13 +58,17 @@ after_outs outs s = fold (λ st out. change_by 0 out st) s outs
 kept-append : (xs ys : List Item) (s : Stored) → kept (xs ++ ys) s ≡ kept ys (kept xs s)
 kept-append xs ys s = fold-append _ s xs ys
 
-replies_kept : (items : List Item) (s : Stored) → AreReplies items → kept items s ≡ s
+replies_kept : (items : List Item) (s : Stored) → AreReplies read_method items → kept items s ≡ s
 replies_kept [] s all = refl
-replies_kept (item ∷ items) s all = rw all.0 (replies_kept items s all.1)
+replies_kept (item ∷ items) s all = at all.0 (replies_kept items s all.1)
+  where
+    at : IsReply read_method item → kept items s ≡ s → kept (item ∷ items) s ≡ s
+    at (inl none) rest = rw none rest
+    at (inr refuses) rest = absurd (true≢false refuses.0)
 
 invoke_kept : (ds : List Deed) (p : Packet) (m : Memo) (o : Option MethodRef) (s : Stored) → kept (invoke_effect ds p m o).says s ≡ s
 invoke_kept ds p m None s = refl
-invoke_kept ds p m (Some method) s = refl
+invoke_kept ds p m (Some called) s = refl
 
 out_kept : (o : Opening) (out : Out) (s : Stored) → kept (out_item Client 0 o.name out ∷ []) s ≡ after_outs (out ∷ []) s
 out_kept o (Message payload) s = refl
@@ -103,15 +106,15 @@ module _ (packet : Packet) (memo : Memo) where
   first = entry_by 1 (Invoke packet memo)
 
   -- one entry more, of those that stand the newest first
-  entry_kept : (es : List Entry) (e : Entry) (s : Stored) → AllByRecursion (λ e. is_entry_of false e.seat e.kind ≡ true) es → Uncut (es ++ first ∷ []) → AllowedAll live_setting (e ∷ (es ++ first ∷ []))
-      → is_entry_of false e.seat e.kind ≡ true → kept (effect_of live_setting (deeds_from live_setting (es ++ first ∷ [])) e.kind).says s ≡ after_outs (said_by e.kind) s
-  entry_kept es e s kinds uncut all is = at e.kind (allowed live_setting ds e all.1).known is
+  entry_kept : (es : List Entry) (e : Entry) (s : Stored) → AllByRecursion (λ e. is_entry_of false e.seat e.kind ≡ true) es → Uncut (es ++ first ∷ []) → AllowedAll (live_setting read_method) (e ∷ (es ++ first ∷ []))
+      → is_entry_of false e.seat e.kind ≡ true → kept (effect_of (live_setting read_method) (deeds_from (live_setting read_method) (es ++ first ∷ [])) e.kind).says s ≡ after_outs (said_by e.kind) s
+  entry_kept es e s kinds uncut all is = at e.kind (allowed (live_setting read_method) ds e all.1).known is
     where
       ds : List Deed
-      ds = deeds_from live_setting (es ++ first ∷ [])
+      ds = deeds_from (live_setting read_method) (es ++ first ∷ [])
 
       few : call_count ds ≤ 1
-      few = one_call false first es kinds
+      few = one_call read_method false first es kinds
 
       -- a Say is of the one call, which is there
       said : (c : ℕ) (out : Out) → nat_le (call_count ds) c ≡ false → kept (with_call (call_at ds c) (λ o. says_item (out_item Client c o.name out))).says s ≡ after_outs (out ∷ []) s
@@ -125,11 +128,11 @@ module _ (packet : Packet) (memo : Memo) where
           by None none below = absurd (there_is (calls ds) below none)
           by (Some o) found below = rw found (out_kept o out s)
 
-      quiet : (kind : EntryKind) → is_entry_of false e.seat kind ≡ true → said_by kind ≡ [] → kept (effect_of live_setting ds kind).says s ≡ after_outs (said_by kind) s
-      quiet kind is none = replies_kept (effect_of live_setting ds kind).says s (late_quiet ds kind (other_late e.seat kind is none) (inr (λ c. uncancelled (es ++ first ∷ []) c uncut))) ∙ ap (λ outs. after_outs outs s) (sym none)
+      quiet : (kind : EntryKind) → is_entry_of false e.seat kind ≡ true → said_by kind ≡ [] → kept (effect_of (live_setting read_method) ds kind).says s ≡ after_outs (said_by kind) s
+      quiet kind is none = replies_kept (effect_of (live_setting read_method) ds kind).says s (late_quiet read_method ds kind (other_late e.seat kind is none) (inr (λ c. uncancelled read_method (es ++ first ∷ []) c uncut))) ∙ ap (λ outs. after_outs outs s) (sym none)
 
       at : (kind : EntryKind) → is_unknown (call_count ds) (call_named kind) ≡ false → is_entry_of false e.seat kind ≡ true
-          → kept (effect_of live_setting ds kind).says s ≡ after_outs (said_by kind) s
+          → kept (effect_of (live_setting read_method) ds kind).says s ≡ after_outs (said_by kind) s
       at (Say c out) known is = said c out known
       at (Arrive p) known is = quiet (Arrive p) is refl
       at EndIn known is = quiet EndIn is refl
@@ -143,13 +146,13 @@ module _ (packet : Packet) (memo : Memo) where
   says-reverse : (e : Entry) (es : List Entry) → says_of (reverse (e ∷ es)) ≡ says_of (reverse es) ++ said_by e.kind
   says-reverse e es = ap says_of (reverse-append (e ∷ []) es) ∙ says-push (reverse es) e
 
-  all_kept : (es : List Entry) (s : Stored) → AllByRecursion (λ e. is_entry_of false e.seat e.kind ≡ true) es → Uncut (es ++ first ∷ []) → AllowedAll live_setting (es ++ first ∷ [])
-      → kept (items_sent (deeds_from live_setting (es ++ first ∷ []))) s ≡ after_outs (says_of (reverse es)) s
-  all_kept [] s kinds uncut all = invoke_kept [] packet memo (method_named live_setting packet.name) s
+  all_kept : (es : List Entry) (s : Stored) → AllByRecursion (λ e. is_entry_of false e.seat e.kind ≡ true) es → Uncut (es ++ first ∷ []) → AllowedAll (live_setting read_method) (es ++ first ∷ [])
+      → kept (items_sent (deeds_from (live_setting read_method) (es ++ first ∷ []))) s ≡ after_outs (says_of (reverse es)) s
+  all_kept [] s kinds uncut all = invoke_kept [] packet memo (method_named (live_setting read_method) packet.name) s
   all_kept (e ∷ es) s kinds uncut all =
-      let ds = deeds_from live_setting (es ++ first ∷ []) in
-      kept-append (items_sent ds) (effect_of live_setting ds e.kind).says s
-      ∙ (ap (kept (effect_of live_setting ds e.kind).says) (all_kept es s kinds.1 uncut.1 all.0)
+      let ds = deeds_from (live_setting read_method) (es ++ first ∷ []) in
+      kept-append (items_sent ds) (effect_of (live_setting read_method) ds e.kind).says s
+      ∙ (ap (kept (effect_of (live_setting read_method) ds e.kind).says) (all_kept es s kinds.1 uncut.1 all.0)
       ∙ (entry_kept es e (after_outs (says_of (reverse es)) s) kinds.1 uncut.1 all kinds.0
       ∙ (sym (fold-append _ s (says_of (reverse es)) (said_by e.kind)) ∙ ap (λ outs. after_outs outs s) (sym (says-reverse e es)))))
 
@@ -215,9 +218,9 @@ fetches_are_stored resource offset start end l well content honest before held h
     h : List Entry
     h = l.journal.entries
 
-    at : IsFetched resource l.from (run_of l) (says_of h) ⊎ IsTold (TellsEnd 1 Okay) (run_of l) → (after : Stored) × (held ≡ Some after) × HasStored resource l.from (drop l.from content) before after
+    at : IsFetched resource l.from (run_of read_method l) (says_of h) ⊎ IsTold (TellsEnd 1 Okay) (run_of read_method l) → (after : Stored) × (held ≡ Some after) × HasStored resource l.from (drop l.from content) before after
     at (inr told) = absurd (honest.no_okay told)
-    at (inl f) = (kept (items_sent (history live_setting h)) before, holds, stored)
+    at (inl f) = (kept (items_sent (history (live_setting read_method) h)) before, holds, stored)
       where
         rest : List Entry
         rest = well.history.rest
@@ -237,16 +240,16 @@ fetches_are_stored resource offset start end l well content honest before held h
         says_are : says_of (reverse (reverse rest)) ≡ says_of h
         says_are = ap says_of (reverse-reverse rest) ∙ sym (ap says_of well.history.begins)
 
-        items_are : kept (items_sent (history live_setting h)) before ≡ after_outs (says_of h) before
+        items_are : kept (items_sent (history (live_setting read_method) h)) before ≡ after_outs (says_of h) before
         items_are =
-            ap (λ es. kept (items_sent (deeds_from live_setting es)) before) back
-            ∙ (all_kept (request (live_name TRANSFER READ) []) empty_memo (reverse rest) before kinds uncut (subst (AllowedAll live_setting) back well.history.legal.lawful.allowed)
+            ap (λ es. kept (items_sent (deeds_from (live_setting read_method) es)) before) back
+            ∙ (all_kept (request (live_name read_method) []) empty_memo (reverse rest) before kinds uncut (subst (AllowedAll (live_setting read_method)) back well.history.legal.lawful.allowed)
             ∙ ap (λ outs. after_outs outs before) says_are)
 
         bytes_are : concat f.added ≡ drop l.from content
-        bytes_are = joined_parts_are_the_resource content (pieces_in 1 (run_of l)) l.from (concat f.added) f.joins honest.pieces
+        bytes_are = joined_parts_are_the_resource content (pieces_in 1 (run_of read_method l)) l.from (concat f.added) f.joins honest.pieces
 
-        stored : HasStored resource l.from (drop l.from content) before (kept (items_sent (history live_setting h)) before)
+        stored : HasStored resource l.from (drop l.from content) before (kept (items_sent (history (live_setting read_method) h)) before)
         stored =
             ap (λ (s : Stored). found resource s.full) (items_are ∙ (deeds_kept (says_of h) before ∙ ap (λ outs. after_outs outs before) f.deeds))
             ∙ (work_kept resource l.from f.added before ∙ ap (λ bytes. Some (take l.from (unwrap_or (found resource before.left) []) ++ bytes)) bytes_are)

@@ -1,6 +1,6 @@
+pub mod CallLemmas
 pub mod DeadlineLemmas
 pub mod EndLemmas
 pub mod FetchLemmas
 pub mod TellLemmas
 pub mod WalkLemmas
-pub mod WatchLemmas

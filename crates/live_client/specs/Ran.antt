@@ -5,6 +5,7 @@ use Rattle.link_io.specs.Causes.{Rose}
 use Rattle.link_io.specs.Stored.{Stored}
 use Rattle.link_io.specs.declared.why.Why.{Why}
 use Rattle.link_io.specs.declared.why.Why.TheVariants.{Settled, Source, Sink, Store, InputLimit, JournalLimit}
+use Rattle.rpc_ids.specs.declared.method.MethodRef.{MethodRef}
 use Rattle.rpc_journal.specs.declared.entry.Entry.{Entry}
 use Rattle.rpc_journal.specs.declared.entry.EntryKind.{EntryKind}
 use Rattle.rpc_journal.specs.declared.entry.TheConstants.{MAX_ENTRIES}
@@ -14,10 +15,10 @@ use Rattle.live_client.specs.Ask.{live_setting}
 use Rattle.live_client.specs.Live.{Begins, Explains, IsHistoryOf}
 
 -- Its journal and why it ended, the bytes that it read and wrote, its store, and the faults of its source, sink and store.
-pub record HasRun (watches : Bool) (opening : EntryKind) (left_old left_new written_old written_new : Option (List ℕ)) (held_old held_new : Option Stored) (i0 i f0 f g0 g : ℕ) (why : Why) (read : ℕ) (h : List Entry) : Type 0 where
-  pub history : IsHistoryOf watches opening why h
-  pub begins : Begins left_old left_new written_old written_new held_old held_new read h
-  pub explains : is_halted live_setting h ≡ false → Explains left_old left_new written_old written_new held_old held_new read h
+pub record HasRun (method : MethodRef) (calls : Bool) (opening : EntryKind) (left_old left_new written_old written_new : Option (List ℕ)) (held_old held_new : Option Stored) (i0 i f0 f g0 g : ℕ) (why : Why) (read : ℕ) (h : List Entry) : Type 0 where
+  pub history : IsHistoryOf method calls opening why h
+  pub begins : Begins method left_old left_new written_old written_new held_old held_new read h
+  pub explains : is_halted (live_setting method) h ≡ false → Explains method left_old left_new written_old written_new held_old held_new read h
   pub at_end : why ≡ Settled → IsAtEnd left_new
   pub at_limit : why ≡ InputLimit → read ≡ INPUT_LIMIT
   pub below : (why ≡ Settled) ⊎ (why ≡ Source) → read < INPUT_LIMIT

@@ -1,5 +1,5 @@
+pub mod Calling
 pub mod Ends
 pub mod Events
 pub mod Tasks
 pub mod Telling
-pub mod Watching

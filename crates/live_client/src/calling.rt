@@ -7,18 +7,19 @@ ghost use Rattle.rpc_journal.specs.declared.entry.TheConstants.{MAX_ENTRIES};
 ghost use Rattle.rpc_schedule.specs.declared.stream.TheConstants.{INPUT_LIMIT};
 ghost use Rattle.rpc_shared.specs.session.Leaving.{HangsUp};
 ghost use Rattle.rpc_shared.specs.session.Sessions.{is_halted};
-ghost use Rattle.live_client.specs.Ask.{CanAsk, live_setting};
+ghost use Rattle.live_client.specs.Ask.{CanAsk, live_setting, method_asked};
 ghost use Rattle.live_client.specs.Live.{AskRan, Begins, Explains, IsLiveHistory};
 
 use crate::ask::{Live, LiveAsk};
+use crate::calls::{call, watch};
 use crate::transfers::{get, put};
-use crate::watching::watch;
 use link_io::{Clock, Sink, Source, Store};
 use std::alloc::{AllocError, Global};
 use std::sync::Wait;
 use std::thread::Threads;
 
-/// Does what it is asked over one link, in one call: it fetches a resource into the store, sends one, or watches a stream. A reader
+/// Does what it is asked over one link, in one call: it fetches a resource into the store, sends one, or keeps the messages
+/// of a call. A reader
 /// in a thread of its own feeds the input; the caller's thread drives the call and writes. Once the task has ended and all is
 /// written, the sink is told that nothing more comes; the client ends with its input. Where the reader's thread can't be made the
 /// table is halted for want of memory. A fault of the source and the limit of 67,108,864 bytes end the input, and the call still
@@ -46,12 +47,12 @@ pub fn live<
     requires ask { CanAsk ask }
     requires open { O.finished link_out.old ≡ false }
     ensures history { IfOk result (λ l. IsLiveHistory ask l.why l.journal.entries) }
-    ensures begins { IfOk result (λ l. Begins (I.left link_in.old) (I.left link_in.new) (O.written link_out.old) (O.written link_out.new) (S.holds store.old) (S.holds store.new) l.read l.journal.entries) }
-    ensures explains { IfOk result (λ l. is_halted live_setting l.journal.entries ≡ false →
-        Explains (I.left link_in.old) (I.left link_in.new) (O.written link_out.old) (O.written link_out.new) (S.holds store.old) (S.holds store.new) l.read l.journal.entries) }
+    ensures begins { IfOk result (λ l. Begins (method_asked ask) (I.left link_in.old) (I.left link_in.new) (O.written link_out.old) (O.written link_out.new) (S.holds store.old) (S.holds store.new) l.read l.journal.entries) }
+    ensures explains { IfOk result (λ l. is_halted (live_setting (method_asked ask)) l.journal.entries ≡ false →
+        Explains (method_asked ask) (I.left link_in.old) (I.left link_in.new) (O.written link_out.old) (O.written link_out.new) (S.holds store.old) (S.holds store.new) l.read l.journal.entries) }
     ensures ran { IfOk result (λ l. AskRan ask (C.last clock.old) (C.last clock.new) l) }
-    ensures ended { IfOk result (λ l. is_halted live_setting l.journal.entries ≡ false → is_some l.ended ≡ true) }
-    ensures finished { IfOk result (λ l. is_halted live_setting l.journal.entries ≡ false → O.finished link_out.new ≡ true) }
+    ensures ended { IfOk result (λ l. is_halted (live_setting (method_asked ask)) l.journal.entries ≡ false → is_some l.ended ≡ true) }
+    ensures finished { IfOk result (λ l. is_halted (live_setting (method_asked ask)) l.journal.entries ≡ false → O.finished link_out.new ≡ true) }
     ensures hangs_up { OnOk result (HangsUp (O.finished link_out.new) (O.faults link_out.old) (O.faults link_out.new)) }
     ensures at_end { IfOk result (λ l. l.why ≡ Settled → IsAtEnd (I.left link_in.new)) }
     ensures at_limit { IfOk result (λ l. l.why ≡ InputLimit → l.read ≡ INPUT_LIMIT) }
@@ -76,5 +77,8 @@ pub fn live<
             rt, alloc, link_in, link_out, store, clock, resource, offset, bytes,
         ),
         LiveAsk::Watch { n, limit } => watch(rt, alloc, link_in, link_out, store, clock, n, limit),
+        LiveAsk::Call { opening, limit } => call(
+            rt, alloc, link_in, link_out, store, clock, opening, limit,
+        ),
     }
 }

@@ -1,5 +1,5 @@
 //! The one call of a live client, from a table without an entry to what was done.
-ghost use Rattle.std.specs.Prelude.{◌≡◌, ℕ, ◌≤◌, Bool, List, Option, None, [], true, false, IfOk, OnErr, OnOk};
+ghost use Rattle.std.specs.Prelude.{◌≡◌, ℕ, ◌≤◌, Bool, List, Option, None, [], ◌∷◌, true, false, IfOk, OnErr, OnOk};
 ghost use Rattle.rpc_handlers.specs.Limits.{is_long};
 ghost use Rattle.rpc_journal.specs.Lawful.{has_zero};
 ghost use Rattle.rpc_shared.specs.session.Leaving.{HangsUp};
@@ -19,7 +19,7 @@ use bytes::Bytes;
 use link_io::{Clock, Sink, Source, Store, Why};
 use rpc_frames::Listener;
 use rpc_handlers::Nobody;
-use rpc_ids::Role;
+use rpc_ids::{MethodRef, Registry, Role};
 use rpc_journal::Journal;
 use rpc_packet::CallName;
 use std::alloc::{AllocError, Global};
@@ -53,12 +53,13 @@ pub(crate) fn run_live<
     errand: &mut W,
     wakes: &Wakes,
     bell: &mut Bell,
-    service: u32,
-    method: u32,
+    registry: Registry,
+    method: MethodRef,
     payload: Bytes,
 ) -> Result<Run, AllocError>
     requires open { O.finished link_out.old ≡ false }
-    requires named { has_zero (live_name service method) ≡ false }
+    requires methods { registry ≡ method ∷ [] }
+    requires named { has_zero (live_name method) ≡ false }
     requires short { is_long payload ≡ false }
     requires bell { CanRing wakes.now.bells bell.old }
     requires ready { W.ready errand.old }
@@ -67,13 +68,13 @@ pub(crate) fn run_live<
     requires whole { W.short errand.old ≡ false }
     requires uncut { W.cuts errand.old ≡ false }
     requires fresh { (start upto : ℕ) → W.did errand.old true start upto None [] [] None }
-    ensures ran { IfOk result (λ run. HasRun W.watches (opens service method payload) (I.left link_in.old) (I.left link_in.new) (O.written link_out.old) (O.written link_out.new) (S.holds store.old) (S.holds store.new) (I.faults link_in.old) (I.faults link_in.new) (O.faults link_out.old) (O.faults link_out.new) (S.faults store.old) (S.faults store.new) run.why run.read run.journal.entries) }
-    ensures told { IfOk result (λ run. HasTold (λ all. W.did errand.new all (C.last clock.old) (C.last clock.new)) run.journal.entries) }
+    ensures ran { IfOk result (λ run. HasRun method W.watches (opens method payload) (I.left link_in.old) (I.left link_in.new) (O.written link_out.old) (O.written link_out.new) (S.holds store.old) (S.holds store.new) (I.faults link_in.old) (I.faults link_in.new) (O.faults link_out.old) (O.faults link_out.new) (S.faults store.old) (S.faults store.new) run.why run.read run.journal.entries) }
+    ensures told { IfOk result (λ run. HasTold method (λ all. W.did errand.new all (C.last clock.old) (C.last clock.new)) run.journal.entries) }
     ensures uncut { OnOk result (W.cuts errand.new ≡ false) }
     ensures ready { OnOk result (W.ready errand.new) }
     ensures origin { OnOk result (W.origin errand.new ≡ W.origin errand.old) }
-    ensures whole { IfOk result (λ run. is_halted live_setting run.journal.entries ≡ false → W.short errand.new ≡ false) }
-    ensures finished { IfOk result (λ run. is_halted live_setting run.journal.entries ≡ false → O.finished link_out.new ≡ true) }
+    ensures whole { IfOk result (λ run. is_halted (live_setting method) run.journal.entries ≡ false → W.short errand.new ≡ false) }
+    ensures finished { IfOk result (λ run. is_halted (live_setting method) run.journal.entries ≡ false → O.finished link_out.new ≡ true) }
     ensures hangs_up { OnOk result (HangsUp (O.finished link_out.new) (O.faults link_out.old) (O.faults link_out.new)) }
     ensures later { (I.faults link_in.old ≤ I.faults link_in.new) × (O.faults link_out.old ≤ O.faults link_out.new) × (S.faults store.old ≤ S.faults store.new) }
     ensures clock { C.last clock.old ≤ C.last clock.new }
@@ -81,7 +82,7 @@ pub(crate) fn run_live<
 {
     let maker = Nobody::new(alloc);
     let mut listener = Listener::new(alloc, Role::Client)?;
-    let (table, passes) = new_table(alloc, &maker)?;
+    let (table, passes) = new_table(alloc, &maker, registry)?;
     let Seats {
         mut reader,
         mut driver,
@@ -89,8 +90,8 @@ pub(crate) fn run_live<
     } = apart(passes);
     let name = CallName {
         channel: 1,
-        service,
-        method,
+        service: method.service,
+        method: method.method,
         call: 1,
     };
     let Some(call) = open_call(rt, &table, &mut driver, name, payload, Silent::new(alloc)) else {

@@ -1,19 +1,16 @@
-//! The table of a live client: one channel, three methods, and two passes.
-ghost use Rattle.std.specs.Prelude.{◌≡◌, ◌≤◌, ◌++◌, [], ◌∷◌, true, false, is_none, IfOk, OnOk, IsNone, vec_len, vec_capacity};
+//! The table of a live client: one channel, one method, and two passes.
+ghost use Rattle.std.specs.Prelude.{◌≡◌, ◌≤◌, [], ◌∷◌, true, false, is_none, IfOk, vec_len, vec_capacity};
 ghost use Rattle.turn_cell.specs.Passes.{AreAll, IsNew};
-ghost use Rattle.rpc_ids.specs.Names.{name_id};
-ghost use Rattle.rpc_ids.specs.Registry.{method_of};
 ghost use Rattle.rpc_shared.specs.session.Reasons.{reason_of};
-ghost use Rattle.live_client.specs.Ask.{live_methods, live_setting};
+ghost use Rattle.live_client.specs.Ask.{setting_with};
 
 use crate::halting::{Seat, Table};
 use crate::silent::Silent;
-use demo_services::ids::ids_are_of_names;
 use link_io::{Ending, Why};
 use rpc_calls::Calls;
 use rpc_channel::Channels;
 use rpc_handlers::{Maker, Nobody};
-use rpc_ids::{AddRefused, Kind, Registry, Role};
+use rpc_ids::{Registry, Role};
 use rpc_shared::Shared;
 use std::alloc::{AllocError, Global};
 
@@ -26,15 +23,16 @@ pub(crate) struct Seats {
     pub room: Vec<Seat>,
 }
 
-/// The table, and its passes.
+/// The table that knows these methods, and its passes.
 pub(crate) fn new_table(
     alloc: Global,
     maker: &Nobody<Silent>,
+    registry: Registry,
 ) -> Result<(Table, Vec<Seat>), AllocError>
-    ensures turn { IfOk result (λ made. (made.0.count ≡ 2) × (made.0.base ≡ live_setting)) }
+    ensures turn { IfOk result (λ made. (made.0.count ≡ 2) × (made.0.base ≡ setting_with registry)) }
     ensures passes { IfOk result (λ made. AreAll made.0 (IsNew made.0) made.1.items) }
 {
-    let calls = new_calls(alloc, maker)?;
+    let calls = new_calls(alloc, maker, registry)?;
     match Shared::with(alloc, calls, 2) {
         Ok(made) => Ok(made),
         Err(_) => Err(AllocError),
@@ -42,12 +40,15 @@ pub(crate) fn new_table(
 }
 
 // A table of calls without an entry.
-fn new_calls(alloc: Global, maker: &Nobody<Silent>) -> Result<Calls<Silent>, AllocError>
-    ensures setting { IfOk result (λ calls. calls.setting ≡ live_setting) }
+fn new_calls(
+    alloc: Global,
+    maker: &Nobody<Silent>,
+    registry: Registry,
+) -> Result<Calls<Silent>, AllocError>
+    ensures setting { IfOk result (λ calls. calls.setting ≡ setting_with registry) }
     ensures entries { IfOk result (λ calls. calls.entries ≡ []) }
 {
     let channels = live_channels(alloc)?;
-    let registry = live_registry(alloc)?;
     let seed = maker.seed()?;
     Calls::new(alloc, Role::Client, channels, registry, seed)
 }
@@ -59,54 +60,6 @@ fn live_channels(alloc: Global) -> Result<Channels, AllocError>
     match channels.add(1) {
         Ok(()) => Ok(channels),
         Err(_) => Err(AllocError),
-    }
-}
-
-#[tactic(auto, unfolding(rpc_ids::specs::Names::name_id))]
-fn live_registry(alloc: Global) -> Result<Registry, AllocError>
-    ensures { IfOk result (λ registry. registry ≡ live_methods) }
-{
-    ids_are_of_names();
-    let mut registry = Registry::new(alloc);
-    add(
-        &mut registry,
-        b"demo.Demo",
-        b"Count",
-        Kind::ServerStream,
-        false,
-    )?;
-    add(
-        &mut registry,
-        b"pw.transfer.Transfer",
-        b"Read",
-        Kind::Bidi,
-        true,
-    )?;
-    add(
-        &mut registry,
-        b"pw.transfer.Transfer",
-        b"Write",
-        Kind::Bidi,
-        true,
-    )?;
-    Ok(registry)
-}
-
-// Adds a method, which isn't in yet.
-fn add(
-    registry: &mut Registry,
-    service: &[u8],
-    method: &[u8],
-    kind: Kind,
-    ticks: bool,
-) -> Result<(), AllocError>
-    requires { IsNone (method_of registry.old (name_id service.now) (name_id method.now)) }
-    ensures { OnOk result (registry.new ≡ registry.old ++ record { service = name_id service.now; method = name_id method.now; kind = kind; ticks = ticks } ∷ []) }
-{
-    match registry.add(service, method, kind, ticks) {
-        Ok(_) => Ok(()),
-        Err(AddRefused::Memory) => Err(AllocError),
-        Err(AddRefused::Clash) => unreachable!(),
     }
 }
 

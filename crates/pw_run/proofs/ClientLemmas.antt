@@ -13,7 +13,7 @@ use Rattle.rpc_schedule.specs.declared.stream.TheConstants.{INPUT_LIMIT}
 use Rattle.rpc_shared.specs.session.Sessions.{is_halted}
 use Rattle.live_client.specs.declared.ask.Live.{Live}
 use Rattle.live_client.specs.declared.ask.LiveAsk.{LiveAsk}
-use Rattle.live_client.specs.Ask.{live_setting}
+use Rattle.live_client.specs.Ask.{live_setting, method_asked}
 use Rattle.live_client.specs.Live.{AskRan, Begins, Explains, IsLiveHistory}
 use Rattle.run_report.specs.LiveReport.{live_report}
 use Rattle.pw_run.specs.declared.client_command.ClientCommand.{ClientCommand}
@@ -53,9 +53,9 @@ client_wrote command l old new failed_old failed_new _ some writes = (some, writ
 
 -- what a client did, by what its call promises
 pub does_asked : (asks : LiveAsk) (before after : LinkDevices) (l : Live) → IsLiveHistory asks l.why l.journal.entries
-    → Begins before.left after.left before.sent after.sent before.held after.held l.read l.journal.entries
-    → (is_halted live_setting l.journal.entries ≡ false → Explains before.left after.left before.sent after.sent before.held after.held l.read l.journal.entries)
-    → AskRan asks before.moment after.moment l → (is_halted live_setting l.journal.entries ≡ false → is_some l.ended ≡ true)
+    → Begins (method_asked asks) before.left after.left before.sent after.sent before.held after.held l.read l.journal.entries
+    → (is_halted (live_setting (method_asked asks)) l.journal.entries ≡ false → Explains (method_asked asks) before.left after.left before.sent after.sent before.held after.held l.read l.journal.entries)
+    → AskRan asks before.moment after.moment l → (is_halted (live_setting (method_asked asks)) l.journal.entries ≡ false → is_some l.ended ≡ true)
     → (l.why ≡ reason.Settled → IsAtEnd after.left) → (l.why ≡ reason.InputLimit → l.read ≡ INPUT_LIMIT)
     → ((l.why ≡ reason.Settled) ⊎ (l.why ≡ reason.Source) → l.read < INPUT_LIMIT) → (l.why ≡ reason.JournalLimit → MAX_ENTRIES ≤ length l.journal.entries)
     → DoesAsked asks before after l

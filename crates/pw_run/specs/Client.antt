@@ -16,6 +16,7 @@ use Rattle.transfer_base.specs.declared.limits.TheConstants.{MAX_RESOURCE}
 use Rattle.live_client.specs.declared.ask.Live.{Live}
 use Rattle.live_client.specs.declared.ask.LiveAsk.{LiveAsk}
 use Rattle.live_client.specs.declared.ask.LiveAsk.TheVariants as ask
+use Rattle.live_client.specs.Ask.{method_asked}
 use Rattle.live_client.specs.Live.{AskRan, Begins, Explains, IsLiveHistory}
 use Rattle.run_report.specs.declared.live_report.LiveLine.{LiveLine}
 use Rattle.run_report.specs.declared.live_report.LiveLine.TheVariants as told
@@ -56,7 +57,7 @@ RefusesAs found Memory = Unit {0}
 abbrev pub ended_with : ClientCommand → Live → Status → LiveLine
 ended_with (Get resource offset) l status = told.Get resource l.from status l.length
 ended_with (Put resource offset) l status = told.Put resource l.from status l.length
-ended_with (Watch number limit) l status = told.Watch status l.messages
+ended_with (Watch number limit) l status = told.Watch status (length l.messages.items)
 
 -- the line of what a client did, where that has ended
 abbrev pub told_of : ClientCommand → Live → Option LiveLine
@@ -77,9 +78,9 @@ client_outcome why ended = outcome_for why
 -- was done; where nothing halted it, the journal explains the bytes read, those sent and the store, and the call has ended.
 pub record DoesAsked (ask : LiveAsk) (before after : LinkDevices) (l : Live) : Type 0 where
   pub journal : IsLiveHistory ask l.why l.journal.entries
-  pub begins : Begins before.left after.left before.sent after.sent before.held after.held l.read l.journal.entries
+  pub begins : Begins (method_asked ask) before.left after.left before.sent after.sent before.held after.held l.read l.journal.entries
   pub explains : is_halting l.why ≡ false →
-      Explains before.left after.left before.sent after.sent before.held after.held l.read l.journal.entries
+      Explains (method_asked ask) before.left after.left before.sent after.sent before.held after.held l.read l.journal.entries
   pub ended : is_halting l.why ≡ false → is_some l.ended ≡ true
   pub ran : AskRan ask before.moment after.moment l
   pub at_end : l.why ≡ reason.Settled → IsAtEnd after.left

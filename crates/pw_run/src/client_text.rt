@@ -64,7 +64,7 @@ fn told_of(command: ClientCommand, done: &Live) -> Option<LiveLine>
         },
         ClientCommand::Watch { .. } => LiveLine::Watch {
             status,
-            messages: done.messages,
+            messages: done.messages.len(),
         },
     };
     Some(line)

@@ -30,7 +30,7 @@ pub enum LiveLine {
     /// The messages of a call were counted.
     Watch {
         status: Status,
-        messages: u32,
+        messages: usize,
     },
 }
 
@@ -99,7 +99,7 @@ fn add_transfer_line(
 }
 
 #[tactic(auto, unfolding(crate::specs::LiveReport::watch_line))]
-fn add_watch_line(status: Status, messages: u32, text: &mut String) -> Result<(), AllocError>
+fn add_watch_line(status: Status, messages: usize, text: &mut String) -> Result<(), AllocError>
     ensures { OnOk result (string_bytes text.new ≡ string_bytes text.old ++ watch_line status messages) }
 {
     let status = status.name();

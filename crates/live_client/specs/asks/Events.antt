@@ -1,5 +1,5 @@
 -- What the events of a call tell.
-use Rattle.std.specs.Prelude.{ℕ, ◌+◌, Bool, true, false, if◌then◌else◌, List, [], ◌∷◌, Option, Some, None}
+use Rattle.std.specs.Prelude.{ℕ, List, [], ◌∷◌, ◌++◌, Option, Some, None}
 use Rattle.rpc_ids.specs.declared.status.Status.{Status}
 use Rattle.rpc_handlers.specs.declared.event.Event.{Event}
 use Rattle.rpc_handlers.specs.declared.event.Event.TheVariants.{Message, Ended}
@@ -9,14 +9,15 @@ abbrev pub or_else : {A : Type 0} → Option A → Option A → Option A
 or_else None second = second
 or_else (Some x) second = Some x
 
-abbrev pub is_message : Event → Bool
-is_message (Message payload) = true
-is_message _ = false
+-- the message that an event is, if it is one
+abbrev pub message_by : Event → List (List ℕ)
+message_by (Message payload) = payload ∷ []
+message_by _ = []
 
--- how many of these events are messages
-abbrev pub messages_in : List Event → ℕ
-messages_in [] = 0
-messages_in (event ∷ events) = if is_message event then messages_in events + 1 else messages_in events
+-- the messages among these events, in order
+abbrev pub messages_in : List Event → List (List ℕ)
+messages_in [] = []
+messages_in (event ∷ events) = message_by event ++ messages_in events
 
 abbrev pub end_by : Event → Option Status
 end_by (Ended status) = Some status

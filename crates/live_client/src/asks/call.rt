@@ -1,18 +1,20 @@
-//! A watch of a stream.
-ghost use Rattle.std.specs.Prelude.{◌≡◌, ◌<◌, None, true};
-ghost use Rattle.live_client.specs.asks.Watching.{Watched, has_enough, hearing, takes_more};
+//! A call whose messages are kept.
+ghost use Rattle.std.specs.Prelude.{◌≡◌, ◌<◌, [], None, true, OnErr, OnOk};
+ghost use Rattle.live_client.specs.asks.Calling.{Called, HasHeard, HasKept, has_enough, takes_more};
 
 use crate::asks::errand::Errand;
+use bytes::Bytes;
 use rpc_handlers::{Event, Out};
 use rpc_ids::Status;
-use std::alloc::AllocError;
+use std::alloc::{AllocError, Global};
 use task_core::bells::Bells;
 
-/// Counts the messages of a call up to a limit, where the call is to be cancelled.
+/// Keeps the messages of a call up to a limit, where the call is to be cancelled.
 #[derive(Debug, Drop)]
-pub struct WatchErrand {
-    /// How many messages came.
-    pub messages: u32,
+pub struct CallErrand {
+    /// The messages that came, in order.
+    pub messages: Vec<Bytes>,
+    /// How many of them are enough.
     pub limit: u32,
     /// How the call ended.
     pub ended: Option<Status>,
@@ -20,15 +22,15 @@ pub struct WatchErrand {
     pub moment: u64,
 }
 
-impl WatchErrand {
+impl CallErrand {
     /// Before the first message.
-    pub fn new(limit: u32) -> WatchErrand
+    pub fn new(alloc: Global, limit: u32) -> CallErrand
         requires { 0 < limit }
         ensures limit { result.limit ≡ limit }
-        ensures none { (result.messages ≡ 0) × (result.ended ≡ None) × (result.moment ≡ 0) }
+        ensures none { (result.messages.items ≡ []) × (result.ended ≡ None) × (result.moment ≡ 0) }
     {
-        WatchErrand {
-            messages: 0,
+        CallErrand {
+            messages: Vec::new(alloc),
             limit,
             ended: None,
             moment: 0,
@@ -36,19 +38,23 @@ impl WatchErrand {
     }
 
     // Hears an event.
-    fn take(&mut self, event: Event)
+    fn take(&mut self, event: Event) -> Result<(), AllocError>
         requires { takes_more self.old ≡ true }
-        ensures { self.new ≡ hearing event self.old }
+        ensures heard { OnOk result (HasHeard event self.old self.new) }
+        ensures kept { OnErr result (HasKept self.old self.new) }
+        ensures limit { self.new.limit ≡ self.old.limit }
+        ensures moment { self.new.moment ≡ self.old.moment }
     {
         match event {
-            Event::Message(_) => self.messages += 1,
+            Event::Message(payload) => self.messages.push(payload)?,
             Event::Ended(status) => self.ended = Some(status),
             Event::Request(_) | Event::Completion | Event::Tick(_) => {}
         }
+        Ok(())
     }
 }
 
-impl Errand for WatchErrand {
+impl Errand for CallErrand {
     ghost use Rattle.std.specs.Prelude.{ℕ, true, false};
 
     ghost watches = { true };
@@ -69,13 +75,12 @@ impl Errand for WatchErrand {
 
     ghost cuts = { has_enough };
 
-    ghost did = { λ w _ _ _. Watched w };
+    ghost did = { λ w _ _ _. Called w };
 
     ghost weaker = { λ _ _ _ _ _ _ _ so. so };
 
     fn hear(&mut self, event: Event) -> Result<(), AllocError> {
-        self.take(event);
-        Ok(())
+        self.take(event)
     }
 
     fn go_on(&mut self, bells: &Bells, now: u64) -> Result<(), AllocError> {
@@ -89,11 +94,11 @@ impl Errand for WatchErrand {
     }
 
     fn listens(&self) -> bool {
-        self.ended.is_none() && self.messages < self.limit
+        self.ended.is_none() && self.messages.len() < self.limit as usize
     }
 
     fn cuts(&self) -> bool {
-        self.ended.is_none() && self.messages == self.limit
+        self.ended.is_none() && self.messages.len() == self.limit as usize
     }
 
     fn cut(&mut self, status: Status) {

@@ -1,0 +1,152 @@
+//! Calls of methods by their names, whose messages are kept.
+ghost use Rattle.std.specs.Prelude.{◌<◌, ◌≤◌};
+ghost use Rattle.live_client.specs.Ask.{CanAsk};
+
+use super::{does, end_is, why_is};
+use bytes::Bytes;
+use demo_services::ids::{COUNT, DEMO, ECHO, ids_are_of_names};
+use link_io::{Still, Why};
+use live_client::{Live, LiveAsk, Opening};
+use rpc_frames::write_frame;
+use rpc_ids::{Kind, Status};
+use rpc_packet::{CallName, Packet, PacketType};
+use std::alloc::{AllocError, Global};
+use std::process::Abort;
+use std::sync::Wait;
+use std::test::Fail;
+use std::thread::Threads;
+
+// What the board says in the one call: the type, the number of the status, and the payload.
+type Answer = (PacketType, u32, &'static [u8]);
+
+const ECHOED: &[Answer] = &[(PacketType::Response, 0, b"abc")];
+
+const EMPTY: &[Answer] = &[(PacketType::Response, 0, b"")];
+
+const UNKNOWN: &[Answer] = &[(PacketType::ServerError, 5, b"")];
+
+// An end that tells no message, and what a unary method should not say.
+const REFUSED: &[Answer] = &[(PacketType::Response, 3, b"abc")];
+
+const STREAMED: &[Answer] = &[(PacketType::ServerStream, 0, b"abc")];
+
+const COUNTED: &[Answer] = &[
+    (PacketType::ServerStream, 0, b"1"),
+    (PacketType::ServerStream, 0, b""),
+    (PacketType::ServerStream, 0, b"3"),
+    (PacketType::Response, 0, b""),
+];
+
+// The frames of these answers in the call of a method of demo.Demo.
+fn answers(alloc: Global, method: u32, rows: &[Answer]) -> Result<Vec<u8>, AllocError> {
+    let mut stream = Vec::new(alloc);
+    for (ptype, status, payload) in rows {
+        let packet = Packet {
+            ptype: *ptype,
+            name: CallName {
+                channel: 1,
+                service: DEMO,
+                method,
+                call: 1,
+            },
+            payload: Bytes::from_static(payload),
+            status: *status,
+        };
+        write_frame(alloc, &packet, &mut stream)?;
+    }
+    Ok(stream)
+}
+
+#[tactic(auto, unfolding(rpc_ids::specs::Names::name_id))]
+fn echo() -> LiveAsk
+    ensures { CanAsk result }
+{
+    ids_are_of_names();
+    LiveAsk::Call {
+        opening: Opening {
+            service: Bytes::from_static(b"demo.Demo"),
+            method: Bytes::from_static(b"Echo"),
+            kind: Kind::Unary,
+            payload: Bytes::from_static(b"abc"),
+        },
+        limit: 65_536,
+    }
+}
+
+#[tactic(auto, unfolding(rpc_ids::specs::Names::name_id))]
+fn count(limit: u32) -> LiveAsk
+    requires { (0 < limit) × (limit ≤ 65536) }
+    ensures { CanAsk result }
+{
+    ids_are_of_names();
+    LiveAsk::Call {
+        opening: Opening {
+            service: Bytes::from_static(b"demo.Demo"),
+            method: Bytes::from_static(b"Count"),
+            kind: Kind::ServerStream,
+            payload: Bytes::from_static(b"\x03"),
+        },
+        limit,
+    }
+}
+
+fn messages_are(rt: &impl Abort, messages: &[Bytes], wanted: &[&[u8]]) {
+    let same = messages.len() == wanted.len()
+        && messages
+            .iter()
+            .zip(wanted.iter())
+            .all(|(message, want)| message.as_slice() == *want);
+    assert!(rt; same);
+}
+
+// It ended so, with these messages.
+fn ends(rt: &impl Abort, did: Live, end: Status, wanted: &[&[u8]]) {
+    why_is(rt, did.why, Why::Settled);
+    end_is(rt, did.ended, Some(end));
+    messages_are(rt, &did.messages, wanted);
+}
+
+fn echoes<R: Threads + Wait + Sync + Abort>(
+    rt: &R,
+    rows: &[Answer],
+    end: Status,
+    wanted: &[&[u8]],
+) -> Result<(), Fail> {
+    let alloc = rt.alloc();
+    let input = answers(alloc, ECHO, rows)?;
+    let did = does(rt, alloc, input, &mut Still::new(), echo())?;
+    ends(rt, did, end, wanted);
+    Ok(())
+}
+
+#[test]
+fn a_unary_call_keeps_its_response(rt: HostRuntime) -> Result<(), Fail> {
+    echoes(&rt, ECHOED, Status::Okay, &[b"abc"])?;
+    echoes(&rt, EMPTY, Status::Okay, &[b""])
+}
+
+#[test]
+fn a_unary_call_ends_as_the_board_says(rt: HostRuntime) -> Result<(), Fail> {
+    echoes(&rt, UNKNOWN, Status::NotFound, &[])?;
+    echoes(&rt, REFUSED, Status::InvalidArgument, &[])?;
+    echoes(&rt, STREAMED, Status::InvalidArgument, &[])?;
+    echoes(&rt, &[], Status::Unavailable, &[])
+}
+
+#[test]
+fn a_stream_is_kept_in_order(rt: HostRuntime) -> Result<(), Fail> {
+    let alloc = rt.alloc();
+    let input = answers(alloc, COUNT, COUNTED)?;
+    let did = does(&rt, alloc, input, &mut Still::new(), count(65_536))?;
+    ends(&rt, did, Status::Okay, &[b"1", b"", b"3"]);
+    Ok(())
+}
+
+#[test]
+fn a_call_is_cancelled_at_its_limit(rt: HostRuntime) -> Result<(), Fail> {
+    let alloc = rt.alloc();
+    let input = answers(alloc, COUNT, COUNTED)?;
+    let did = does(&rt, alloc, input, &mut Still::new(), count(2))?;
+    messages_are(&rt, &did.messages, &[b"1", b""]);
+    Ok(())
+}
