@@ -15,7 +15,7 @@ use rpc_ids::{Role, Status};
 use rpc_journal::{Act, Item};
 use rpc_packet::{CallName, Packet, PacketType};
 use rpc_schedule::Ending;
-use run_report::{LiveLine, frame_bytes, live_line, live_text, load_text, report_text};
+use run_report::{LiveLine, call_text, frame_bytes, live_line, live_text, load_text, report_text};
 use std::alloc::Global;
 use std::process::Abort;
 use std::test::Fail;
@@ -454,5 +454,42 @@ fn a_client_is_told_by_what_it_was_asked(rt: HostRuntime) -> Result<(), Fail> {
         live_line(alloc, WRITTEN)?.as_str(),
         "put 8 0 NOT_FOUND 0\n",
     );
+    Ok(())
+}
+
+// The text of a call to which two messages came, of which the second is empty.
+fn is_told(
+    rt: &impl Abort,
+    alloc: Global,
+    ended: Option<Status>,
+    why: Why,
+    want: &str,
+) -> Result<(), Fail> {
+    let mut messages = Vec::new(alloc);
+    messages.push(Bytes::from_static(b"\x00ab"))?;
+    messages.push(Bytes::new())?;
+    is_text(rt, call_text(alloc, &messages, ended, why)?.as_str(), want);
+    Ok(())
+}
+
+#[test]
+fn a_call_is_told_with_its_messages(rt: HostRuntime) -> Result<(), Fail> {
+    let alloc = rt.alloc();
+    is_told(
+        &rt,
+        alloc,
+        Some(Status::Okay),
+        Why::Settled,
+        "message 006162\nmessage -\ncall OK 2\ndone\n",
+    )?;
+    is_told(
+        &rt,
+        alloc,
+        None,
+        Why::Sink,
+        "message 006162\nmessage -\nsink fault\n",
+    )?;
+    let none = call_text(alloc, &[], Some(Status::NotFound), Why::Settled)?;
+    is_text(&rt, none.as_str(), "call NOT_FOUND 0\ndone\n");
     Ok(())
 }

@@ -1,3 +1,4 @@
+pub mod CallReport
 pub mod ConnectionReport
 pub mod CrewReport
 pub mod Items
