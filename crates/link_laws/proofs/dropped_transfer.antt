@@ -8,7 +8,7 @@ mod Few
 mod Late
 pub mod Links
 mod Comes
-mod InTime
+pub mod InTime
 mod Mixes
 pub mod Numbers
 mod Rounds

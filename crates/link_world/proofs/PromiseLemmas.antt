@@ -14,7 +14,7 @@ use Rattle.link_laws.specs.lossless_scripts.Lossless.{IsLosslessScript}
 use Rattle.link_laws.specs.lossless_scripts.Scripts.{IsOpenScript}
 use Rattle.link_laws.proofs.lossless_scripts.Arriving.{lossless_runs_arrive}
 use Rattle.link_laws.proofs.lossless_scripts.Walking.{lossless_runs_end_well}
-use Rattle.link_laws.proofs.dropped_scripts.Walking.{lossy_runs_end_well}
+use Rattle.link_laws.proofs.dropped_scripts.Walking.{lossy_runs_end_well, next_ends_in_time}
 use Rattle.link_world.specs.declared.outcome.Outcome.{Outcome}
 use Rattle.link_world.specs.Outcomes.{AllArrive, AllEndWell, IsRunOf, IsRunWith, LinesHold, LossesEndWell, RunIsSound, SoundLinesHold}
 
@@ -72,5 +72,11 @@ all_arrive script (Err e) is r = tt
 pub losses_end_well : {E : Type 0} (script : Script) (result : Result Outcome E) → IsOpenScript script → IfOk result (Runs script)
     → IfOk result (IsRunWith LossesEndWell script)
 losses_end_well script (Ok outcome) is r =
-    record { run = r.run; holds = λ few drops spared number command there. lossy_runs_end_well script r.run.now number command is drops spared r.run.run few r.server r.client there }
+    record {
+      run = r.run;
+      holds = λ few drops. record {
+        well = λ spared number command there. lossy_runs_end_well script r.run.now number command is drops spared r.run.run few r.server r.client there;
+        in_time = λ number command spared there. next_ends_in_time script r.run.now number command is drops spared r.run.run few r.server r.client there;
+      };
+    }
 losses_end_well script (Err e) is r = tt

@@ -9,7 +9,8 @@ use Rattle.link_laws.specs.world.Turns.{Turned}
 use Rattle.link_laws.specs.world.World.{Setup, World, client_store, server_store}
 use Rattle.link_laws.specs.plain_calls.Ended.{EndsSoon, HasEnded}
 use Rattle.link_laws.specs.dropped_transfer.Dropped.{DropsChunks}
-use Rattle.link_laws.specs.dropped_transfer.Rounds.{AreSpared}
+use Rattle.link_laws.specs.dropped_transfer.Rounds.{AreSpared, AreSparedBefore}
+use Rattle.link_laws.specs.dropped_scripts.Losses.{HasEndedInRun}
 use Rattle.link_laws.specs.one_run.InOrder.{HasAllArrived}
 use Rattle.link_laws.specs.lossless_scripts.Lossless.{EndsAs, chunks_of}
 use Rattle.link_laws.specs.lossless_scripts.Scripts.{BeginsFewWrites}
@@ -59,11 +60,17 @@ AllEndWell k commands now =
 abbrev pub AllArrive : Setup → List Command → World → Type 0
 AllArrive k commands now = HasAllArrived k now
 
--- WITH ONE CLEAN ROUND IN FOUR ALL STILL ENDS WELL: where the run has begun no more writes, where the script's losses are drops, as many
--- as there are, of frames that carry a chunk, none of them the START_ACK_CONFIRMATION of a read, and where of each transfer one of the
--- first four rounds loses no chunk, or three chunks are lost at most, each command has come to its line, and each transfer whose resource
--- is there to a line with OK, at most three turns of time after its start
+-- over a link that drops chunks
+pub record EndsOverDrops (k : Setup) (commands : List Command) (now : World) : Type 0 where
+  -- WITH ONE CLEAN ROUND IN FOUR ALL STILL ENDS WELL: where of each transfer one of the first four rounds loses no chunk, or three chunks
+  -- are lost at most, each command has come to its line, and each transfer whose resource is there to a line with OK, at most three
+  -- turns of time after its start
+  pub well : AreSpared k commands now → (number : ℕ) (command : Command) → slice_get commands number ≡ Some command
+      → HasEnded k commands now number command (λ start end told. EndsSoon k start end command told)
+  -- AND THE NEXT ENDS IN TIME, however many of its chunks are lost: with OK or DEADLINE_EXCEEDED
+  pub in_time : (number : ℕ) (command : Command) → AreSparedBefore number k commands now → slice_get commands number ≡ Some command → HasEndedInRun k commands number command
+
+-- WHAT LOSSES LEAVE: so it is where the run has begun no more writes, and where the script's losses are drops, as many as there are, of
+-- frames that carry a chunk, none of them the START_ACK_CONFIRMATION of a read
 abbrev pub LossesEndWell : Setup → List Command → World → Type 0
-LossesEndWell k commands now =
-    BeginsFewWrites commands now → DropsChunks k now → AreSpared k commands now → (number : ℕ) (command : Command) → slice_get commands number ≡ Some command
-    → HasEnded k commands now number command (λ start end told. EndsSoon k start end command told)
+LossesEndWell k commands now = BeginsFewWrites commands now → DropsChunks k now → EndsOverDrops k commands now

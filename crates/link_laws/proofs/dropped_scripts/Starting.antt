@@ -40,10 +40,9 @@ use Rattle.link_laws.specs.lossless_transfer.Finishes.{RunsOut}
 use Rattle.link_laws.specs.lossless_transfer.Shows.{Places}
 use Rattle.link_laws.specs.dropped_transfer.Dropped.{DropsChunks}
 use Rattle.link_laws.specs.dropped_transfer.Passing.{IsBesideAtClient}
-use Rattle.link_laws.specs.dropped_transfer.Rounds.{IsSpared}
 use Rattle.link_laws.specs.dropped_transfer.Sessions.{AreBefore, AreBeside, AreSettled, IsBesideAtServer, IsSetForDrops, book_with}
 use Rattle.link_laws.specs.dropped_transfer.Shows.{HasNumbered}
-use Rattle.link_laws.specs.dropped_transfer.Survives.{OpensAnew, OpensThere, CanSurvive}
+use Rattle.link_laws.specs.dropped_transfer.Survives.{OpensAnew, OpensThere, CanEnd}
 use Rattle.link_laws.proofs.lossless_scripts.Walking.{none_counted}
 use Rattle.link_laws.proofs.lossless_scripts.Finishing.{IsPlaced, placed}
 use Rattle.link_laws.proofs.lossless_scripts.Starting.{IsKnown, IsSetup, are_places, asked_state, client_role, first_service, had_sessions, method_id, new_server, not_both, numbered_with, old_places, on_new, on_old, own_name, places_for, read_not_write, same_side, server_method, server_role, service_at, sessions_before, side_is, told_time, write_not_read}
@@ -316,15 +315,12 @@ module _ (k : Setup) (setup : IsSetup k) (w end : World) (side : Side) (command 
         all_join (λ (p : Packet). (later : ℕ) → w.sessions < later → is_chunk_of later p ≡ false) w.numbered (asked ∷ []) later ((λ other high. refl), tt)
     numbered_so (inr h) = later
 
-    pub starts_so : RunsOut k w end → DropsChunks k end → IsSpared k (w.sessions + 1) w end → w.sessions + 1 < 2 ^ 32 → TURN_OF_TIME * w.times + 4 * TIMEOUT < 2 ^ 63 → (may : May) → CanSurvive k (x_of may) (older_of may) w end t
-    starts_so run drops spared small early may = record {
-      starts = record {
-        set = is_set_for_drops may room drops small;
-        early = omega (arith, early);
-        past = past_of may;
-        begins = record { command = command; asks = asking; how = opens may; numbered = none_said (numbered_with k setup fits w clean side rest may) (numbered_so may) };
-        run = run;
-        drops = drops;
-      };
-      spared = spared;
+    pub starts_so : (most : ℕ) → RunsOut k w end → DropsChunks k end → w.sessions + 1 < 2 ^ 32 → TURN_OF_TIME * w.times + TIMEOUT * (most + 1) < 2 ^ 63 → (may : May) → CanEnd k (x_of may) (older_of may) w end t most
+    starts_so most run drops small early may = record {
+      set = is_set_for_drops may room drops small;
+      early = early;
+      past = past_of may;
+      begins = record { command = command; asks = asking; how = opens may; numbered = none_said (numbered_with k setup fits w clean side rest may) (numbered_so may) };
+      run = run;
+      drops = drops;
     }

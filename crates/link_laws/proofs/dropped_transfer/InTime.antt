@@ -29,6 +29,7 @@ use Rattle.transfer_laws.proofs.losses.ReadLaws.{reads_end_in_time}
 use Rattle.transfer_laws.proofs.losses.WriteLaws.{writes_end_in_time}
 use Rattle.link_laws.specs.world.Lines.{line_telling}
 use Rattle.link_laws.specs.world.World.{Setup, Transfer, World, reads, writes}
+use Rattle.link_laws.specs.lossless_transfer.Begins.{IsIdle}
 use Rattle.link_laws.specs.lossless_transfer.Finishes.{Passes}
 use Rattle.link_laws.specs.lossless_transfer.Shows.{Places, moment_at}
 use Rattle.link_laws.proofs.lossless_transfer.Beginning.{CanBegin}
@@ -41,7 +42,7 @@ use Rattle.link_laws.specs.dropped_transfer.Survives.{CanEnd}
 use Rattle.link_laws.proofs.dropped_transfer.Chain.{Come}
 use Rattle.link_laws.proofs.dropped_transfer.Comes.{comes}
 use Rattle.link_laws.proofs.dropped_transfer.Late.{ReadAt, WriteAt, reads_keep_time, writes_keep_time}
-use Rattle.link_laws.proofs.dropped_transfer.Survive.{read_can, write_can}
+use Rattle.link_laws.proofs.dropped_transfer.Survive.{begins_idle, read_can, write_can}
 use Rattle.link_laws.proofs.dropped_transfer.TimeStep.{KeepsTime}
 
 -- WHAT NO STEP OF A CLIENT CHANGES
@@ -167,13 +168,14 @@ module _ {A : Type 0} (rules : Rules A) (wrap : A → Transfer) (P : ℕ → A �
 
   pub told_in_time : {Excuse : Type 0} → (e : EndsInTime x.service rules (loses k x.session far) Excuse (moment_at x) turns more first)
       → ((status : Status) (size : ℕ) → line_telling (wrap e.last.pair.client) status size ≡ line_of (offset_of e.last.pair.client) status size)
-      → Passes k big far (HasEndedInTime x line_of (turns + more))
+      → Passes k big far (HasEndedInTime big line_of (turns + more))
   told_in_time {Excuse} e line_is = by e.ending
     where
-      ended : (status : Status) → rules.end_of e.last.pair.client ≡ Some status → (status ≡ Okay) ⊎ (status ≡ DeadlineExceeded) → Passes k big far (HasEndedInTime x line_of (turns + more))
+      ended : (status : Status) → rules.end_of e.last.pair.client ≡ Some status → (status ≡ Okay) ⊎ (status ≡ DeadlineExceeded) → Passes k big far (HasEndedInTime big line_of (turns + more))
       ended status over ends =
           let p : Passes k big far (Come rules wrap k x big e.last) = comes rules wrap P wrapped keeps k x older big far t (turns + more) starts can e.many e.last e.way e.in_time in
           let told = p.holds.left status over in
+          let idle : IsIdle x big starts.begins.command = begins_idle starts.begins in
           record {
             mid = p.mid;
             many = p.many;
@@ -185,12 +187,12 @@ module _ {A : Type 0} (rules : Rules A) (wrap : A → Transfer) (P : ℕ → A �
               size = told.0;
               ends = ends;
               idle = told.1.idle;
-              told = told.1.told ∙ ap (λ l. x.lines ++ l ∷ []) (line_is status told.0);
-              soon = omega (arith, told.1.stands.kept.times, p.holds.now, e.in_time);
+              told = told.1.told ∙ (ap (λ l. x.lines ++ l ∷ []) (line_is status told.0) ∙ ap (λ (ls : List ReportLine). ls ++ line_of (offset_of e.last.pair.client) status told.0 ∷ []) (sym idle.lines));
+              soon = omega (arith, told.1.stands.kept.times, p.holds.now, e.in_time, idle.times);
             };
           }
 
-      by : EndsSo x.service rules (loses k x.session far) Excuse (moment_at x) turns e.last → Passes k big far (HasEndedInTime x line_of (turns + more))
+      by : EndsSo x.service rules (loses k x.session far) Excuse (moment_at x) turns e.last → Passes k big far (HasEndedInTime big line_of (turns + more))
       by (well over in_time lossy) = ended Okay over (inl refl)
       by (late over lossy) = ended DeadlineExceeded over (inr refl)
       by (excused over lost) = ended DeadlineExceeded over (inr refl)
@@ -204,7 +206,7 @@ reads_end_over_drops k x older big far resource offset window chunk bytes starts
     let e = reads_end_in_time x.service (loses k x.session far) (moment_at x) x.service.time resource offset window chunk bytes side there tuning size within in
     let named : e.last.pair.client.resource ≡ resource =
     leads_keep read_rules (λ d. d.resource) read_keeps x.service (loses k x.session far) e.many (begun x.service read_rules (loses k x.session far) (moment_at x) x.service.time d) e.last e.way in
-    subst (λ most. Passes k big far (HasEndedInTime x (line.Read resource) most)) (omega arith)
+    subst (λ most. Passes k big far (HasEndedInTime big (line.Read resource) most)) (omega arith)
     (told_in_time read_rules reads ReadAt reads_wrapped reads_keep_time k x older big far d turns 0 (subst (CanEnd k x older big far (reads d)) (omega arith) starts) can (line.Read resource) read_offset e
     (λ status bytes. ap (λ n. line.Read n (read_offset e.last.pair.client) status bytes) named))
 

@@ -29,6 +29,7 @@ use Rattle.transfer_laws.proofs.losses.RefusalSurvival.{refusals_survive}
 use Rattle.transfer_laws.proofs.losses.WriteLaws.{writes_survive}
 use Rattle.link_laws.specs.world.World.{Setup, Transfer, World, reads, writes}
 use Rattle.link_laws.specs.world.Lines.{line_telling}
+use Rattle.link_laws.specs.lossless_transfer.Begins.{IsIdle}
 use Rattle.link_laws.specs.lossless_transfer.Finishes.{Passes, ReadFits, WriteFits}
 use Rattle.link_laws.specs.lossless_transfer.Shows.{Places, moment_at}
 use Rattle.link_laws.proofs.lossless_transfer.Beginning.{CanBegin}
@@ -77,13 +78,13 @@ spared_word k x first far drops named small l lost = by l.word lost
     by (completion status) lost = tt
     by completion_ack lost = tt
 
--- when it begins
-begins_then : {k : Setup} {x : Places} {older : List Row} {big : World} {t : Transfer} → BeginsDropping k x older big t → big.times ≡ x.times
-begins_then {k} {x} {older} {big} {t} begins = by_how begins.how
+-- nothing is under way where it begins
+pub begins_idle : {k : Setup} {x : Places} {older : List Row} {big : World} {t : Transfer} → (begins : BeginsDropping k x older big t) → IsIdle x big begins.command
+begins_idle {k} {x} {older} {big} {t} begins = by_how begins.how
   where
-    by_how : OpensThere k x older big begins.command t ⊎ OpensAnew k x older big begins.command t → big.times ≡ x.times
-    by_how (inl old) = old.begins.idle.times
-    by_how (inr new) = new.begins.idle.times
+    by_how : OpensThere k x older big begins.command t ⊎ OpensAnew k x older big begins.command t → IsIdle x big begins.command
+    by_how (inl old) = old.begins.idle
+    by_how (inr new) = new.begins.idle
 
 module _ {A : Type 0} (rules : Rules A) (wrap : A → Transfer) (P : ℕ → A → Type 0) (wrapped : IsWrapped rules wrap) (keeps : KeepsTime rules P) (k : Setup) (x : Places) (older : List Row) (big far : World) (t : A)
     (starts : CanSurvive k x older big far (wrap t)) (can : CanBegin rules (P (moment_at x)) (moment_at x) t) where
@@ -104,7 +105,7 @@ module _ {A : Type 0} (rules : Rules A) (wrap : A → Transfer) (P : ℕ → A �
     none_then (l ∷ ls) all is = by_test (l.moment == moment) refl (none_then ls all.1) is
       where
         same_turn : l.moment ≡ moment → all.0.times ≡ big.times + c.number
-        same_turn same = omega (arith, same, all.0.moment, begins_then starts.starts.begins)
+        same_turn same = omega (arith, same, all.0.moment, (begins_idle starts.starts.begins).times)
 
         by_test : (b : Bool) → (l.moment == moment) ≡ b → (is_lossy ls moment ≡ true → ⊥) → (b || is_lossy ls moment) ≡ true → ⊥
         by_test true same rest is =

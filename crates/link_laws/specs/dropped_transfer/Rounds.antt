@@ -33,7 +33,14 @@ pub data IsSpared (k : Setup) (session : ℕ) (start now : World) : Type 0 where
   by_round : HasCleanRound k session start now → IsSpared k session start now
   by_number : length (lost_numbers k session now) ≤ LOSSY_ROUNDS → IsSpared k session start now
 
--- EACH TRANSFER OF THE RUN IS SPARED SO: each command that begins a session, which is the next one.
+-- EACH TRANSFER BEFORE THE COMMAND WITH THIS NUMBER IS SPARED SO: each command that begins a session, which is the next one, as fewer lines
+-- have been told.
+abbrev pub AreSparedBefore : ℕ → Setup → List Command → World → Type 0
+AreSparedBefore number k commands now =
+    (count : ℕ) (start : World) (command : Command) (rest : List Command) → Turns k count (first_world commands) start → next_kind start ≡ starting command rest
+    → (starts k start command).sessions ≡ start.sessions + 1 → length start.lines < number → IsSpared k (start.sessions + 1) start now
+
+-- EACH TRANSFER OF THE RUN IS
 abbrev pub AreSpared : Setup → List Command → World → Type 0
 AreSpared k commands now =
     (count : ℕ) (start : World) (command : Command) (rest : List Command) → Turns k count (first_world commands) start → next_kind start ≡ starting command rest
