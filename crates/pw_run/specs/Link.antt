@@ -26,7 +26,9 @@ abbrev pub limit_text : List ℕ → ℕ → List ℕ
 limit_text what limit = line (codes "limit" ∷ what ∷ decimal limit ∷ [])
 
 -- The script was run to its end, and this is the report of its run. Where its numbers fit and no loss damages a frame, the run is
--- sound; in a run that is sound throughout, OK means the bytes, whatever the link does; where nothing is lost, or chunks alone and of each transfer none in one of its first four rounds, all end well; and where nothing is lost all arrives.
+-- sound; in a run that is sound throughout, OK means the bytes, whatever the link does; where nothing is lost, or chunks alone and of
+-- each transfer none in one of its first four rounds, all end well, and the next one in time, whatever chunks it loses; and where
+-- nothing is lost all arrives.
 pub record TellsReport (script : Script) (told : List ℕ) : Type 0 where
   pub now : World
   pub run : Turned (setup_of script) script.commands now
