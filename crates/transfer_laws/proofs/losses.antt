@@ -16,4 +16,5 @@ pub mod WriteEnds
 pub mod WriteLaws
 pub mod Numbers
 pub mod FewLosses
+pub mod GivesUp
 pub mod Rows

@@ -2,3 +2,4 @@ pub mod Drops
 pub mod Rounds
 pub mod Survives
 pub mod InTime
+pub mod GivesUp

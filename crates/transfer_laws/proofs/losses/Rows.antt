@@ -11,6 +11,7 @@ use Rattle.transfer_client.specs.Machine.{Rules}
 use Rattle.transfer_client.specs.Read.{new_download, read_rules}
 use Rattle.transfer_client.specs.Write.{new_upload, write_rules}
 use Rattle.transfer_laws.specs.losses.Drops.{Lost, LossyPair, begun, steps}
+use Rattle.transfer_laws.specs.losses.GivesUp.{progress_at}
 use Rattle.transfer_laws.specs.losses.Rounds.{is_lossy}
 use Rattle.transfer_laws.specs.losses.Survives.{is_among}
 
@@ -41,6 +42,16 @@ write_row count lost =
 read_whole : read_row 16 ([]) ≡ record { end = Some Okay; said = 10; now = 0 }
 unfolding pieces_up_to
 read_whole = refl
+
+-- how far it has come behind each step: the second hears START_ACK, and the pieces of 2, 2, 2 and 1 bytes come at the fourth and after
+abbrev progress_after : ℕ → ℕ
+progress_after count =
+    let service : Service = record { side = Read; shelf = record { full = (7, bytes) ∷ []; left = [] }; window = 4; chunk = 256; time = 0 } in
+    progress_at (steps service read_rules (λ number. false) count (begun service read_rules (λ number. false) 0 0 (new_download 7 0 4 2))).pair.client.stage
+
+read_progress : map progress_after (0 ∷ 1 ∷ 2 ∷ 3 ∷ 4 ∷ 5 ∷ 6 ∷ 7 ∷ 8 ∷ []) ≡ 0 ∷ 0 ∷ 1 ∷ 1 ∷ 3 ∷ 5 ∷ 5 ∷ 7 ∷ 9 ∷ []
+unfolding pieces_up_to
+read_progress = refl
 
 -- START three times
 read_starts : read_row 24 (1 ∷ 2 ∷ 3 ∷ []) ≡ record { end = Some Okay; said = 13; now = 6000 }

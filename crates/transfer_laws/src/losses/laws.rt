@@ -1,6 +1,7 @@
 //! What follows from the definitions. Each function does nothing: what counts is its contract.
 ghost use Rattle.transfer_laws.specs.losses.Survives.{FewLossesKeepARoundClean, NumbersLoseFew, ReadsSurvive, RefusalsSurvive, StepsAreTurns, WritesSurvive};
 ghost use Rattle.transfer_laws.specs.losses.InTime.{ReadsEndInTime, WritesEndInTime};
+ghost use Rattle.transfer_laws.specs.losses.GivesUp.{ReadsEndSo, ReadsGiveUp};
 ghost use Rattle.transfer_client.specs.Read.{read_rules};
 ghost use Rattle.transfer_client.specs.Write.{write_rules};
 
@@ -14,6 +15,17 @@ pub fn reads_survive()
 /// each of its first four rounds has lost a word, or where its confirmation was lost.
 pub fn reads_end_in_time()
     ensures { ReadsEndInTime }
+{}
+
+/// A read gives up at a turn of time exactly where that is the fourth in a row without progress, whatever the service says and whatever
+/// is lost: with DEADLINE_EXCEEDED, or with the end that it has told. Progress is the first START_ACK and each piece that is kept.
+pub fn reads_give_up()
+    ensures { ReadsGiveUp }
+{}
+
+/// A read that has told its end ends so, within four turns of time, whatever is lost then: once it has kept all, with OK.
+pub fn reads_end_so()
+    ensures { ReadsEndSo }
 {}
 
 /// A write over such links ends OK so, whichever of its words they lose in the other rounds.
