@@ -63,16 +63,20 @@ impl<H: Handler> Table<H> {
         ensures passes { IfOk result (λ made. AreAll made.0 (IsNew made.0) made.1.items) }
     {
         match Shared::with(alloc, calls, n) {
-            Ok((shared, passes)) => {
-                let table = Table {
-                    shared,
-                    bells: Bells::new(),
-                    flushed: AtomicU64::new(0),
-                    others: n - 1,
-                };
-                Ok((table, passes))
-            }
+            Ok((shared, passes)) => Ok((Table::over(shared, n - 1), passes)),
             Err(_) => Err(AllocError),
+        }
+    }
+
+    // The table of a thread and so many others.
+    fn over(shared: Shared<H>, others: u32) -> Table<H>
+        ensures { result ≡ shared }
+    {
+        Table {
+            shared,
+            bells: Bells::new(),
+            flushed: AtomicU64::new(0),
+            others,
         }
     }
 
@@ -119,12 +123,17 @@ impl<H: Handler> Table<H> {
         ensures open { IsInputOpen self.now.base pass.new.view.known.seen pass.new.view.known.number }
     {
         let answer = self.shared.arrive(rt, pass, p, maker);
+        self.ring_for(&answer);
+        answer
+    }
+
+    // Rings for what an arrival left to do.
+    fn ring_for(&self, answer: &Result<Arrived, ArriveRefused>) {
         self.bells.pump.ring();
         self.bells.workers.ring_for_one();
         if let Ok(Arrived::Opened(_)) = answer {
             self.bells.workers.ring_for_one();
         }
-        answer
     }
 
     /// Each open call has an event more, for the workers; where nothing is left to run, they end.

@@ -1,5 +1,5 @@
 //! The writer: it makes the items that come through the ring, in their order.
-ghost use Rattle.std.specs.Prelude.{◌≡◌, ◌≢◌, ◌≤◌, true, false, [], ◌∷◌, is_some, IfErr, OnErr, OnOk};
+ghost use Rattle.std.specs.Prelude.{◌≡◌, ◌≢◌, ◌≤◌, true, false, [], ◌∷◌, is_some, IfErr, IfOk, OnErr, OnOk};
 ghost use Rattle.std.specs.Io.KnownBytes.{Appends};
 ghost use Rattle.link_io.specs.Causes.{Rose};
 ghost use Rattle.link_io.specs.Device.{AppendsSome};
@@ -29,7 +29,7 @@ use rpc_shared::session::item_log::ItemLog;
 use rpc_shared::session::parcel::Parcel;
 use rpc_shared::{Look, Pass};
 use rtrb::Consumer;
-use std::alloc::Global;
+use std::alloc::{AllocError, Global};
 use std::sync::Wait;
 
 /// Makes the items that come through the ring, until its end, a failure, or a halt of the table, and answers how many were made
@@ -143,14 +143,22 @@ fn send<O: Sink>(alloc: Global, packet: &Packet, output: &mut O) -> Result<(), W
     ensures later { O.faults output.old ≤ O.faults output.new }
     ensures open { O.finished output.new ≡ false }
 {
-    let mut frame = Vec::new(alloc);
-    if write_frame(alloc, packet, &mut frame).is_err() {
+    let Ok(frame) = frame_of(alloc, packet) else {
         return Err(Why::Memory);
-    }
+    };
     match write_whole(output, &frame) {
         Ok(()) => Ok(()),
         Err(_) => Err(Why::Sink),
     }
+}
+
+// The frame of a packet.
+fn frame_of(alloc: Global, packet: &Packet) -> Result<Vec<u8>, AllocError>
+    ensures { IfOk result (λ frame. frame.items ≡ frame_of_packet (message_of packet.now)) }
+{
+    let mut frame = Vec::new(alloc);
+    write_frame(alloc, packet, &mut frame)?;
+    Ok(frame)
 }
 
 // Waits for the next parcel, unless the table is halted.
