@@ -2,6 +2,7 @@
 ghost use Rattle.std.specs.Prelude.{◌≡◌, IfOk, false};
 ghost use Rattle.link_io.specs.LinkDevice.{IsUnused};
 
+mod calls;
 mod checks;
 mod refused;
 mod sockets;

@@ -15,11 +15,10 @@ use Rattle.live_client.specs.declared.ask.Live.{Live}
 use Rattle.live_client.specs.declared.ask.LiveAsk.{LiveAsk}
 use Rattle.live_client.specs.Ask.{live_setting, method_asked}
 use Rattle.live_client.specs.Live.{AskRan, Begins, Explains, IsLiveHistory}
-use Rattle.run_report.specs.LiveReport.{live_report}
-use Rattle.pw_run.specs.declared.client_command.ClientCommand.{ClientCommand}
+use Rattle.pw_run.specs.declared.client_text.Reported.{Reported}
 use Rattle.pw_run.specs.declared.outcome.Outcome.{Outcome}
 use Rattle.pw_run.specs.declared.outcome.Outcome.TheVariants.{NoMemory, SinkFault}
-use Rattle.pw_run.specs.Client.{AsksOverLink, DoesAsked, WritesClient, client_outcome, ended_outcome, told_of}
+use Rattle.pw_run.specs.Client.{AsksOverLink, DoesAsked, WritesClient, client_outcome, ended_outcome, text_of}
 use Rattle.pw_run.specs.Devices.{LinkDevices, devices}
 use Rattle.pw_run.specs.Writes.{WritesOrFails}
 
@@ -40,14 +39,14 @@ loud reason.JournalLimit ended other is = cc
 loud reason.Memory ended other is = other refl
 
 -- the text of a client was written, where it didn't want memory
-pub client_wrote : (command : ClientCommand) (l : Live) (old new : Option (List ℕ)) (failed_old failed_new : ℕ) (outcome : Outcome) → l.why ≢ reason.Memory
-    → WritesOrFails old new failed_old failed_new (live_report (told_of command l) l.why) (client_outcome l.why l.ended) outcome → WritesClient command l old new failed_old failed_new outcome
-client_wrote command l old new failed_old failed_new NoMemory some (inl written) = absurd (loud l.why l.ended some (sym written.0))
-client_wrote command l old new failed_old failed_new NoMemory some (inr failed) = absurd (not_sink failed.0)
+pub client_wrote : (reported : Reported) (l : Live) (old new : Option (List ℕ)) (failed_old failed_new : ℕ) (outcome : Outcome) → l.why ≢ reason.Memory
+    → WritesOrFails old new failed_old failed_new (text_of reported l) (client_outcome l.why l.ended) outcome → WritesClient reported l old new failed_old failed_new outcome
+client_wrote reported l old new failed_old failed_new NoMemory some (inl written) = absurd (loud l.why l.ended some (sym written.0))
+client_wrote reported l old new failed_old failed_new NoMemory some (inr failed) = absurd (not_sink failed.0)
   where
     not_sink : NoMemory ≡ SinkFault → ⊥
     not_sink is = cc
-client_wrote command l old new failed_old failed_new _ some writes = (some, writes)
+client_wrote reported l old new failed_old failed_new _ some writes = (some, writes)
 
 -- ---- what is done
 
@@ -72,7 +71,7 @@ does_asked asks before after l history begins explains ran ended at_end at_limit
 }
 
 -- a link was made, lent to a client and given back
-pub client_ran : (command : ClientCommand) (asks : LiveAsk) (left written_old written_new : Option (List ℕ)) (failed_old failed_new : ℕ) (held_old held_new : Option Stored)
+pub client_ran : (reported : Reported) (asks : LiveAsk) (left written_old written_new : Option (List ℕ)) (failed_old failed_new : ℕ) (held_old held_new : Option Stored)
     (links_old between links_new : Links) (moment_old moment_new : ℕ) (left_old sent_old left_new sent_new : Option (List ℕ))
     (in_before in_faults out_before out_faults : ℕ) (l : Live) (outcome : Outcome)
     → HandsOut links_old between left_old sent_old → links_old.faults ≤ between.faults → TakesBack between links_new left_new sent_new in_faults out_faults
@@ -80,9 +79,9 @@ pub client_ran : (command : ClientCommand) (asks : LiveAsk) (left written_old wr
     → DoesAsked asks (record { left = left_old; sent = sent_old; held = held_old; moment = moment_old })
     (record { left = left_new; sent = sent_new; held = held_new; moment = moment_new }) l
     → (l.why ≡ reason.Source → Rose in_before in_faults) → (l.why ≡ reason.Sink → Rose out_before out_faults)
-    → WritesClient command l written_old written_new failed_old failed_new outcome
-    → AsksOverLink command asks (devices left written_old failed_old held_old links_old moment_old) (devices left written_new failed_new held_new links_new moment_new) outcome
-client_ran command asks left written_old written_new failed_old failed_new held_old held_new links_old between links_new moment_old moment_new left_old sent_old left_new sent_new
+    → WritesClient reported l written_old written_new failed_old failed_new outcome
+    → AsksOverLink reported asks (devices left written_old failed_old held_old links_old moment_old) (devices left written_new failed_new held_new links_new moment_new) outcome
+client_ran reported asks left written_old written_new failed_old failed_new held_old held_new links_old between links_new moment_old moment_new left_old sent_old left_new sent_new
     in_before in_faults out_before out_faults l outcome handed later taken no_in no_out does source sink writes =
     inl (record {
       left_old = left_old;

@@ -1,3 +1,4 @@
+mod CallLemmas
 mod ChannelLemmas
 mod ClientLemmas
 mod CrewLemmas
@@ -8,6 +9,7 @@ mod LinkCounts
 mod LinkLemmas
 mod LinkRuns
 mod LoadSizes
+mod PayloadLemmas
 mod ServeLemmas
 mod ServedLemmas
 mod UnderWayLemmas

@@ -1,5 +1,8 @@
--- No words name both a recorded command and one on threads: their first words differ in the first two letters.
+-- No words name both a recorded command and one on threads, or one of them and a call: their first words differ in the first two
+-- letters.
 use Rattle.std.proofs.Common.{◌≡◌, ℕ, ◌+◌, ◌*◌, ◌==◌, ◌||◌, Bool, true, false, List, ◌∷◌, ap, sym, ◌∙◌}
+use Rattle.std.proofs.lemmas.Bool.{false≢true}
+use Rattle.pw_run.specs.declared.call_words.CallWords.{CallWords}
 use Rattle.pw_run.specs.declared.client_command.ClientCommand.TheVariants.{Get, Put, Watch}
 use Rattle.pw_run.specs.declared.command.Command.{Command}
 use Rattle.pw_run.specs.declared.command.Command.TheVariants.{Replay, Text, Load, Dump}
@@ -7,6 +10,7 @@ use Rattle.pw_run.specs.declared.command.Form.TheVariants.{Report, Raw, Journal}
 use Rattle.pw_run.specs.declared.text_command.TextCommand.TheVariants.{Check, Detoken, Link, Route}
 use Rattle.pw_run.specs.declared.live_command.LiveCommand.{LiveCommand}
 use Rattle.pw_run.specs.declared.live_command.LiveCommand.TheVariants.{Crew, Serve, Host, Bridge, Client}
+use Rattle.pw_run.specs.CallCommand.{words_of}
 use Rattle.pw_run.specs.Command.{IsCommand}
 use Rattle.pw_run.specs.LiveCommand.{IsLiveCommand}
 
@@ -49,3 +53,32 @@ not_both words command live first second = differ (sym (recorded_is words comman
   where
     differ : true ≡ false → ⊥
     differ is = cc
+
+-- ---- a call
+
+is_call_word : List (List ℕ) → Bool
+is_call_word words = letters words == 25441
+
+recorded_only : (words : List (List ℕ)) (c : CallWords) → words ≡ words_of c → is_recorded words ≡ false
+unfolding letters begin_recorded is_recorded
+recorded_only words c are = ap is_recorded are
+
+call_word_is : (words : List (List ℕ)) (c : CallWords) → words ≡ words_of c → is_call_word words ≡ true
+unfolding letters is_call_word
+call_word_is words c are = ap is_call_word are
+
+no_call_word : (words : List (List ℕ)) (command : LiveCommand) → IsLiveCommand words command → is_call_word words ≡ false
+unfolding letters is_call_word
+no_call_word words (Crew workers) is = ap is_call_word is.0
+no_call_word words (Serve workers connections) is = ap is_call_word is.1
+no_call_word words (Host workers) is = ap is_call_word is.1
+no_call_word words (Bridge at_right at_left) is = ap is_call_word is.2
+no_call_word words (Client (Get resource offset)) is = ap is_call_word is.1
+no_call_word words (Client (Put resource offset)) is = ap is_call_word is.1
+no_call_word words (Client (Watch number limit)) is = ap is_call_word is.1
+
+pub call_not_recorded : (words : List (List ℕ)) (c : CallWords) (command : Command) → words ≡ words_of c → IsCommand words command → ⊥
+call_not_recorded words c command are is = false≢true (sym (recorded_only words c are) ∙ recorded_is words command is)
+
+pub call_not_live : (words : List (List ℕ)) (c : CallWords) (command : LiveCommand) → words ≡ words_of c → IsLiveCommand words command → ⊥
+call_not_live words c command are is = false≢true (sym (no_call_word words command is) ∙ call_word_is words c are)

@@ -1,4 +1,4 @@
--- What a run of `get`, `put` or `watch` read, sent, wrote and stored.
+-- What a run of `get`, `put`, `watch` or `call` read, sent, wrote and stored.
 use Rattle.std.specs.Prelude.{◌≡◌, ◌≢◌, ℕ, ◌<◌, ◌≤◌, ◌⊎◌, true, false, if◌then◌else◌, nat_lt, min, List, length, Option, Some, None, IfSome, is_some, unwrap_or, option_map, Result, Ok, Err}
 use Rattle.std.specs.Io.KnownBytes.{IsAtEnd, Keeps}
 use Rattle.link_io.specs.declared.shelf.Shelf.{Shelf}
@@ -20,11 +20,14 @@ use Rattle.live_client.specs.Ask.{method_asked}
 use Rattle.live_client.specs.Live.{AskRan, Begins, Explains, IsLiveHistory}
 use Rattle.run_report.specs.declared.live_report.LiveLine.{LiveLine}
 use Rattle.run_report.specs.declared.live_report.LiveLine.TheVariants as told
+use Rattle.run_report.specs.CallReport.{call_report}
 use Rattle.run_report.specs.LiveReport.{live_line, live_report}
 use Rattle.pw_run.specs.declared.client.AskRefused.{AskRefused}
 use Rattle.pw_run.specs.declared.client.AskRefused.TheVariants.{Unfit, Memory}
 use Rattle.pw_run.specs.declared.client_command.ClientCommand.{ClientCommand}
 use Rattle.pw_run.specs.declared.client_command.ClientCommand.TheVariants.{Get, Put, Watch}
+use Rattle.pw_run.specs.declared.client_text.Reported.{Reported}
+use Rattle.pw_run.specs.declared.client_text.Reported.TheVariants.{Line, Messages}
 use Rattle.pw_run.specs.declared.outcome.Outcome.{Outcome}
 use Rattle.pw_run.specs.declared.outcome.Outcome.TheVariants.{Done, NoMemory, NotOkay, StoreFault}
 use Rattle.pw_run.specs.Crew.{DoesNothing}
@@ -88,15 +91,20 @@ pub record DoesAsked (ask : LiveAsk) (before after : LinkDevices) (l : Live) : T
   pub below : (l.why ≡ reason.Settled) ⊎ (l.why ≡ reason.Source) → l.read < INPUT_LIMIT
   pub full : l.why ≡ reason.JournalLimit → MAX_ENTRIES ≤ length l.journal.entries
 
+-- the text of what a client did: the line of what it was asked, or the messages of its call; and why it ended
+abbrev pub text_of : Reported → Live → List ℕ
+text_of (Line command) l = live_report (told_of command l) l.why
+text_of Messages l = call_report l.messages.items l.ended l.why
+
 -- What was written of a client: its text, whole or with an output that failed, or nothing for want of memory, be it that of the
 -- client or of the text.
-abbrev pub WritesClient : ClientCommand → Live → Option (List ℕ) → Option (List ℕ) → ℕ → ℕ → Outcome → Type 0
-WritesClient command l written_old written_new failed_old failed_new NoMemory = Keeps written_old written_new
-WritesClient command l written_old written_new failed_old failed_new outcome =
-    (l.why ≢ reason.Memory) × WritesOrFails written_old written_new failed_old failed_new (live_report (told_of command l) l.why) (client_outcome l.why l.ended) outcome
+abbrev pub WritesClient : Reported → Live → Option (List ℕ) → Option (List ℕ) → ℕ → ℕ → Outcome → Type 0
+WritesClient reported l written_old written_new failed_old failed_new NoMemory = Keeps written_old written_new
+WritesClient reported l written_old written_new failed_old failed_new outcome =
+    (l.why ≢ reason.Memory) × WritesOrFails written_old written_new failed_old failed_new (text_of reported l) (client_outcome l.why l.ended) outcome
 
 -- A link was made, the client did over it what it was asked, the ends were given back, and what came of it was written.
-pub record RunsClient (command : ClientCommand) (asks : LiveAsk) (before after : Devices) (outcome : Outcome) : Type 0 where
+pub record RunsClient (reported : Reported) (asks : LiveAsk) (before after : Devices) (outcome : Outcome) : Type 0 where
   pub left_old : Option (List ℕ)
   pub sent_old : Option (List ℕ)
   pub left_new : Option (List ℕ)
@@ -109,12 +117,12 @@ pub record RunsClient (command : ClientCommand) (asks : LiveAsk) (before after :
   pub source : did.why ≡ reason.Source → Rose 0 in_faults
   pub sink : did.why ≡ reason.Sink → Rose 0 out_faults
   pub unread : after.left ≡ before.left
-  pub writes : WritesClient command did before.written after.written before.failed after.failed outcome
+  pub writes : WritesClient reported did before.written after.written before.failed after.failed outcome
 
 -- a link was made and lent to the client, or there was none to be had
-abbrev pub AsksOverLink : ClientCommand → LiveAsk → Devices → Devices → Outcome → Type 0
-AsksOverLink command asks before after outcome =
-    RunsClient command asks before after outcome ⊎ (GivesBack Serve before after outcome ⊎ FailsToLink before after outcome)
+abbrev pub AsksOverLink : Reported → LiveAsk → Devices → Devices → Outcome → Type 0
+AsksOverLink reported asks before after outcome =
+    RunsClient reported asks before after outcome ⊎ (GivesBack Serve before after outcome ⊎ FailsToLink before after outcome)
 
 -- The text was written, whole or with an output that failed; or nothing for want of memory.
 abbrev pub WritesText : List ℕ → Outcome → Option (List ℕ) → Option (List ℕ) → Outcome → Type 0
@@ -128,7 +136,7 @@ pub record WritesAlone (text : List ℕ) (own : Outcome) (before after : Devices
 
 -- what was done where this is asked; a resource that can't be sent is told alone
 abbrev pub DoesFound : ClientCommand → Result LiveAsk LiveLine → Devices → Devices → Outcome → Type 0
-DoesFound command (Ok asks) before after outcome = AsksOverLink command asks before after outcome
+DoesFound command (Ok asks) before after outcome = AsksOverLink (Line command) asks before after outcome
 DoesFound command (Err line) before after outcome = WritesAlone (live_line line) NotOkay before after outcome
 
 abbrev pub DoesFoundOrNothing : ClientCommand → Result LiveAsk LiveLine → Devices → Devices → Outcome → Type 0

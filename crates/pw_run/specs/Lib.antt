@@ -1,4 +1,5 @@
 pub mod Bridge
+pub mod CallCommand
 pub mod Check
 pub mod Client
 pub mod ClientCommand
@@ -15,6 +16,7 @@ pub mod Live
 pub mod LiveCommand
 pub mod Load
 pub mod Outcome
+pub mod Payload
 pub mod Recorded
 pub mod Replay
 pub mod Route

@@ -5,6 +5,7 @@ use Rattle.pw_run.specs.declared.live_command.LiveCommand.{LiveCommand}
 use Rattle.pw_run.specs.declared.live_command.LiveCommand.TheVariants.{Crew, Serve, Host, Bridge, Client}
 use Rattle.pw_run.specs.declared.outcome.Outcome.{Outcome}
 use Rattle.pw_run.specs.Bridge.{DidBridge}
+use Rattle.pw_run.specs.CallCommand.{AsksForCall}
 use Rattle.pw_run.specs.Client.{DidClient}
 use Rattle.pw_run.specs.Crew.{DidCrew}
 use Rattle.pw_run.specs.Devices.{Devices}
@@ -33,4 +34,4 @@ IsClient words = (command : ClientCommand) × IsLiveCommand words (Client comman
 
 -- the command makes links. It reads no input, and its faults are those of the links
 abbrev pub MakesLinks : List (List ℕ) → Type 0
-MakesLinks words = IsServe words ⊎ (IsBridge words ⊎ IsClient words)
+MakesLinks words = IsServe words ⊎ (IsBridge words ⊎ (IsClient words ⊎ AsksForCall words))

@@ -11,7 +11,7 @@ ghost use Rattle.pw_run.specs.ClientCommand.{IsBounded};
 ghost use Rattle.pw_run.specs.Devices.{devices};
 ghost use Rattle.pw_run.specs.Outcome.{IsSilent};
 
-use crate::client_text::{write_alone, write_client, write_unlisted};
+use crate::client_text::{Reported, write_alone, write_client, write_unlisted};
 use crate::{ClientCommand, Outcome};
 use link_io::{Clock, Linker, Shelf, Sink, Store, StoreRefused};
 use live_client::{LiveAsk, live};
@@ -111,7 +111,17 @@ fn client_over<R: Threads + Wait + Sync, O: Sink, S: Store + Send, N: Linker, C:
     ensures store_later { S.faults store.old ≤ S.faults store.new }
 {
     match ask_of(command, shelf) {
-        Ok(ask) => ask_over_link(rt, alloc, path, command, ask, output, store, net, clock),
+        Ok(ask) => ask_over_link(
+            rt,
+            alloc,
+            path,
+            Reported::Line(command),
+            ask,
+            output,
+            store,
+            net,
+            clock,
+        ),
         Err(AskRefused::Unfit(line)) => write_alone(alloc, line, output),
         Err(AskRefused::Memory) => Outcome::NoMemory,
     }
@@ -169,12 +179,18 @@ fn unfit(resource: u32, from: u64, status: Status) -> AskRefused
     })
 }
 
-// Connects to a path, has the client do what it is asked, gives the ends back and writes what came of it.
-fn ask_over_link<R: Threads + Wait + Sync, O: Sink, S: Store + Send, N: Linker, C: Clock + Send>(
+/// Connects to a path, has the client do what it is asked, gives the ends back and writes what came of it.
+pub(crate) fn ask_over_link<
+    R: Threads + Wait + Sync,
+    O: Sink,
+    S: Store + Send,
+    N: Linker,
+    C: Clock + Send,
+>(
     rt: &R,
     alloc: Global,
     path: &str,
-    command: ClientCommand,
+    reported: Reported,
     ask: LiveAsk,
     output: &mut O,
     store: &mut S,
@@ -184,7 +200,7 @@ fn ask_over_link<R: Threads + Wait + Sync, O: Sink, S: Store + Send, N: Linker, 
     requires can { CanAsk ask }
     requires open { O.finished output.old ≡ false }
     ensures words { result ≢ BadWords }
-    ensures did { (left : Option (List ℕ)) → AsksOverLink command ask
+    ensures did { (left : Option (List ℕ)) → AsksOverLink reported ask
         (devices left (O.written output.old) (O.faults output.old) (S.holds store.old) (N.links net.old) (C.last clock.old))
         (devices left (O.written output.new) (O.faults output.new) (S.holds store.new) (N.links net.new) (C.last clock.new)) result }
     ensures silent { IsSilent result → output.new ≡ output.old }
@@ -204,6 +220,6 @@ fn ask_over_link<R: Threads + Wait + Sync, O: Sink, S: Store + Send, N: Linker, 
     net.back(link_in, link_out);
     match done {
         Err(_) => Outcome::NoMemory,
-        Ok(done) => write_client(alloc, command, &done, output),
+        Ok(done) => write_client(alloc, reported, &done, output),
     }
 }

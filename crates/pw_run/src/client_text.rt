@@ -1,10 +1,10 @@
 //! What is written of a client.
-ghost use Rattle.std.specs.Prelude.{◌≡◌, ◌≢◌, ◌≤◌, ◌⊎◌, false, None};
+ghost use Rattle.std.specs.Prelude.{◌≡◌, ◌≢◌, ◌≤◌, ◌⊎◌, false, None, IfOk, string_bytes};
 ghost use Rattle.link_io.specs.Causes.{Rose};
 ghost use Rattle.link_io.specs.declared.why.Why.TheVariants.{Source as Read, Sink as Link, Store as Depot};
 ghost use Rattle.pw_run.specs.declared.outcome.Outcome.TheVariants.{BadWords, LinkFault, NotOkay, SinkFault, SourceFault, StoreFault};
 ghost use Rattle.run_report.specs.LiveReport.{live_line, live_report};
-ghost use Rattle.pw_run.specs.Client.{WritesClient, WritesText, client_outcome, told_of};
+ghost use Rattle.pw_run.specs.Client.{WritesClient, WritesText, client_outcome, text_of, told_of};
 ghost use Rattle.pw_run.specs.Outcome.{IsSilent};
 
 use crate::writing::{write_out, write_text};
@@ -12,18 +12,27 @@ use crate::{ClientCommand, Outcome};
 use link_io::{Sink, Why};
 use live_client::Live;
 use rpc_ids::Status;
-use run_report::{LiveLine, live_line, live_text};
-use std::alloc::Global;
+use run_report::{LiveLine, call_text, live_line, live_text};
+use std::alloc::{AllocError, Global};
+
+/// What is told of a client.
+#[derive(Clone, Copy, Debug, PartialEq, Eq)]
+pub enum Reported {
+    /// The line of what this command asked.
+    Line(ClientCommand),
+    /// The messages of its call, and how that ended.
+    Messages,
+}
 
 /// Writes what came of a client.
 pub(crate) fn write_client<O: Sink>(
     alloc: Global,
-    command: ClientCommand,
+    reported: Reported,
     done: &Live,
     output: &mut O,
 ) -> Outcome
     requires open { O.finished output.old ≡ false }
-    ensures writes { WritesClient command done.now (O.written output.old) (O.written output.new) (O.faults output.old) (O.faults output.new) result }
+    ensures writes { WritesClient reported done.now (O.written output.old) (O.written output.new) (O.faults output.old) (O.faults output.new) result }
     ensures words { result ≢ BadWords }
     ensures link { result ≢ LinkFault }
     ensures silent { IsSilent result → output.new ≡ output.old }
@@ -35,12 +44,21 @@ pub(crate) fn write_client<O: Sink>(
     if done.why == Why::Memory {
         return Outcome::NoMemory;
     }
-    match live_text(alloc, told_of(command, done), done.why) {
+    match text_of(alloc, reported, done) {
         Err(_) => Outcome::NoMemory,
         Ok(text) => match write_out(output, text.as_bytes()) {
             Ok(()) => outcome_of(done.why, done.ended),
             Err(_) => Outcome::SinkFault,
         },
+    }
+}
+
+fn text_of(alloc: Global, reported: Reported, done: &Live) -> Result<String, AllocError>
+    ensures { IfOk result (λ text. string_bytes text ≡ text_of reported done.now) }
+{
+    match reported {
+        Reported::Line(command) => live_text(alloc, told_of(command, done), done.why),
+        Reported::Messages => call_text(alloc, &done.messages, done.ended, done.why),
     }
 }
 

@@ -4,6 +4,8 @@
 #![tactic(auto)]
 
 mod bridge;
+mod call;
+mod call_words;
 mod check;
 mod client;
 mod client_command;
@@ -22,6 +24,7 @@ mod load;
 mod no_store;
 mod nowhere;
 mod outcome;
+mod payload;
 mod recorded;
 mod replay;
 mod route;

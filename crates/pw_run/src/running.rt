@@ -1,12 +1,14 @@
-ghost use Rattle.std.specs.Prelude.{◌≡◌, ℕ, ◌≤◌, ◌↔◌, ◌⊎◌, false, map, string_bytes};
+ghost use Rattle.std.specs.Prelude.{◌≡◌, ℕ, ◌≤◌, ◌↔◌, ◌⊎◌, false, Option, map, string_bytes};
 ghost use Rattle.link_io.specs.Causes.{Rose};
 ghost use Rattle.link_io.specs.Reading.{ConsumesUpTo};
 ghost use Rattle.rpc_schedule.specs.declared.stream.TheConstants.{INPUT_LIMIT};
+ghost use Rattle.live_client.specs.declared.ask.Opening.{Opening};
 ghost use Rattle.pw_run.specs.declared.command.Command.{Command};
 ghost use Rattle.pw_run.specs.declared.command.Command.TheVariants.{Load};
 ghost use Rattle.pw_run.specs.declared.live_command.LiveCommand.{LiveCommand};
 ghost use Rattle.pw_run.specs.declared.outcome.Outcome.{Outcome};
 ghost use Rattle.pw_run.specs.declared.outcome.Outcome.TheVariants.{BadWords, LinkFault, SinkFault, SourceFault, StoreFault};
+ghost use Rattle.pw_run.specs.CallCommand.{DidCall, IsCall, IsNoCall};
 ghost use Rattle.pw_run.specs.Command.{IsCommand, IsNoCommand};
 ghost use Rattle.pw_run.specs.Devices.{devices};
 ghost use Rattle.pw_run.specs.Live.{DidLive, IsBridge, IsServe, MakesLinks};
@@ -15,6 +17,8 @@ ghost use Rattle.pw_run.specs.Outcome.{code_of, IsSilent};
 ghost use Rattle.pw_run.specs.Recorded.{Did, EndsWith, IsStoreless};
 
 use crate::bridge::bridge;
+use crate::call::call;
+use crate::call_words::CallWords;
 use crate::client::client;
 use crate::crew::crew;
 use crate::serve::serve;
@@ -26,7 +30,13 @@ use std::alloc::Global;
 use std::sync::Wait;
 use std::thread::Threads;
 
-#[tactic(auto, using(crate::proofs::WordLemmas::not_both))]
+#[tactic(auto, using(
+    crate::proofs::WordLemmas::not_both,
+    crate::proofs::WordLemmas::call_not_recorded,
+    crate::proofs::WordLemmas::call_not_live,
+    crate::proofs::CallLemmas::call_there,
+    crate::proofs::CallLemmas::call_links
+))]
 /// Runs the command that the words name, over a source, a sink, a store, a linker and a clock. The recorded commands are those of
 /// [`run_recorded`]; the others work on threads, and may wait. The gate stands at each run of a handler of theirs.
 ///
@@ -34,7 +44,7 @@ use std::thread::Threads;
 /// serves a number of connections in turn, each over the resources that the store lists then; `host` does so without a number, and
 /// what ends a connection for its own link or a limit doesn't end the run. `bridge` connects to two paths and
 /// lets frames go between the two links by their address. `get`, `put` and `watch` connect to a path, read a resource into the store,
-/// write one out of it, or watch a stream of messages. The answer is the program's exit status, as
+/// write one out of it, or watch a stream of messages; `call` calls a method by its names. The answer is the program's exit status, as
 /// [`Outcome::code`](crate::Outcome::code) tells it.
 pub fn run<
     R: Threads + Wait + Sync,
@@ -57,7 +67,7 @@ pub fn run<
 ) -> u8
     requires open { O.finished output.old ≡ false }
     ensures status { (outcome : Outcome) × (result ≡ code_of outcome) }
-    ensures words { (result ≡ code_of BadWords) ↔ (IsNoCommand (map string_bytes words.now) × IsNoLiveCommand (map string_bytes words.now)) }
+    ensures words { (result ≡ code_of BadWords) ↔ (IsNoCommand (map string_bytes words.now) × IsNoLiveCommand (map string_bytes words.now) × IsNoCall (map string_bytes words.now)) }
     ensures idle { result ≡ code_of BadWords →
         (input.new ≡ input.old) × (output.new ≡ output.old) × (store.new ≡ store.old) × (net.new ≡ net.old) × (clock.new ≡ clock.old) }
 
@@ -74,6 +84,10 @@ pub fn run<
     // What a command on threads read, sent, wrote and stored.
     ensures live { (command : LiveCommand) → IsLiveCommand (map string_bytes words.now) command →
         EndsWith result (DidLive command
+        (devices (I.left input.old) (O.written output.old) (O.faults output.old) (S.holds store.old) (N.links net.old) (C.last clock.old))
+        (devices (I.left input.new) (O.written output.new) (O.faults output.new) (S.holds store.new) (N.links net.new) (C.last clock.new))) }
+    ensures called { (opening : Opening) (limit : Option ℕ) → IsCall (map string_bytes words.now) opening limit →
+        EndsWith result (DidCall opening limit
         (devices (I.left input.old) (O.written output.old) (O.faults output.old) (S.holds store.old) (N.links net.old) (C.last clock.old))
         (devices (I.left input.new) (O.written output.new) (O.faults output.new) (S.holds store.new) (N.links net.new) (C.last clock.new))) }
     ensures linked { MakesLinks (map string_bytes words.now) → input.new ≡ input.old }
@@ -100,6 +114,9 @@ pub fn run<
     ensures store_later { S.faults store.old ≤ S.faults store.new }
     ensures linker_later { (N.links net.old).faults ≤ (N.links net.new).faults }
 {
+    if let Some(words) = CallWords::of(words) {
+        return call(rt, alloc, words, output, store, net, clock).code();
+    }
     match LiveCommand::of(words) {
         None => run_recorded(alloc, words, input, output, store),
         Some(LiveCommand::Crew { workers }) => {

@@ -90,6 +90,18 @@ fn fetch<R: Threads + Wait + Sync + Net + Files + time::Clock>(
     Ok((ran, came))
 }
 
+// Calls Count once the socket's file stands.
+fn count<R: Threads + Wait + Sync + Net + Files + time::Clock>(
+    rt: &R,
+    alloc: Global,
+    path: &str,
+) -> Result<Ran, AllocError> {
+    await_file(rt, path);
+    let mut store = store_of(alloc, None)?;
+    let line = format!(in alloc; "call {path} demo.Demo Count server 03")?;
+    run_at(rt, alloc, line.as_str(), &mut store)
+}
+
 #[test]
 fn a_resource_is_fetched_over_a_socket(rt: HostRuntime) -> Result<(), Fail> {
     let alloc = rt.alloc();
@@ -107,5 +119,29 @@ fn a_resource_is_fetched_over_a_socket(rt: HostRuntime) -> Result<(), Fail> {
     status_is(&rt, "serve", served?, 0);
     told(&rt, "get", &ran, 0, b"get 7 0 OK 3000\ndone\n");
     is_so(&rt, "all came", came);
+    Ok(())
+}
+
+#[test]
+fn a_method_is_called_over_a_socket(rt: HostRuntime) -> Result<(), Fail> {
+    let alloc = rt.alloc();
+    let now = time::Clock::since_1970(&rt)?.as_nanos();
+    let base = env::temp_dir(&rt)?;
+    let base = base.as_str();
+    let path = format!(in alloc; "{base}/pw-run-call-{now}")?;
+    let path = path.as_str();
+    let (served, counted) = join(
+        &rt,
+        || serve_one(&rt, alloc, path),
+        || count(&rt, alloc, path),
+    );
+    status_is(&rt, "serve", served?, 0);
+    told(
+        &rt,
+        "call",
+        &counted?,
+        0,
+        b"message 01\nmessage 02\nmessage 03\ncall OK 3\ndone\n",
+    );
     Ok(())
 }

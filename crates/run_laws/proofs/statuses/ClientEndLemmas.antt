@@ -7,16 +7,19 @@ use Rattle.link_io.specs.declared.why.Why.TheVariants as reason
 use Rattle.rpc_ids.specs.declared.status.Status.{Status}
 use Rattle.rpc_ids.specs.declared.status.Status.TheVariants.{Okay}
 use Rattle.live_client.specs.declared.ask.LiveAsk.{LiveAsk}
+use Rattle.live_client.specs.declared.ask.Opening.{Opening}
 use Rattle.run_report.specs.declared.live_report.LiveLine.{LiveLine}
 use Rattle.run_report.specs.LiveReport.{live_line}
 use Rattle.pw_run.specs.declared.client_command.ClientCommand.{ClientCommand}
+use Rattle.pw_run.specs.declared.client_text.Reported.TheVariants.{Line}
 use Rattle.pw_run.specs.declared.outcome.Outcome.{Outcome}
 use Rattle.pw_run.specs.declared.outcome.Outcome.TheVariants.{Done, NoMemory, BadWords, SourceFault, SinkFault, StoreFault, LinkFault, BadLine, InputLimit, JournalLimit, FrameLimit, NotOkay}
+use Rattle.pw_run.specs.CallCommand.{DidCall}
 use Rattle.pw_run.specs.Client.{AsksOverLink, DidClient, DoesFoundOrNothing, asked, client_outcome, ended_outcome}
 use Rattle.pw_run.specs.Devices.{Devices}
 use Rattle.pw_run.specs.Outcome.{code_of}
 use Rattle.pw_run.specs.Writes.{Writes}
-use Rattle.run_laws.specs.statuses.ClientEnds.{Asks, EndedOkay, EndedOtherwise, HasNoneToSend, NotOkayIsOther, OkayIsOkay}
+use Rattle.run_laws.specs.statuses.ClientEnds.{Asks, CalledMeansOkay, CalledOkay, CalledOtherwise, EndedOkay, EndedOtherwise, HasNoneToSend, NotOkayIsOther, OkayIsOkay, OtherMeansOther}
 use Rattle.run_laws.proofs.statuses.StatusLemmas.{done_of, only_writes, own_done, own_outcome}
 
 -- an outcome with the status of one that isn't OK is that one
@@ -78,7 +81,7 @@ not_store is = cc
 not_other : Done ≡ NotOkay → ⊥
 not_other is = cc
 
-okay_over : (command : ClientCommand) (asks : LiveAsk) (before after : Devices) → Asks command before asks → AsksOverLink command asks before after Done
+okay_over : (command : ClientCommand) (asks : LiveAsk) (before after : Devices) → Asks command before asks → AsksOverLink (Line command) asks before after Done
     → EndedOkay command before after
 okay_over command asks before after by (inl run) =
     let so = okay_of run.did.why run.did.ended (own_done before.written after.written _ (client_outcome run.did.why run.did.ended) (only_writes _ _ _ _ _ _ _ run.writes.1)) in
@@ -118,7 +121,7 @@ linked is = cc
 listed : NotOkay ≡ StoreFault → ⊥
 listed is = cc
 
-other_over : (command : ClientCommand) (asks : LiveAsk) (before after : Devices) → Asks command before asks → AsksOverLink command asks before after NotOkay
+other_over : (command : ClientCommand) (asks : LiveAsk) (before after : Devices) → Asks command before asks → AsksOverLink (Line command) asks before after NotOkay
     → EndedOtherwise command before after
 other_over command asks before after by (inl run) =
     let so = other_of run.did.why run.did.ended (other_own before.written after.written _ (client_outcome run.did.why run.did.ended) (only_writes _ _ _ _ _ _ _ run.writes.1)) in
@@ -141,3 +144,29 @@ other_client command before after (inr (inr nothing)) = absurd (silent nothing.m
 pub not_okay_is_other : NotOkayIsOther
 not_okay_is_other command status before after ends is =
     other_client command before after (subst (DidClient command before after) (not_okay_of ends.0 (sym ends.1 ∙ is)) ends.2)
+
+-- ---- a call
+
+call_okay : (opening : Opening) (limit : Option ℕ) (before after : Devices) → DidCall opening limit before after Done → CalledOkay opening limit before after
+call_okay opening limit before after (inl (inl run)) =
+    let so = okay_of run.did.why run.did.ended (own_done before.written after.written _ (client_outcome run.did.why run.did.ended) (only_writes _ _ _ _ _ _ _ run.writes.1)) in
+    record { run = run; settled = so.0; okay = so.1 }
+call_okay opening limit before after (inl (inr (inl given))) = absurd (not_memory given.memory)
+call_okay opening limit before after (inl (inr (inr fails))) = absurd (not_link fails.fault)
+call_okay opening limit before after (inr nothing) = absurd (not_memory nothing.memory)
+
+pub called_means_okay : CalledMeansOkay
+called_means_okay opening limit status before after ends is =
+    call_okay opening limit before after (subst (DidCall opening limit before after) (done_of ends.0 (sym ends.1 ∙ is)) ends.2)
+
+call_other : (opening : Opening) (limit : Option ℕ) (before after : Devices) → DidCall opening limit before after NotOkay → CalledOtherwise opening limit before after
+call_other opening limit before after (inl (inl run)) =
+    let so = other_of run.did.why run.did.ended (other_own before.written after.written _ (client_outcome run.did.why run.did.ended) (only_writes _ _ _ _ _ _ _ run.writes.1)) in
+    record { run = run; settled = so.0; other = so.1 }
+call_other opening limit before after (inl (inr (inl given))) = absurd (silent given.memory)
+call_other opening limit before after (inl (inr (inr fails))) = absurd (linked fails.fault)
+call_other opening limit before after (inr nothing) = absurd (silent nothing.memory)
+
+pub other_means_other : OtherMeansOther
+other_means_other opening limit status before after ends is =
+    call_other opening limit before after (subst (DidCall opening limit before after) (not_okay_of ends.0 (sym ends.1 ∙ is)) ends.2)

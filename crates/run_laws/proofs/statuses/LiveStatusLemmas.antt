@@ -23,13 +23,15 @@ use Rattle.run_report.specs.declared.live_report.LiveLine.{LiveLine}
 use Rattle.run_report.specs.ConnectionReport.{connection_report}
 use Rattle.run_report.specs.LiveReport.{live_line, live_report}
 use Rattle.pw_run.specs.declared.client_command.ClientCommand.{ClientCommand}
+use Rattle.pw_run.specs.declared.client_text.Reported.{Reported}
+use Rattle.pw_run.specs.declared.client_text.Reported.TheVariants.{Line}
 use Rattle.pw_run.specs.declared.live_command.LiveCommand.TheVariants.{Crew, Serve, Host, Bridge, Client}
 use Rattle.pw_run.specs.declared.live_command.TheConstants.{MAX_HOSTED}
 use Rattle.pw_run.specs.declared.outcome.Outcome.{Outcome}
 use Rattle.pw_run.specs.declared.outcome.Outcome.TheVariants.{Done, NoMemory, BadWords, SourceFault, SinkFault, StoreFault, LinkFault, BadLine, InputLimit, JournalLimit, FrameLimit, NotOkay}
 use Rattle.pw_run.specs.declared.way.Way.TheVariants as way
 use Rattle.pw_run.specs.Bridge.{DidBridge}
-use Rattle.pw_run.specs.Client.{AsksOverLink, DidClient, DoesAsked, DoesFoundOrNothing, RunsClient, WritesClient, WritesText, asked, client_outcome, ended_outcome, told_of}
+use Rattle.pw_run.specs.Client.{AsksOverLink, DidClient, DoesAsked, DoesFoundOrNothing, RunsClient, WritesClient, WritesText, asked, client_outcome, ended_outcome, text_of}
 use Rattle.pw_run.specs.Crew.{DidCrew, RunsCrew}
 use Rattle.pw_run.specs.Devices.{Devices, LinkDevices, with_link}
 use Rattle.pw_run.specs.LinkServed.{FindsNoShelf, ServesLink, ServesListed, WritesEnded, WritesServed}
@@ -500,21 +502,21 @@ text_wrote text own old new FrameLimit writes = inr writes
 text_wrote text own old new NotOkay writes = inr writes
 
 -- the same of a client
-client_wrote : (command : ClientCommand) (l : Live) (old new : Option (List ℕ)) (failed_old failed_new : ℕ) (outcome : Outcome)
-    → WritesClient command l old new failed_old failed_new outcome
-    → (outcome ≡ NoMemory) ⊎ ((l.why ≢ reason.Memory) × Writes old new (live_report (told_of command l) l.why) (client_outcome l.why l.ended) outcome)
-client_wrote command l old new failed_old failed_new NoMemory writes = inl refl
-client_wrote command l old new failed_old failed_new Done writes = inr (writes.0, only_writes _ _ _ _ _ _ _ writes.1)
-client_wrote command l old new failed_old failed_new BadWords writes = inr (writes.0, only_writes _ _ _ _ _ _ _ writes.1)
-client_wrote command l old new failed_old failed_new SourceFault writes = inr (writes.0, only_writes _ _ _ _ _ _ _ writes.1)
-client_wrote command l old new failed_old failed_new SinkFault writes = inr (writes.0, only_writes _ _ _ _ _ _ _ writes.1)
-client_wrote command l old new failed_old failed_new StoreFault writes = inr (writes.0, only_writes _ _ _ _ _ _ _ writes.1)
-client_wrote command l old new failed_old failed_new LinkFault writes = inr (writes.0, only_writes _ _ _ _ _ _ _ writes.1)
-client_wrote command l old new failed_old failed_new BadLine writes = inr (writes.0, only_writes _ _ _ _ _ _ _ writes.1)
-client_wrote command l old new failed_old failed_new InputLimit writes = inr (writes.0, only_writes _ _ _ _ _ _ _ writes.1)
-client_wrote command l old new failed_old failed_new JournalLimit writes = inr (writes.0, only_writes _ _ _ _ _ _ _ writes.1)
-client_wrote command l old new failed_old failed_new FrameLimit writes = inr (writes.0, only_writes _ _ _ _ _ _ _ writes.1)
-client_wrote command l old new failed_old failed_new NotOkay writes = inr (writes.0, only_writes _ _ _ _ _ _ _ writes.1)
+client_wrote : (reported : Reported) (l : Live) (old new : Option (List ℕ)) (failed_old failed_new : ℕ) (outcome : Outcome)
+    → WritesClient reported l old new failed_old failed_new outcome
+    → (outcome ≡ NoMemory) ⊎ ((l.why ≢ reason.Memory) × Writes old new (text_of reported l) (client_outcome l.why l.ended) outcome)
+client_wrote reported l old new failed_old failed_new NoMemory writes = inl refl
+client_wrote reported l old new failed_old failed_new Done writes = inr (writes.0, only_writes _ _ _ _ _ _ _ writes.1)
+client_wrote reported l old new failed_old failed_new BadWords writes = inr (writes.0, only_writes _ _ _ _ _ _ _ writes.1)
+client_wrote reported l old new failed_old failed_new SourceFault writes = inr (writes.0, only_writes _ _ _ _ _ _ _ writes.1)
+client_wrote reported l old new failed_old failed_new SinkFault writes = inr (writes.0, only_writes _ _ _ _ _ _ _ writes.1)
+client_wrote reported l old new failed_old failed_new StoreFault writes = inr (writes.0, only_writes _ _ _ _ _ _ _ writes.1)
+client_wrote reported l old new failed_old failed_new LinkFault writes = inr (writes.0, only_writes _ _ _ _ _ _ _ writes.1)
+client_wrote reported l old new failed_old failed_new BadLine writes = inr (writes.0, only_writes _ _ _ _ _ _ _ writes.1)
+client_wrote reported l old new failed_old failed_new InputLimit writes = inr (writes.0, only_writes _ _ _ _ _ _ _ writes.1)
+client_wrote reported l old new failed_old failed_new JournalLimit writes = inr (writes.0, only_writes _ _ _ _ _ _ _ writes.1)
+client_wrote reported l old new failed_old failed_new FrameLimit writes = inr (writes.0, only_writes _ _ _ _ _ _ _ writes.1)
+client_wrote reported l old new failed_old failed_new NotOkay writes = inr (writes.0, only_writes _ _ _ _ _ _ _ writes.1)
 
 ended_so : (ended : Option Status) (outcome : Outcome) → outcome ≡ ended_outcome ended → EndsSo outcome ⊎ (outcome ≡ NotOkay)
 ended_so (Some Okay) outcome is = inl (inl is)
@@ -533,19 +535,19 @@ module _ (asks : LiveAsk) (before after : LinkDevices) (input : List ℕ) (left 
       let b = does.begins in absurd (not_taken before.left after.left input b.bytes INPUT_LIMIT left b.taken (b.count ∙ does.at_limit same) short)
   by_reason reason.JournalLimit outcome same other is none = inr (is, same)
 
-  client_ends : (command : ClientCommand) (old new : Option (List ℕ)) (failed_old failed_new : ℕ) (outcome : Outcome)
-      → WritesClient command l old new failed_old failed_new outcome → Blameless outcome → ClientSo outcome (l.why ≡ reason.JournalLimit)
-  client_ends command old new failed_old failed_new outcome writes none = at (client_wrote command l old new failed_old failed_new outcome writes)
+  client_ends : (reported : Reported) (old new : Option (List ℕ)) (failed_old failed_new : ℕ) (outcome : Outcome)
+      → WritesClient reported l old new failed_old failed_new outcome → Blameless outcome → ClientSo outcome (l.why ≡ reason.JournalLimit)
+  client_ends reported old new failed_old failed_new outcome writes none = at (client_wrote reported l old new failed_old failed_new outcome writes)
     where
-      at : (outcome ≡ NoMemory) ⊎ ((l.why ≢ reason.Memory) × Writes old new (live_report (told_of command l) l.why) (client_outcome l.why l.ended) outcome)
+      at : (outcome ≡ NoMemory) ⊎ ((l.why ≢ reason.Memory) × Writes old new (text_of reported l) (client_outcome l.why l.ended) outcome)
           → ClientSo outcome (l.why ≡ reason.JournalLimit)
       at (inl memory) = inl (inl (inr memory))
-      at (inr did) = by_reason l.why outcome refl did.0 (own_outcome old new (live_report (told_of command l) l.why) (client_outcome l.why l.ended) outcome none.sink did.1) none
+      at (inr did) = by_reason l.why outcome refl did.0 (own_outcome old new (text_of reported l) (client_outcome l.why l.ended) outcome none.sink did.1) none
 
-full_client : (command : ClientCommand) (asks : LiveAsk) (before after : Devices) (outcome : Outcome) (run : RunsClient command asks before after outcome)
+full_client : (command : ClientCommand) (asks : LiveAsk) (before after : Devices) (outcome : Outcome) (run : RunsClient (Line command) asks before after outcome)
     → Asks command before asks → outcome ≡ JournalLimit → run.did.why ≡ reason.JournalLimit → ClientFills command before after
 full_client command asks before after outcome run by is full =
-    subst (λ o. (r : RunsClient command asks before after o) → r.did.why ≡ reason.JournalLimit → ClientFills command before after) (sym is)
+    subst (λ o. (r : RunsClient (Line command) asks before after o) → r.did.why ≡ reason.JournalLimit → ClientFills command before after) (sym is)
     (λ r why. record { asks = asks; by = by; run = r; full = why }) run full
 
 -- where a client is asked nothing it makes no link
@@ -567,19 +569,19 @@ client_well command before after outcome inputs (inr (inl told)) none = at (text
     at (inr did) = absurd (none.store (own_outcome before.written after.written (live_report None reason.Store) StoreFault outcome none.sink did))
 client_well command before after outcome inputs (inl shelf) none = found (asked command shelf.shelf) refl shelf.does
   where
-    ran : (asks : LiveAsk) → Asks command before asks → Short 1 before.links ⊎ AsksNothing command before → RunsClient command asks before after outcome
+    ran : (asks : LiveAsk) → Asks command before asks → Short 1 before.links ⊎ AsksNothing command before → RunsClient (Line command) asks before after outcome
         → ClientSo outcome (ClientFills command before after)
     ran asks by (inr nothing) run = absurd (not_asked command before asks nothing by)
     ran asks by (inl short) run =
         let link = handed 0 before.links run.lent.between run.left_old run.sent_old short run.lent.handed in
         at (client_ends asks (with_link before run.left_old run.sent_old) (with_link after run.left_new run.sent_new) link.input link.left_is link.short run.did run.does
-        command before.written after.written before.failed after.failed outcome run.writes none)
+        (Line command) before.written after.written before.failed after.failed outcome run.writes none)
       where
         at : ClientSo outcome (run.did.why ≡ reason.JournalLimit) → ClientSo outcome (ClientFills command before after)
         at (inl so) = inl so
         at (inr full) = inr (full.0, full_client command asks before after outcome run by full.0 full.1)
 
-    over : (asks : LiveAsk) → Asks command before asks → AsksOverLink command asks before after outcome → ClientSo outcome (ClientFills command before after)
+    over : (asks : LiveAsk) → Asks command before asks → AsksOverLink (Line command) asks before after outcome → ClientSo outcome (ClientFills command before after)
     over asks by (inl run) = ran asks by inputs run
     over asks by (inr (inl given)) = inl (inl (inr given.memory))
     over asks by (inr (inr fails)) = absurd (none.linker fails.fault)

@@ -14,6 +14,7 @@ use Rattle.demo_services.specs.DemoRule.{demo_rule}
 use Rattle.live_client.specs.declared.ask.LiveAsk.{LiveAsk}
 use Rattle.run_report.specs.declared.live_report.LiveLine.{LiveLine}
 use Rattle.pw_run.specs.declared.client_command.ClientCommand.{ClientCommand}
+use Rattle.pw_run.specs.declared.client_text.Reported.TheVariants.{Line}
 use Rattle.pw_run.specs.declared.command.Command.{Command}
 use Rattle.pw_run.specs.declared.command.Command.TheVariants.{Replay, Text, Load, Dump}
 use Rattle.pw_run.specs.declared.live_command.LiveCommand.{LiveCommand}
@@ -128,7 +129,7 @@ pub record ServeFills (workers connections : ℕ) (before after : Devices) : Typ
 pub record ClientFills (command : ClientCommand) (before after : Devices) : Type 0 where
   pub asks : LiveAsk
   pub by : Asks command before asks
-  pub run : RunsClient command asks before after outcome.JournalLimit
+  pub run : RunsClient (Line command) asks before after outcome.JournalLimit
   pub full : run.did.why ≡ JournalLimit
 
 -- a run whose journal was full has its own status

@@ -1,6 +1,6 @@
 //! What follows from the definitions. Each function does nothing: what counts is its contract.
 ghost use Rattle.run_laws.specs.statuses.CalmCrews.{CrewsWriteAlike, LoadsAreWrittenAlike, NoCrewSizeMatters};
-ghost use Rattle.run_laws.specs.statuses.ClientEnds.{NotOkayIsOther, OkayIsOkay};
+ghost use Rattle.run_laws.specs.statuses.ClientEnds.{CalledMeansOkay, NotOkayIsOther, OkayIsOkay, OtherMeansOther};
 ghost use Rattle.run_laws.specs.statuses.Statuses.{BridgeHadRoom, ClientHadRoom, CrewHadRoom, LiveEndWell, RecordedEndWell, RecordedHadRoom, ServeHadRoom};
 
 /// A run of `crew` over a calm input that ends with status 0 writes the report of the history of one thread.
@@ -38,4 +38,10 @@ pub fn commands_on_threads_end_well()
 pub fn clients_tell_how_they_ended()
     ensures okay { OkayIsOkay }
     ensures other { NotOkayIsOther }
+{}
+
+/// A call that ended with status 0 ended OK, and one with 9 otherwise; its link was read to the end.
+pub fn calls_tell_how_they_ended()
+    ensures okay { CalledMeansOkay }
+    ensures other { OtherMeansOther }
 {}

@@ -12,7 +12,7 @@ returns-in-Ok-done-clause-did g c left =
     let did = c.in-Ok-done.ensures in
     let link_in = c.live-done.new.link_in in
     let link_out = c.live-done.new.link_out in
-    client_ran c.args.command c.args.ask left (written c.args.output.now) (written c.write_client.new.output) (g.O.Sink.faults c.args.output.now)
+    client_ran c.args.reported c.args.ask left (written c.args.output.now) (written c.write_client.new.output) (g.O.Sink.faults c.args.output.now)
     (g.O.Sink.faults c.write_client.new.output) (holds c.args.store.now) (holds c.live-done.new.store)
     (links c.args.net.now) (links c.connect.new.self) (links c.back.new.self) (last c.args.clock.now) (last c.live-done.new.clock)
     (g.N.In.Source.left c.in-Ok.link_in) (g.N.Out.Sink.written c.in-Ok.link_out) (g.N.In.Source.left link_in) (g.N.Out.Sink.written link_out)

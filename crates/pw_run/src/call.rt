@@ -1,0 +1,86 @@
+//! The command `call`: a client opens a call of a method by its names, and its messages are written.
+ghost use Rattle.std.specs.Prelude.{◌≡◌, ◌≢◌, ℕ, ◌≤◌, ◌⊎◌, false, List, Option, IfOk};
+ghost use Rattle.link_io.specs.Causes.{Rose};
+ghost use Rattle.live_client.specs.Ask.{CanOpen};
+ghost use Rattle.live_client.specs.declared.ask.Opening.{Opening as Opened};
+ghost use Rattle.pw_run.specs.declared.outcome.Outcome.TheVariants.{BadWords, LinkFault, SinkFault, SourceFault, StoreFault};
+ghost use Rattle.pw_run.specs.CallCommand.{CanCall, DidCall, TellsOpening};
+ghost use Rattle.pw_run.specs.Devices.{devices};
+ghost use Rattle.pw_run.specs.Outcome.{IsSilent};
+
+use crate::Outcome;
+use crate::call_words::CallWords;
+use crate::client::ask_over_link;
+use crate::client_text::Reported;
+use crate::payload::read_payload;
+use bytes::Bytes;
+use link_io::{Clock, Linker, Sink, Store};
+use live_client::{LiveAsk, MAX_MESSAGES, Opening};
+use std::alloc::{AllocError, Global};
+use std::sync::Wait;
+use std::thread::Threads;
+
+#[tactic(auto, using(crate::proofs::CallLemmas::limit_fits))]
+/// Connects to the path, opens the call that the words tell, and writes what came of it.
+pub(crate) fn call<R: Threads + Wait + Sync, O: Sink, S: Store + Send, N: Linker, C: Clock + Send>(
+    rt: &R,
+    alloc: Global,
+    words: CallWords<'_>,
+    output: &mut O,
+    store: &mut S,
+    net: &mut N,
+    clock: &mut C,
+) -> Outcome
+    requires can { CanCall words }
+    requires open { O.finished output.old ≡ false }
+    ensures words { result ≢ BadWords }
+    ensures did { (left : Option (List ℕ)) (opening : Opened) → TellsOpening words.entry opening → DidCall opening words.entry.limit
+        (devices left (O.written output.old) (O.faults output.old) (S.holds store.old) (N.links net.old) (C.last clock.old))
+        (devices left (O.written output.new) (O.faults output.new) (S.holds store.new) (N.links net.new) (C.last clock.new)) result }
+    ensures silent { IsSilent result → output.new ≡ output.old }
+    ensures source { result ≡ SourceFault → Rose (N.links net.old).in_faults (N.links net.new).in_faults }
+    ensures sink { result ≡ SinkFault →
+        Rose (N.links net.old).out_faults (N.links net.new).out_faults ⊎ Rose (O.faults output.old) (O.faults output.new) }
+    ensures store { result ≡ StoreFault → Rose (S.faults store.old) (S.faults store.new) }
+    ensures linker { result ≡ LinkFault → Rose (N.links net.old).faults (N.links net.new).faults }
+    ensures linker_later { (N.links net.old).faults ≤ (N.links net.new).faults }
+    ensures sink_later { O.faults output.old ≤ O.faults output.new }
+    ensures store_later { S.faults store.old ≤ S.faults store.new }
+{
+    let Ok(opening) = opening_of(alloc, words) else {
+        return Outcome::NoMemory;
+    };
+    let ask = LiveAsk::Call {
+        opening,
+        limit: words.limit.unwrap_or(MAX_MESSAGES),
+    };
+    ask_over_link(
+        rt,
+        alloc,
+        words.path,
+        Reported::Messages,
+        ask,
+        output,
+        store,
+        net,
+        clock,
+    )
+}
+
+#[tactic(auto, using(
+    crate::proofs::CallLemmas::not_long,
+    crate::proofs::CallLemmas::opening_same
+))]
+// The opening that the words tell.
+fn opening_of(alloc: Global, words: CallWords<'_>) -> Result<Opening, AllocError>
+    requires { CanCall words }
+    ensures can { IfOk result CanOpen }
+    ensures only { IfOk result (λ opening. (other : Opened) → TellsOpening words.entry other → opening ≡ other) }
+{
+    Ok(Opening {
+        service: Bytes::copy_from_slice(alloc, words.service.as_bytes())?,
+        method: Bytes::copy_from_slice(alloc, words.method.as_bytes())?,
+        kind: words.kind,
+        payload: read_payload(alloc, words.payload)?,
+    })
+}
