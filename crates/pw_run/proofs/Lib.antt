@@ -3,6 +3,7 @@ mod ChannelLemmas
 mod ClientLemmas
 mod CrewLemmas
 mod DemoSizes
+mod FirstWords
 mod FullLemmas
 mod GoodCalls
 mod LinkCounts

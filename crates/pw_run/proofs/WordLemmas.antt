@@ -36,7 +36,7 @@ recorded_is words (Text Detoken) is = ap is_recorded is
 recorded_is words (Text Link) is = ap is_recorded is
 recorded_is words (Text Route) is = ap is_recorded is
 recorded_is words (Load calls seed) is = ap is_recorded is.0
-recorded_is words Dump is = ap is_recorded is
+recorded_is words (Dump names) is = ap is_recorded is.1
 
 on_threads_is : (words : List (List ℕ)) (command : LiveCommand) → IsLiveCommand words command → is_recorded words ≡ false
 unfolding letters begin_recorded is_recorded

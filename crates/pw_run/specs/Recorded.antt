@@ -1,6 +1,7 @@
 -- What a run of each recorded command read, wrote and stored.
-use Rattle.std.specs.Prelude.{◌≡◌, ℕ, ◌≤◌, List, Option}
+use Rattle.std.specs.Prelude.{◌≡◌, ℕ, ◌≤◌, List, length, Option}
 use Rattle.link_io.specs.Stored.{Stored}
+use Rattle.stream_dump.specs.declared.named.TheConstants.{MAX_NAMED}
 use Rattle.pw_run.specs.declared.command.Command.{Command}
 use Rattle.pw_run.specs.declared.command.Command.TheVariants.{Replay, Text, Load, Dump}
 use Rattle.pw_run.specs.declared.command.TheConstants.{MAX_LOAD}
@@ -19,8 +20,8 @@ Did (Text command) left_old left_new written_old written_new store_old store_new
     DidText command left_old left_new written_old written_new outcome
 Did (Load calls seed) left_old left_new written_old written_new store_old store_new outcome =
     DidLoad calls seed written_old written_new outcome
-Did Dump left_old left_new written_old written_new store_old store_new outcome =
-    DidDump left_old left_new written_old written_new outcome
+Did (Dump names) left_old left_new written_old written_new store_old store_new outcome =
+    DidDump names left_old left_new written_old written_new outcome
 
 -- the exit status is that of an outcome of which this holds
 abbrev pub EndsWith : ℕ → (Outcome → Type 0) → Type 0
@@ -31,9 +32,10 @@ abbrev pub IsStoreless : Command → Type 0
 IsStoreless (Replay form) = ⊥
 IsStoreless (Text command) = Unit {0}
 IsStoreless (Load calls seed) = Unit {0}
-IsStoreless Dump = Unit {0}
+IsStoreless (Dump names) = Unit {0}
 
--- a load has at most 30,000 calls
+-- a load has at most 30,000 calls, and a dump is given at most 64 names
 abbrev pub Fits : Command → Type 0
 Fits (Load calls seed) = calls ≤ MAX_LOAD
+Fits (Dump names) = length names ≤ MAX_NAMED
 Fits _ = Unit {0}

@@ -65,7 +65,7 @@ pub fn run_recorded<I: Source, O: Sink, S: Store>(
 
 fn run<I: Source, O: Sink, S: Store>(
     alloc: Global,
-    command: Command,
+    command: Command<'_>,
     input: &mut I,
     output: &mut O,
     store: &mut S,
@@ -75,10 +75,10 @@ fn run<I: Source, O: Sink, S: Store>(
     ensures words { result ≢ BadWords }
     ensures link { result ≢ LinkFault }
     ensures read { ConsumesUpTo INPUT_LIMIT (I.left input.old) (I.left input.new) }
-    ensures did { Did command (I.left input.old) (I.left input.new) (O.written output.old) (O.written output.new)
+    ensures did { Did command.entry (I.left input.old) (I.left input.new) (O.written output.old) (O.written output.new)
         (S.holds store.old) (S.holds store.new) result }
-    ensures unread { (calls seed : ℕ) → command ≡ Load calls seed → input.new ≡ input.old }
-    ensures storeless { IsStoreless command → store.new ≡ store.old }
+    ensures unread { (calls seed : ℕ) → command.entry ≡ Load calls seed → input.new ≡ input.old }
+    ensures storeless { IsStoreless command.entry → store.new ≡ store.old }
     ensures silent { IsSilent result → output.new ≡ output.old }
     ensures source { result ≡ SourceFault → Rose (I.faults input.old) (I.faults input.new) }
     ensures sink { result ≡ SinkFault → Rose (O.faults output.old) (O.faults output.new) }
@@ -91,6 +91,6 @@ fn run<I: Source, O: Sink, S: Store>(
         Command::Replay(form) => replay(alloc, form, input, output, store),
         Command::Text(command) => tell(alloc, command, input, output),
         Command::Load { calls, seed } => load(alloc, calls, seed, output),
-        Command::Dump => dump(input, output),
+        Command::Dump(names) => dump(names, input, output),
     }
 }

@@ -36,6 +36,7 @@ use Rattle.pw_run.specs.Tells.{DidText, ReadsText, Tells}
 use Rattle.pw_run.specs.Texts.{FailsToRead, MeetsLimit, limit_of, outcome_on}
 use Rattle.pw_run.specs.Writes.{Writes, WritesOrFails}
 use Rattle.stream_dump.specs.Ends.{IsEnding}
+use Rattle.stream_dump.specs.Names.{Name}
 use Rattle.run_laws.specs.statuses.CalmCrews.{setting_over}
 use Rattle.run_laws.specs.statuses.Statuses.{HasRoomIn, HasShortRun, IsBlameless, IsShorter, IsWell, RecordedEndWell, RecordedHadRoom}
 use Rattle.run_laws.proofs.statuses.CrewLemmas.{all_taken, shelf_is}
@@ -269,8 +270,8 @@ load_well calls seed written_old written_new outcome did none = at outcome did n
 
 -- ---- dumps
 
-module _ (input : List ℕ) (left_new written_old written_new : Option (List ℕ)) (outcome : Outcome)
-    (did : DidDump (Some input) left_new written_old written_new outcome) where
+module _ (names : List Name) (input : List ℕ) (left_new written_old written_new : Option (List ℕ)) (outcome : Outcome)
+    (did : DidDump names (Some input) left_new written_old written_new outcome) where
   dump_well : Blameless outcome → length input < INPUT_LIMIT → EndsSo outcome
   dump_well none short = at did.why did.own did.ending did.dumps.at_limit
     where
@@ -310,9 +311,9 @@ recorded_end_well (Text command) status left_old left written_old written_new st
     (λ said. good within.input said within.left_is))
 recorded_end_well (Load calls seed) status left_old left written_old written_new store_old store_new ends none within good =
     well status ends.0 ends.1 (load_well calls seed written_old written_new ends.0 ends.2 (blameless status ends.0 ends.1 none))
-recorded_end_well Dump status left_old left written_old written_new store_old store_new ends none within good =
-    let did = subst (λ x. DidDump x left written_old written_new ends.0) within.1 ends.2 in
-    well status ends.0 ends.1 (dump_well within.0 left written_old written_new ends.0 did (blameless status ends.0 ends.1 none) within.2)
+recorded_end_well (Dump names) status left_old left written_old written_new store_old store_new ends none within good =
+    let did = subst (λ x. DidDump names x left written_old written_new ends.0) within.1 ends.2 in
+    well status ends.0 ends.1 (dump_well names within.0 left written_old written_new ends.0 did (blameless status ends.0 ends.1 none) within.2)
 
 did_done : (command : Command) (status : ℕ) (left_old left written_old written_new : Option (List ℕ)) (store_old store_new : Option Stored)
     → EndsWith status (Did command left_old left written_old written_new store_old store_new) → status ≡ code_of Done
@@ -339,6 +340,6 @@ recorded_had_room (Text command) status left_old left written_old written_new st
     let did = did_done (Text command) status left_old left written_old written_new store_old store_new ends is in
     text_had_room command input left written_old written_new (subst (λ x. DidText command x left written_old written_new Done) left_is did)
 recorded_had_room (Load calls seed) status left_old left written_old written_new store_old store_new ends is = tt
-recorded_had_room Dump status left_old left written_old written_new store_old store_new ends is = λ input left_is.
-    let did = did_done Dump status left_old left written_old written_new store_old store_new ends is in
-    dump_had_room input left written_old written_new Done (subst (λ x. DidDump x left written_old written_new Done) left_is did) refl
+recorded_had_room (Dump names) status left_old left written_old written_new store_old store_new ends is = λ input left_is.
+    let did = did_done (Dump names) status left_old left written_old written_new store_old store_new ends is in
+    dump_had_room names input left written_old written_new Done (subst (λ x. DidDump names x left written_old written_new Done) left_is did) refl

@@ -72,7 +72,7 @@ abbrev pub IsWithinLimits : Command → Option (List ℕ) → Option Stored → 
 IsWithinLimits (Replay form) left held = IsShortStream left held
 IsWithinLimits (Text command) left held = IsShortText command left
 IsWithinLimits (Load calls seed) left held = Unit {0}
-IsWithinLimits Dump left held = (input : List ℕ) × (left ≡ Some input) × (length input < INPUT_LIMIT)
+IsWithinLimits (Dump names) left held = (input : List ℕ) × (left ≡ Some input) × (length input < INPUT_LIMIT)
 
 -- no line of a text is bad
 abbrev pub HasGoodLines : Command → Option (List ℕ) → Type 0
@@ -101,7 +101,7 @@ abbrev pub HadRoom : Command → Option (List ℕ) → Option Stored → Type 0
 HadRoom (Replay form) left held = IsShorter INPUT_LIMIT left × HasRoomIn left held
 HadRoom (Text command) left held = IsShorter (limit_of command) left
 HadRoom (Load calls seed) left held = Unit {0}
-HadRoom Dump left held = IsShorter INPUT_LIMIT left
+HadRoom (Dump names) left held = IsShorter INPUT_LIMIT left
 
 abbrev pub RecordedHadRoom : Type 0
 RecordedHadRoom =
