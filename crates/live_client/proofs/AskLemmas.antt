@@ -13,7 +13,7 @@ use Rattle.task_core.specs.Log.{Step, task_of}
 use Rattle.task_core.specs.Tasks.{StandsFor, Tasks}
 use Rattle.task_core.specs.Visit.{Visit}
 use Rattle.live_client.specs.asks.Events.{first_end, messages_in}
-use Rattle.live_client.specs.asks.Tasks.{TaskRan, WantedIf}
+use Rattle.live_client.specs.asks.Tasks.{Given, TaskRan, WantedIf, given_at, mails}
 use Rattle.live_client.specs.asks.Telling.{IsAll, Tells, waiting}
 use Rattle.live_client.specs.asks.Calling.{Called, EndsBy, has_enough}
 use Rattle.live_client.specs.declared.asks.call.CallErrand.{CallErrand}
@@ -36,8 +36,12 @@ wanted_so true false log calm so = absurd (true≢false (calm refl))
 wanted_so true true log calm so = so
 
 module _ (method : MethodRef) {T : Type 0} (polls : T → Visit → T → Type 0) (task : T) (tasks : Tasks T) (ear : Heard) (short : Bool) (start end : ℕ) (h : List Entry) (told : HasTold method (λ all. Tells polls task tasks ear short all start end) h) where
+  -- what waits to be taken
+  abbrev still : List Given
+  still = map (given_at (mails (events_run (live_setting method) h 0))) (waiting tasks)
+
   task_ran : (is_halted (live_setting method) h ≡ false → short ≡ false) → (now : T) → ((log : List (Step T)) → StandsFor tasks log → task_of log 0 ≡ Some now) → (ended : Option Status) → ended ≡ told.ended
-      → TaskRan polls task start end (is_halted (live_setting method) h) (events_run (live_setting method) h 0) (told.outs ++ (told.lost ++ waiting tasks)) now ended
+      → TaskRan polls task start end (is_halted (live_setting method) h) (events_run (live_setting method) h 0) (told.outs ++ (told.lost ++ still)) now ended
   task_ran calm now is_now ended same =
       let so = told.heard.told in
       record {
@@ -47,7 +51,7 @@ module _ (method : MethodRef) {T : Type 0} (polls : T → Visit → T → Type 0
         between = so.between;
         whole = wanted_so short (is_halted (live_setting method) h) so.log calm so.whole;
         mail = so.mail;
-        said = so.said ∙ append_assoc told.outs told.lost (waiting tasks);
+        said = so.said ∙ append_assoc told.outs told.lost still;
         last = is_now so.log so.stands;
         result = so.result ∙ sym same;
       }
@@ -56,16 +60,16 @@ module _ (method : MethodRef) {T : Type 0} (polls : T → Visit → T → Type 0
   none_waits true is none = ap (map (λ (said : ℕ × Out). said.1)) none
   none_waits false is none = absurd (false≢true is)
 
-  pub transfer_ran : (is_halted (live_setting method) h ≡ false → short ≡ false) → (now : T) → ((log : List (Step T)) → StandsFor tasks log → task_of log 0 ≡ Some now) → (ended : Option Status) → ended ≡ told.ended → (Ran : List Out → T → Type 0)
-      → ((outs : List Out) → TaskRan polls task start end (is_halted (live_setting method) h) (events_run (live_setting method) h 0) outs now ended → Ran outs now) → TransferRan method Ran h
+  pub transfer_ran : (is_halted (live_setting method) h ≡ false → short ≡ false) → (now : T) → ((log : List (Step T)) → StandsFor tasks log → task_of log 0 ≡ Some now) → (ended : Option Status) → ended ≡ told.ended → (Ran : List Given → T → Type 0)
+      → ((outs : List Given) → TaskRan polls task start end (is_halted (live_setting method) h) (events_run (live_setting method) h 0) outs now ended → Ran outs now) → TransferRan method Ran h
   transfer_ran whole now is_now ended same Ran so = record {
     outs = told.outs;
-    unsaid = told.lost ++ waiting tasks;
+    unsaid = told.lost ++ still;
     said = told.said;
     all_said = λ calm.
-        ap (λ lost. lost ++ waiting tasks) (told.none_lost calm) ∙ none_waits told.all (told.all_said calm) told.heard.all_said;
+        ap (λ lost. lost ++ still) (told.none_lost calm) ∙ ap (map (given_at (mails (events_run (live_setting method) h 0)))) (none_waits told.all (told.all_said calm) told.heard.all_said);
     now = now;
-    ran = so (told.outs ++ (told.lost ++ waiting tasks)) (task_ran whole now is_now ended same);
+    ran = so (told.outs ++ (told.lost ++ still)) (task_ran whole now is_now ended same);
   }
 
   pub transfer_over : (ended : Option Status) → ended ≡ told.ended → is_halted (live_setting method) h ≡ false → is_some ended ≡ true

@@ -9,7 +9,6 @@ use Rattle.entry_lists.specs.Entries.{made_by}
 use Rattle.entry_lists.proofs.Makers.{all_append, none_behind}
 use Rattle.entry_lists.proofs.Prefixes.{prefix_append, prefix_trans}
 use Rattle.link_io.specs.declared.why.Why.TheVariants.{JournalLimit}
-use Rattle.rpc_handlers.specs.declared.answer.Out.{Out}
 use Rattle.rpc_handlers.specs.declared.event.Event.{Event}
 use Rattle.rpc_journal.specs.declared.entry.Entry.{Entry}
 use Rattle.rpc_journal.specs.declared.entry.EntryKind.{EntryKind}
@@ -30,9 +29,10 @@ use Rattle.turn_cell.specs.Passes.{IsSame}
 use Rattle.rpc_journal.specs.Lawful.{IsLegal}
 use Rattle.rpc_shared.specs.session.Crew.{IsLate, Lock, Seat}
 use Rattle.rpc_shared.proofs.session.PassLemmas.{adds_none, adds_one, late_still, stands_after}
-use Rattle.live_client.specs.Driving.{Drives, runs_by, is_drivers}
-use Rattle.live_client.specs.Histories.{AreSaid, cancels, is_cancel, said_by, says_of}
+use Rattle.live_client.specs.Driving.{Drives, runs_by, runs_in, is_drivers}
+use Rattle.live_client.specs.Histories.{AreSaidOver, cancels, is_cancel, said_by, says_of}
 use Rattle.live_client.specs.Silent.{silent_rule}
+use Rattle.live_client.specs.asks.Tasks.{Given}
 use Rattle.live_client.proofs.SaidLemmas.{said_later}
 
 -- ---- what others add is none of this seat's runs
@@ -107,7 +107,7 @@ module _ (set : Setting) (c : ℕ) where
   pub there_beyond : (h later : List Entry) → IsPrefix h later → IsCall set h c → IsCall set later c
   there_beyond h later begins there = subst (λ es. IsCall set es c) begins.1 (call_stays set h begins.0 c there)
 
-pub drives_sees : (watches : Bool) (opening : EntryKind) (r : Lock) (c : ℕ) (events : List Event) (outs : List Out) (items : List Item) (p q : Seat) → Drives watches opening r c events outs items p
+pub drives_sees : (watches : Bool) (opening : EntryKind) (r : Lock) (c : ℕ) (events : List Event) (outs : List Given) (items : List Item) (p q : Seat) → Drives watches opening r c events outs items p
     → IsSame p q → IsOwn r q → IsLegal silent_rule r.base q.view.known.seen → IsPrefix p.view.known.seen q.view.known.seen → q.view.known.mine ≡ p.view.known.mine → made_by seat_of 1 q.view.known.seen ≡ q.view.known.mine
     → Drives watches opening r c events outs items q
 drives_sees watches opening r c events outs items p q d same own legal begins mine shown =
@@ -129,13 +129,13 @@ drives_sees watches opening r c events outs items p q d same own legal begins mi
       there = there_beyond r.base c p.view.known.seen q.view.known.seen begins d.there;
       runs = runs_beyond r.base c p.view.known.seen q.view.known.seen begins others ∙ d.runs;
       said =
-          subst (AreSaid r.base c q.view.known.seen outs) (ap says_of (sym mine))
-          (said_later r.base c p.view.known.seen q.view.known.seen begins outs (says_of p.view.known.mine) d.said);
+          subst (AreSaidOver r.base (runs_in r c) c q.view.known.seen outs) (ap says_of (sym mine))
+          (said_later r.base (runs_in r c) c p.view.known.seen q.view.known.seen begins outs (says_of p.view.known.mine) d.said);
       front = front_beyond r.base c items p.view.known.seen q.view.known.seen begins d.front;
       count = d.count ∙ ap flushes (sym mine);
     }
 
-module _ (watches : Bool) (opening : EntryKind) (r : Lock) (c : ℕ) (events : List Event) (outs : List Out) (items : List Item) (p q : Seat) (step : Step)
+module _ (watches : Bool) (opening : EntryKind) (r : Lock) (c : ℕ) (events : List Event) (outs : List Given) (items : List Item) (p q : Seat) (step : Step)
     (d : Drives watches opening r c events outs items p) (s : Steps silent_rule r p q step) where
   before_own : made_by seat_of 1 s.before ≡ made_by seat_of 1 p.view.known.seen
   before_own = subst (λ n. made_by seat_of n s.before ≡ made_by seat_of n p.view.known.seen) d.number (s.own ∙ sym s.shown)
@@ -165,8 +165,8 @@ module _ (watches : Bool) (opening : EntryKind) (r : Lock) (c : ℕ) (events : L
     deeds_more : history r.base q.view.known.seen ≡ deeds_with r.base (history r.base s.before) (entry_by 1 kind)
     deeds_more = ap (history r.base) one_more ∙ history-push r.base s.before (entry_by 1 kind)
 
-    pub drives_added : (events' : List Event) (outs' : List Out) (items' : List Item) → runs_by 1 (deeds_with r.base (history r.base s.before) (entry_by 1 kind)) c ≡ events'
-        → AreSaid r.base c q.view.known.seen outs' (says_of p.view.known.mine ++ said_by kind) → IsPrefix items' (items_sent (history r.base q.view.known.seen)) → length items' ≡ flushes (entry_by 1 kind ∷ []) + flushes p.view.known.mine
+    pub drives_added : (events' : List Event) (outs' : List Given) (items' : List Item) → runs_by 1 (deeds_with r.base (history r.base s.before) (entry_by 1 kind)) c ≡ events'
+        → AreSaidOver r.base (runs_in r c) c q.view.known.seen outs' (says_of p.view.known.mine ++ said_by kind) → IsPrefix items' (items_sent (history r.base q.view.known.seen)) → length items' ≡ flushes (entry_by 1 kind ∷ []) + flushes p.view.known.mine
         → Drives watches opening r c events' outs' items' q
     drives_added events' outs' items' runs said front count =
         let adds = adds_one silent_rule r p q step (is_drivers watches) kind s is may full in
@@ -178,7 +178,7 @@ module _ (watches : Bool) (opening : EntryKind) (r : Lock) (c : ℕ) (events : L
           kinds = all_append (λ e. is_drivers watches e.kind ≡ true) d.rest (entry_by 1 kind ∷ []) d.kinds (may, tt);
           there = there_beyond r.base c p.view.known.seen q.view.known.seen begins_more d.there;
           runs = ap (λ ds. runs_by 1 ds c) deeds_more ∙ runs;
-          said = subst (AreSaid r.base c q.view.known.seen outs') (sym (ap says_of mine_more ∙ says-push p.view.known.mine (entry_by 1 kind))) said;
+          said = subst (AreSaidOver r.base (runs_in r c) c q.view.known.seen outs') (sym (ap says_of mine_more ∙ says-push p.view.known.mine (entry_by 1 kind))) said;
           front = front;
           count = count ∙ omega (arith, flushes-append p.view.known.mine (entry_by 1 kind ∷ []), ap flushes mine_more);
         }
@@ -188,8 +188,8 @@ module _ (watches : Bool) (opening : EntryKind) (r : Lock) (c : ℕ) (events : L
     drives_calm unfinished unsaid unflushed =
         drives_added events outs items
         (rw (unfinished) runs_before)
-        (subst (AreSaid r.base c q.view.known.seen outs) (sym (ap (λ more. says_of p.view.known.mine ++ more) unsaid ∙ append-nil (says_of p.view.known.mine)))
-        (said_later r.base c p.view.known.seen q.view.known.seen begins_more outs (says_of p.view.known.mine) d.said))
+        (subst (AreSaidOver r.base (runs_in r c) c q.view.known.seen outs) (sym (ap (λ more. says_of p.view.known.mine ++ more) unsaid ∙ append-nil (says_of p.view.known.mine)))
+        (said_later r.base (runs_in r c) c p.view.known.seen q.view.known.seen begins_more outs (says_of p.view.known.mine) d.said))
         (front_beyond r.base c items p.view.known.seen q.view.known.seen begins_more d.front)
         (d.count ∙ rw unflushed (omega arith))
 

@@ -1,5 +1,5 @@
 -- What a live client's record tells of a fetch, and of a deadline.
-use Rattle.std.proofs.Common.{◌≡◌, ◌⊎◌, ◌==◌, ◌&&◌, ◌+◌, ℕ, not, Bool, true, false, List, [], ◌∷◌, ◌++◌, map, refl, ap, sym, ◌∙◌, subst, inl, inr, reverse}
+use Rattle.std.proofs.Common.{◌≡◌, ◌⊎◌, ◌==◌, ◌&&◌, ℕ, not, Bool, true, false, List, [], ◌∷◌, ◌++◌, map, refl, ap, sym, ◌∙◌, subst, inl, inr, reverse}
 use Rattle.std.proofs.lemmas.Bool.{false≢true, true≢false}
 use Rattle.std.proofs.lemmas.List.{append-nil}
 use Rattle.std.specs.List.{AllByRecursion}
@@ -18,16 +18,17 @@ use Rattle.transfer_client.specs.Read.{new_download, read_offset}
 use Rattle.rpc_shared.specs.session.Sessions.{is_halted}
 use Rattle.live_client.specs.declared.ask.Live.{Live}
 use Rattle.live_client.specs.declared.ask.LiveAsk.TheVariants.{Get, Put, Watch, Call}
-use Rattle.live_client.specs.Ask.{live_setting, method_asked, read_method, write_method}
+use Rattle.live_client.specs.Ask.{live_setting, read_method, write_method}
 use Rattle.live_client.specs.Fetched.{DeadlinesTakeTime, FetchedWell, FetchesAreWhole, IsFetched, deeds_of, run_of}
 use Rattle.live_client.specs.Histories.{AreActed, AreOfLive, AreSaid, is_cancel, is_entry_of, is_spoken, says_of}
 use Rattle.live_client.specs.asks.Ends.{IsTold, TellsEnd}
-use Rattle.live_client.specs.asks.Tasks.{TaskRan}
+use Rattle.live_client.specs.asks.Tasks.{Given, TaskRan}
 use Rattle.transfer_client.specs.Tasks.{PollsRead, Reads}
 use Rattle.live_client.proofs.ClientEntries.{uncancelled}
 use Rattle.live_client.proofs.SaidLemmas.{long_spoken}
 use Rattle.live_client.proofs.asks.EndLemmas.{HasMade, read_deadline, read_okay, write_deadline}
 use Rattle.live_client.proofs.asks.FetchLemmas.{deeds}
+use Rattle.live_client.proofs.asks.WalkLemmas.{bare}
 
 pub deadlines_take_time : DeadlinesTakeTime
 deadlines_take_time (Get resource offset) start end l other asked is =
@@ -64,18 +65,18 @@ module _ (set : Setting) (c : ℕ) (h : List Entry) (uncut : is_cancelled (histo
       at true is = rw is (ap (λ rest. out ∷ rest) same)
       at false is = rw is same
 
-  acted_deeds : (outs spoken : List Out) → AreActed set c h outs spoken → deeds_of spoken ≡ deeds_of outs
+  acted_deeds : (outs : List Given) (spoken : List Out) → AreActed set c h outs spoken → deeds_of spoken ≡ deeds_of (bare outs)
   acted_deeds [] spoken so = ap deeds_of so
-  acted_deeds (out ∷ outs) spoken (inl s) = acted_deeds outs spoken s.1 ∙ sym (spoken_off out outs s.0)
-  acted_deeds (out ∷ outs) spoken (inr (inl s)) = ap deeds_of s.2 ∙ acted_on out outs s.1 (acted_deeds outs s.1 s.3)
-  acted_deeds (out ∷ outs) spoken (inr (inr s)) = absurd (true≢false (sym s.1 ∙ uncut))
+  acted_deeds (given ∷ outs) spoken (inl s) = acted_deeds outs spoken s.1 ∙ sym (spoken_off given.out (bare outs) s.0)
+  acted_deeds (given ∷ outs) spoken (inr (inl s)) = ap deeds_of s.2 ∙ acted_on given.out (bare outs) s.1 (acted_deeds outs s.1 s.3)
+  acted_deeds (given ∷ outs) spoken (inr (inr s)) = absurd (true≢false (sym s.1 ∙ uncut))
 
-  said_deeds : (outs spoken : List Out) → AreSaid set c h outs spoken → deeds_of spoken ≡ deeds_of outs
+  said_deeds : (outs : List Given) (spoken : List Out) → AreSaid set c h outs spoken → deeds_of spoken ≡ deeds_of (bare outs)
   said_deeds [] spoken so = ap deeds_of so
-  said_deeds (out ∷ outs) spoken (inl s) = ap deeds_of s.1 ∙ acted_on out outs s.0 (said_deeds outs s.0 s.2)
-  said_deeds (out ∷ outs) spoken (inr (inl s)) = said_deeds outs spoken s.1 ∙ sym (spoken_off out outs (long_spoken out s.0))
-  said_deeds (out ∷ outs) spoken (inr (inr (inl s))) = absurd (true≢false (sym s.1 ∙ uncut))
-  said_deeds (out ∷ outs) spoken (inr (inr (inr s))) = acted_deeds (out ∷ outs) spoken s.1
+  said_deeds (given ∷ outs) spoken (inl s) = ap deeds_of s.1 ∙ acted_on given.out (bare outs) s.0 (said_deeds outs s.0 s.2)
+  said_deeds (given ∷ outs) spoken (inr (inl s)) = said_deeds outs spoken s.1 ∙ sym (spoken_off given.out (bare outs) (long_spoken given.out s.0))
+  said_deeds (given ∷ outs) spoken (inr (inr (inl s))) = absurd (true≢false (sym s.1 ∙ uncut))
+  said_deeds (given ∷ outs) spoken (inr (inr (inr s))) = acted_deeds (given ∷ outs) spoken s.1
 
 deeds-outs : (said : List Saying) → deeds_of (outs_of 1 said) ≡ map (out_of 1) (deeds said)
 deeds-outs [] = refl

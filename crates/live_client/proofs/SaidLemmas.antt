@@ -5,9 +5,11 @@ use Rattle.std.proofs.lemmas.List.{append-nil, reverse-append}
 use Rattle.std.proofs.lemmas.List.Folds.{list_any-append}
 use Rattle.std.specs.List.{list_any}
 use mathlib.Core.List.{IsPrefix}
+use Rattle.entry_lists.proofs.Prefixes.{prefix_trans}
 use Rattle.rpc_ids.specs.declared.status.Status.{Status}
 use Rattle.rpc_handlers.specs.declared.answer.Out.{Out}
 use Rattle.rpc_handlers.specs.declared.answer.Out.TheVariants.{Say as Message, Begin, Append, Commit, Leave}
+use Rattle.rpc_handlers.specs.declared.event.Event.{Event}
 use Rattle.rpc_handlers.specs.Limits.{is_long_out}
 use Rattle.rpc_journal.specs.declared.answers.SayRefused as say
 use Rattle.rpc_journal.specs.declared.entry.Entry.{Entry}
@@ -23,7 +25,8 @@ use Rattle.rpc_journal.specs.Kinds.{is_empty, is_server, or_else}
 use Rattle.rpc_journal.specs.Lawful.{has_stream}
 use Rattle.rpc_journal.specs.Refusals.{message_refusal, out_refusal, refused_where}
 use Rattle.rpc_journal.proofs.ItemLemmas.{items_begin}
-use Rattle.live_client.specs.Histories.{AreActed, AreSaid, IsShut, is_spoken}
+use Rattle.live_client.specs.Histories.{AreActed, AreSaidOver, IsRefusedAt, IsShut, is_spoken}
+use Rattle.live_client.specs.asks.Tasks.{Given, given_at, mails}
 
 -- ---- a call that is shut or cancelled stays so
 
@@ -106,19 +109,32 @@ module _ (set : Setting) where
 
 -- ---- what was said of a beginning was said of what goes on
 
-module _ (set : Setting) (c : ℕ) (h later : List Entry) (begins : IsPrefix h later) where
-  acted_later : (outs says : List Out) → AreActed set c h outs says → AreActed set c later outs says
+module _ (set : Setting) (runs : List Entry → List Event) (c : ℕ) (h later : List Entry) (begins : IsPrefix h later) where
+  acted_later : (outs : List Given) (says : List Out) → AreActed set c h outs says → AreActed set c later outs says
   acted_later [] says so = so
-  acted_later (out ∷ outs) says (inl s) = inl (s.0, acted_later outs says s.1)
-  acted_later (out ∷ outs) says (inr (inl s)) = inr (inl (s.0, s.1, s.2, acted_later outs s.1 s.3))
-  acted_later (out ∷ outs) says (inr (inr s)) = inr (inr (s.0, cancelled_later set c h later begins s.1, acted_later outs says s.2))
+  acted_later (given ∷ outs) says (inl s) = inl (s.0, acted_later outs says s.1)
+  acted_later (given ∷ outs) says (inr (inl s)) = inr (inl (s.0, s.1, s.2, acted_later outs s.1 s.3))
+  acted_later (given ∷ outs) says (inr (inr s)) = inr (inr (s.0, cancelled_later set c h later begins s.1, acted_later outs says s.2))
 
-  pub said_later : (outs says : List Out) → AreSaid set c h outs says → AreSaid set c later outs says
+  refused_later : (mail : ℕ) → IsRefusedAt set runs c h mail → IsRefusedAt set runs c later mail
+  refused_later mail so = record { front = so.front; begins = prefix_trans so.front h later so.begins begins; came = so.came; shut = so.shut }
+
+  pub said_later : (outs : List Given) (says : List Out) → AreSaidOver set runs c h outs says → AreSaidOver set runs c later outs says
   said_later [] says so = so
-  said_later (out ∷ outs) says (inl s) = inl (s.0, s.1, said_later outs s.0 s.2)
-  said_later (out ∷ outs) says (inr (inl s)) = inr (inl (s.0, said_later outs says s.1))
-  said_later (out ∷ outs) says (inr (inr (inl s))) = inr (inr (inl (s.0, cancelled_later set c h later begins s.1, said_later outs says s.2)))
-  said_later (out ∷ outs) says (inr (inr (inr s))) = inr (inr (inr (shut_later set c h later begins s.0, acted_later (out ∷ outs) says s.1)))
+  said_later (given ∷ outs) says (inl s) = inl (s.0, s.1, said_later outs s.0 s.2)
+  said_later (given ∷ outs) says (inr (inl s)) = inr (inl (s.0, said_later outs says s.1))
+  said_later (given ∷ outs) says (inr (inr (inl s))) = inr (inr (inl (s.0, cancelled_later set c h later begins s.1, said_later outs says s.2)))
+  said_later (given ∷ outs) says (inr (inr (inr s))) = inr (inr (inr (refused_later given.mail s.0, acted_later (given ∷ outs) says s.1)))
+
+-- two ways to tell what a beginning of the history has run
+module _ (set : Setting) (runs same : List Entry → List Event) (c : ℕ) (h : List Entry) (equal : (front : List Entry) → IsPrefix front h → same front ≡ runs front) where
+  pub said_as : (outs : List Given) (says : List Out) → AreSaidOver set runs c h outs says → AreSaidOver set same c h outs says
+  said_as [] says so = so
+  said_as (given ∷ outs) says (inl s) = inl (s.0, s.1, said_as outs s.0 s.2)
+  said_as (given ∷ outs) says (inr (inl s)) = inr (inl (s.0, said_as outs says s.1))
+  said_as (given ∷ outs) says (inr (inr (inl s))) = inr (inr (inl (s.0, s.1, said_as outs says s.2)))
+  said_as (given ∷ outs) says (inr (inr (inr s))) =
+      inr (inr (inr (record { front = s.0.front; begins = s.0.begins; came = ap mails (equal s.0.front s.0.begins) ∙ s.0.came; shut = s.0.shut }, s.1)))
 
 -- ---- one more is said, or left out
 
@@ -134,26 +150,29 @@ long_spoken (Append session bytes) is = is
 long_spoken (Commit session) is = is
 long_spoken (Leave session) is = is
 
-module _ (set : Setting) (c : ℕ) (h : List Entry) (out : Out) where
-  acted_more : (outs says : List Out) → is_spoken out ≡ false → AreActed set c h outs says → AreActed set c h (outs ++ out ∷ []) (says ++ out ∷ [])
+module _ (set : Setting) (runs : List Entry → List Event) (c : ℕ) (h : List Entry) (mail : ℕ) (out : Out) where
+  abbrev last : List Given
+  last = given_at mail out ∷ []
+
+  acted_more : (outs : List Given) (says : List Out) → is_spoken out ≡ false → AreActed set c h outs says → AreActed set c h (outs ++ last) (says ++ out ∷ [])
   acted_more [] says acts so = inr (inl (acts, [], ap (λ s. s ++ out ∷ []) so, refl))
   acted_more (x ∷ outs) says acts (inl s) = inl (s.0, acted_more outs says acts s.1)
   acted_more (x ∷ outs) says acts (inr (inl s)) = inr (inl (s.0, s.1 ++ out ∷ [], ap (λ t. t ++ out ∷ []) s.2, acted_more outs s.1 acts s.3))
   acted_more (x ∷ outs) says acts (inr (inr s)) = inr (inr (s.0, s.1, acted_more outs says acts s.2))
 
   -- it was said: a message in a call that wasn't shut
-  pub said_more : (outs says : List Out) → (is_spoken out ≡ true → IsShut set c (history set h) → ⊥) → AreSaid set c h outs says → AreSaid set c h (outs ++ out ∷ []) (says ++ out ∷ [])
+  pub said_more : (outs : List Given) (says : List Out) → (is_spoken out ≡ true → IsShut set c (history set h) → ⊥) → AreSaidOver set runs c h outs says → AreSaidOver set runs c h (outs ++ last) (says ++ out ∷ [])
   said_more [] says unshut so = inl ([], ap (λ s. s ++ out ∷ []) so, refl)
   said_more (x ∷ outs) says unshut (inl s) = inl (s.0 ++ out ∷ [], ap (λ t. t ++ out ∷ []) s.1, said_more outs s.0 unshut s.2)
   said_more (x ∷ outs) says unshut (inr (inl s)) = inr (inl (s.0, said_more outs says unshut s.1))
   said_more (x ∷ outs) says unshut (inr (inr (inl s))) = inr (inr (inl (s.0, s.1, said_more outs says unshut s.2)))
   said_more (x ∷ outs) says unshut (inr (inr (inr s))) = at (is_spoken out) refl
     where
-      at : (b : Bool) → is_spoken out ≡ b → AreSaid set c h (x ∷ (outs ++ out ∷ [])) (says ++ out ∷ [])
-      at true speaks = absurd (unshut speaks s.0)
+      at : (b : Bool) → is_spoken out ≡ b → AreSaidOver set runs c h (x ∷ (outs ++ last)) (says ++ out ∷ [])
+      at true speaks = absurd (unshut speaks (shut_later set c s.0.front h s.0.begins s.0.shut))
       at false acts = inr (inr (inr (s.0, acted_more (x ∷ outs) says acts s.1)))
 
-  acted_left : (outs says : List Out) → IsLeft set c h out → AreActed set c h outs says → AreActed set c h (outs ++ out ∷ []) says
+  acted_left : (outs : List Given) (says : List Out) → IsLeft set c h out → AreActed set c h outs says → AreActed set c h (outs ++ last) says
   acted_left [] says (inl long) so = inl (long_spoken out long, so)
   acted_left [] says (inr (inl cut)) so = inr (inr (cut.0, cut.1, so))
   acted_left [] says (inr (inr shut)) so = inl (shut.0, so)
@@ -161,14 +180,15 @@ module _ (set : Setting) (c : ℕ) (h : List Entry) (out : Out) where
   acted_left (x ∷ outs) says left (inr (inl s)) = inr (inl (s.0, s.1, s.2, acted_left outs s.1 left s.3))
   acted_left (x ∷ outs) says left (inr (inr s)) = inr (inr (s.0, s.1, acted_left outs says left s.2))
 
-  pub said_left : (outs says : List Out) → IsLeft set c h out → AreSaid set c h outs says → AreSaid set c h (outs ++ out ∷ []) says
-  said_left [] says (inl long) so = inr (inl (long, so))
-  said_left [] says (inr (inl cut)) so = inr (inr (inl (cut.0, cut.1, so)))
-  said_left [] says (inr (inr shut)) so = inr (inr (inr (shut.1, inl (shut.0, so))))
-  said_left (x ∷ outs) says left (inl s) = inl (s.0, s.1, said_left outs s.0 left s.2)
-  said_left (x ∷ outs) says left (inr (inl s)) = inr (inl (s.0, said_left outs says left s.1))
-  said_left (x ∷ outs) says left (inr (inr (inl s))) = inr (inr (inl (s.0, s.1, said_left outs says left s.2)))
-  said_left (x ∷ outs) says left (inr (inr (inr s))) = inr (inr (inr (s.0, acted_left (x ∷ outs) says left s.1)))
+  -- it was left out, when all runs of the history were so much mail
+  pub said_left : (outs : List Given) (says : List Out) → mails (runs h) ≡ mail → IsLeft set c h out → AreSaidOver set runs c h outs says → AreSaidOver set runs c h (outs ++ last) says
+  said_left [] says came (inl long) so = inr (inl (long, so))
+  said_left [] says came (inr (inl cut)) so = inr (inr (inl (cut.0, cut.1, so)))
+  said_left [] says came (inr (inr shut)) so = inr (inr (inr (record { front = h; begins = ([], append-nil h); came = came; shut = shut.1 }, inl (shut.0, so))))
+  said_left (x ∷ outs) says came left (inl s) = inl (s.0, s.1, said_left outs s.0 came left s.2)
+  said_left (x ∷ outs) says came left (inr (inl s)) = inr (inl (s.0, said_left outs says came left s.1))
+  said_left (x ∷ outs) says came left (inr (inr (inl s))) = inr (inr (inl (s.0, s.1, said_left outs says came left s.2)))
+  said_left (x ∷ outs) says came left (inr (inr (inr s))) = inr (inr (inr (s.0, acted_left (x ∷ outs) says left s.1)))
 
 -- ---- what the table refuses is left out, and what it takes it takes of a call that isn't shut
 

@@ -47,15 +47,16 @@ use Rattle.rpc_shared.specs.session.Ring.{HaltsFor}
 use Rattle.rpc_shared.specs.session.Sessions.{is_halted, is_halting}
 use Rattle.rpc_shared.proofs.session.PassLemmas.{adds_none, adds_one, adds_trans, late_still, stands_after}
 use Rattle.rpc_shared.proofs.session.StepLemmas.{full_length, look_adds}
-use Rattle.live_client.specs.Driving.{Calm, CanDrive, Cuts, Drives, EndsRun, HasCut, Speaks, TakesItem, TakesNone, is_cutting, is_flushing, is_running, is_saying, runs_by, want_by}
-use Rattle.live_client.specs.Histories.{AreSaid, cancels, is_cancel, says_of}
+use Rattle.live_client.specs.Driving.{Calm, CanDrive, Cuts, Drives, EndsRun, HasCut, Speaks, TakesItem, TakesNone, is_cutting, is_flushing, is_running, is_saying, runs_by, runs_in, want_by}
+use Rattle.live_client.specs.Histories.{AreSaidOver, cancels, is_cancel, says_of}
 use Rattle.live_client.specs.Silent.{is_silent, silent_rule}
+use Rattle.live_client.specs.asks.Tasks.{Given, given_at, mails}
 use Rattle.live_client.proofs.DriveLemmas.{cancels-append, drives_added, drives_calm, drives_kept, drives_sees, front_beyond, others_seat, runs_before, there_beyond}
 use Rattle.live_client.proofs.SaidLemmas.{IsLeft, ends_begin, refused_left, said_later, said_left, said_more, taken_open}
 
 -- an out more is said or refused
-with_said : (watches : Bool) (opening : EntryKind) (r : Lock) (c : ℕ) (events : List Event) (outs outs' : List Out) (items : List Item) (q : Seat)
-    → AreSaid r.base c q.view.known.seen outs' (says_of q.view.known.mine) → Drives watches opening r c events outs items q → Drives watches opening r c events outs' items q
+with_said : (watches : Bool) (opening : EntryKind) (r : Lock) (c : ℕ) (events : List Event) (outs outs' : List Given) (items : List Item) (q : Seat)
+    → AreSaidOver r.base (runs_in r c) c q.view.known.seen outs' (says_of q.view.known.mine) → Drives watches opening r c events outs items q → Drives watches opening r c events outs' items q
 with_said watches opening r c events outs outs' items q said d = record {
   stands = d.stands;
   number = d.number;
@@ -94,7 +95,7 @@ module _ (r : Lock) (c : ℕ) (p q : Seat) (can : CanDrive r c p) where
     pub halt_calm : Adds silent_rule r test p q → Calm r c test p q
     halt_calm adds = record { adds = adds; drives = λ watches opening events outs items d. at watches opening events outs items d (is_some (halt_reason (history r.base s.before))) refl }
       where
-        at : (watches : Bool) (opening : EntryKind) (events : List Event) (outs : List Out) (items : List Item) → Drives watches opening r c events outs items p
+        at : (watches : Bool) (opening : EntryKind) (events : List Event) (outs : List Given) (items : List Item) → Drives watches opening r c events outs items p
             → (b : Bool) → is_some (halt_reason (history r.base s.before)) ≡ b → Drives watches opening r c events outs items q
         at watches opening events outs items d true is =
             drives_kept watches opening r c events outs items p q (λ set seat. HaltDid set seat why) d s
@@ -155,7 +156,7 @@ module _ (r : Lock) (c : ℕ) (p q : Seat) (can : CanDrive r c p) where
       drives = λ watches opening events outs items d.
           drives_added watches opening r c events outs items p q (λ set _. FinishDid set x.run x.gives did.0 result) d fs (Finish x.run.call x.gives) finished silent (λ is. absurd (cc is))
           (events ++ x.run.event ∷ []) outs items (ran watches opening events outs items d)
-          (subst (AreSaid r.base c q.view.known.seen outs) (sym (append-nil (says_of p.view.known.mine))) (said_later r.base c p.view.known.seen q.view.known.seen later outs (says_of p.view.known.mine) d.said))
+          (subst (AreSaidOver r.base (runs_in r c) c q.view.known.seen outs) (sym (append-nil (says_of p.view.known.mine))) (said_later r.base (runs_in r c) c p.view.known.seen q.view.known.seen later outs (says_of p.view.known.mine) d.said))
           (front_beyond r.base c items p.view.known.seen q.view.known.seen later d.front)
           (d.count ∙ omega arith);
     }
@@ -163,7 +164,7 @@ module _ (r : Lock) (c : ℕ) (p q : Seat) (can : CanDrive r c p) where
         later : IsPrefix p.view.known.seen q.view.known.seen
         later = prefix_trans p.view.known.seen fs.before q.view.known.seen fs.begins (subst (IsPrefix fs.before) (sym finished) (prefix_append fs.before _))
 
-        ran : (watches : Bool) (opening : EntryKind) (events : List Event) (outs : List Out) (items : List Item) → (d : Drives watches opening r c events outs items p)
+        ran : (watches : Bool) (opening : EntryKind) (events : List Event) (outs : List Given) (items : List Item) → (d : Drives watches opening r c events outs items p)
             → runs_by 1 (deeds_with r.base (history r.base fs.before) (entry_by 1 (Finish x.run.call x.gives))) c ≡ events ++ x.run.event ∷ []
         ran watches opening events outs items d =
             rw (eq-eqb x.run.call c call)
@@ -182,10 +183,10 @@ module _ (r : Lock) (c : ℕ) (p q : Seat) (can : CanDrive r c p) where
       adds = adds_one silent_rule r p q (λ set seat. SayDid set seat c out (Ok a)) is_saying (Say c out) s s.did.adds refl (λ is. absurd (cc is));
       drives = λ opening events outs items d.
           drives_added false opening r c events outs items p q (λ set seat. SayDid set seat c out (Ok a)) d s (Say c out) s.did.adds refl (λ is. absurd (cc is))
-          events (outs ++ out ∷ []) items (runs_before false opening r c events outs items p q (λ set seat. SayDid set seat c out (Ok a)) d s)
-          (said_later r.base c s.before q.view.known.seen added (outs ++ out ∷ []) (says_of p.view.known.mine ++ out ∷ [])
-          (said_more r.base c s.before out outs (says_of p.view.known.mine) (taken_open r.base s.before c out taken)
-          (said_later r.base c p.view.known.seen s.before s.begins outs (says_of p.view.known.mine) d.said)))
+          events (outs ++ given_at (mails events) out ∷ []) items (runs_before false opening r c events outs items p q (λ set seat. SayDid set seat c out (Ok a)) d s)
+          (said_later r.base (runs_in r c) c s.before q.view.known.seen added (outs ++ given_at (mails events) out ∷ []) (says_of p.view.known.mine ++ out ∷ [])
+          (said_more r.base (runs_in r c) c s.before (mails events) out outs (says_of p.view.known.mine) (taken_open r.base s.before c out taken)
+          (said_later r.base (runs_in r c) c p.view.known.seen s.before s.begins outs (says_of p.view.known.mine) d.said)))
           (front_beyond r.base c items p.view.known.seen q.view.known.seen later d.front)
           (d.count ∙ omega arith);
     }
@@ -231,8 +232,8 @@ module _ (r : Lock) (c : ℕ) (p q : Seat) (can : CanDrive r c p) where
           adds = calm.adds;
           drives = λ opening events outs items d.
               let later = calm.drives false opening events outs items d in
-              with_said false opening r c events outs (outs ++ out ∷ []) items q
-              (said_left r.base c q.view.known.seen out outs (says_of q.view.known.mine)
+              with_said false opening r c events outs (outs ++ given_at (mails events) out ∷ []) items q
+              (said_left r.base (runs_in r c) c q.view.known.seen (mails events) out outs (says_of q.view.known.mine) (ap mails later.runs)
               (subst (λ h. IsLeft r.base c h out) (sym s.did.kept)
               (refused_left r.base s.before c out x (there_beyond r.base c p.view.known.seen s.before s.begins can.there) (told refused))) later.said) later;
         }
@@ -256,7 +257,9 @@ module _ (r : Lock) (c : ℕ) (p q : Seat) (can : CanDrive r c p) where
 pub long_speaks : (r : Lock) (c : ℕ) (p : Seat) (out : Out) → is_long_out out ≡ true → Adds silent_rule r is_saying p p → Speaks r c out p p
 long_speaks r c p out long adds = record {
   adds = adds;
-  drives = λ opening events outs items d. with_said false opening r c events outs (outs ++ out ∷ []) items p (said_left r.base c p.view.known.seen out outs (says_of p.view.known.mine) (inl long) d.said) d;
+  drives = λ opening events outs items d.
+      with_said false opening r c events outs (outs ++ given_at (mails events) out ∷ []) items p
+      (said_left r.base (runs_in r c) c p.view.known.seen (mails events) out outs (says_of p.view.known.mine) (ap mails d.runs) (inl long) d.said) d;
 }
 
 -- two calm steps
@@ -327,7 +330,7 @@ module _ (r : Lock) (c : ℕ) (status : Status) (p m q : Seat) (can : CanDrive r
   first_adds true is = adds_none silent_rule r p mid (λ set seat. CancelDid set seat c cw.answer) is_cutting cw.cancels (seen_is true is)
   first_adds false is = adds_one silent_rule r p mid (λ set seat. CancelDid set seat c cw.answer) is_cutting (Cancel c) cw.cancels (seen_is false is) refl (λ same. absurd (cc same))
 
-  first_drives : (opening : EntryKind) (events : List Event) (outs : List Out) (items : List Item) → (b : Bool) → was_cut ≡ b → Drives true opening r c events outs items p → Drives true opening r c events outs items mid
+  first_drives : (opening : EntryKind) (events : List Event) (outs : List Given) (items : List Item) → (b : Bool) → was_cut ≡ b → Drives true opening r c events outs items p → Drives true opening r c events outs items mid
   first_drives opening events outs items true is d = drives_kept true opening r c events outs items p mid (λ set seat. CancelDid set seat c cw.answer) d cw.cancels (seen_is true is)
   first_drives opening events outs items false is d =
       drives_calm true opening r c events outs items p mid (λ set seat. CancelDid set seat c cw.answer) d cw.cancels (Cancel c) (seen_is false is) refl (λ same. absurd (cc same)) refl refl refl
@@ -338,7 +341,7 @@ module _ (r : Lock) (c : ℕ) (status : Status) (p m q : Seat) (can : CanDrive r
   shown_m : made_by seat_of 1 m.view.known.seen ≡ m.view.known.mine
   shown_m = subst (λ n. made_by seat_of n m.view.known.seen ≡ m.view.known.mine) number_m s.shown
 
-  waited : (opening : EntryKind) (events : List Event) (outs : List Out) (items : List Item) → Drives true opening r c events outs items mid → Drives true opening r c events outs items m
+  waited : (opening : EntryKind) (events : List Event) (outs : List Given) (items : List Item) → Drives true opening r c events outs items mid → Drives true opening r c events outs items m
   waited opening events outs items d = drives_sees true opening r c events outs items mid m d cw.waits.same cw.waits.own_still cw.waits.legal cw.waits.begins cw.waits.mine shown_m
 
   wait_adds : Adds silent_rule r is_cutting p mid → Adds silent_rule r is_cutting p m
@@ -419,7 +422,7 @@ module _ (r : Lock) (c : ℕ) (p q : Seat) (can : CanDrive r c p) where
       more = λ watches opening events outs items d.
           drives_added watches opening r c events outs items p q (λ set seat. FlushDid set seat (Some item)) d s Flush s.did.adds refl (λ is. absurd (cc is))
           events outs (items ++ item ∷ []) (runs_before watches opening r c events outs items p q (λ set seat. FlushDid set seat (Some item)) d s)
-          (subst (AreSaid r.base c q.view.known.seen outs) (sym (append-nil (says_of p.view.known.mine))) (said_later r.base c p.view.known.seen q.view.known.seen later outs (says_of p.view.known.mine) d.said))
+          (subst (AreSaidOver r.base (runs_in r c) c q.view.known.seen outs) (sym (append-nil (says_of p.view.known.mine))) (said_later r.base (runs_in r c) c p.view.known.seen q.view.known.seen later outs (says_of p.view.known.mine) d.said))
           (prefix_trans (items ++ item ∷ []) (items_sent (history r.base s.before)) (items_sent (history r.base q.view.known.seen))
           (next_of_front items (items_sent (history r.base s.before)) item (front_beyond r.base c items p.view.known.seen s.before s.begins d.front)
           (subst (λ n. slice_get (items_sent (history r.base s.before)) n ≡ Some item) (many ∙ sym d.count) s.did.front)) later_items)

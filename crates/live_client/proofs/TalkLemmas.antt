@@ -11,6 +11,7 @@ use Rattle.rpc_journal.specs.declared.item.Item.{Item}
 use Rattle.rpc_shared.specs.session.Crew.{Lock, Seat}
 use Rattle.live_client.specs.Driving.{Calm, Cuts, Drives, EndsRun, Speaks, Talks, is_flushing, is_running, is_saying}
 use Rattle.live_client.specs.Histories.{is_cancel}
+use Rattle.live_client.specs.asks.Tasks.{Given, given_at, mails}
 use Rattle.live_client.proofs.StepsOf.{cut_on}
 
 pub run_uncancelled : (kind : EntryKind) → is_running kind ≡ true → is_cancel kind ≡ false
@@ -26,12 +27,12 @@ flush_uncancelled (Cancel c) is = absurd cc
 flush_uncancelled _ is = refl
 
 abbrev pub Did : Type 1
-Did = Option Status → List Event → List Out → Option Status → Type 0
+Did = Option Status → List Event → List Given → Option Status → Type 0
 
 module _ (watches : Bool) (opening : EntryKind) (r : Lock) (c : ℕ) (did now : Did) (items : List Item) where
   -- a step that runs nothing to its end and says nothing
   pub talks_calm : (whole over : Bool) (test : EntryKind → Bool) (p q : Seat) → ((kind : EntryKind) → test kind ≡ true → is_cancel kind ≡ false) → Calm r c test p q
-      → ((cut : Option Status) (events : List Event) (outs : List Out) (ended : Option Status) → did cut events outs ended → now cut events outs ended)
+      → ((cut : Option Status) (events : List Event) (outs : List Given) (ended : Option Status) → did cut events outs ended → now cut events outs ended)
       → Talks watches opening did r c whole over items p → Talks watches opening now r c whole over items q
   talks_calm whole over test p q none calm same t = record {
     cut = t.cut;
@@ -48,7 +49,7 @@ module _ (watches : Bool) (opening : EntryKind) (r : Lock) (c : ℕ) (did now : 
 
   -- the errand goes on
   pub talks_on : (whole over : Bool) (p : Seat)
-      → ((cut : Option Status) (events : List Event) (outs : List Out) (ended : Option Status) → did cut events outs ended → (next : Option Status) × now cut events outs next)
+      → ((cut : Option Status) (events : List Event) (outs : List Given) (ended : Option Status) → did cut events outs ended → (next : Option Status) × now cut events outs next)
       → Talks watches opening did r c whole over items p → Talks watches opening now r c whole false items p
   talks_on whole over p goes t =
       let next = goes t.cut t.events (t.outs ++ t.lost) t.ended t.heard in
@@ -67,7 +68,7 @@ module _ (watches : Bool) (opening : EntryKind) (r : Lock) (c : ℕ) (did now : 
 
   -- the same, of what is known of the errand alone
   pub talks_same : (whole over : Bool) (p : Seat)
-      → ((cut : Option Status) (events : List Event) (outs : List Out) (ended : Option Status) → did cut events outs ended → now cut events outs ended)
+      → ((cut : Option Status) (events : List Event) (outs : List Given) (ended : Option Status) → did cut events outs ended → now cut events outs ended)
       → Talks watches opening did r c whole over items p → Talks watches opening now r c whole over items p
   talks_same whole over p same t = record {
     cut = t.cut;
@@ -84,7 +85,7 @@ module _ (watches : Bool) (opening : EntryKind) (r : Lock) (c : ℕ) (did now : 
 
   -- the errand hears an event, whose run ends
   module _ (uncut : Type 0) (event : Event) (p q : Seat) (ends : EndsRun r c event p q)
-      (hears : (cut : Option Status) (events : List Event) (outs : List Out) (ended : Option Status) → did cut events outs ended
+      (hears : (cut : Option Status) (events : List Event) (outs : List Given) (ended : Option Status) → did cut events outs ended
       → (next : Option Status) × now cut (events ++ event ∷ []) outs next × (is_some ended ≡ true → (next ≡ ended) × uncut)) where
     pub talks_heard : (whole over : Bool) → Talks watches opening did r c whole over items p → Talks watches opening now r c whole over items q
     talks_heard whole over t =
@@ -107,8 +108,8 @@ module _ (watches : Bool) (opening : EntryKind) (r : Lock) (c : ℕ) (did now : 
 
   -- what the errand gives is said or refused
   module _ (out : Out) (p q : Seat) (silent : watches ≡ false)
-      (gives : (cut : Option Status) (events : List Event) (outs : List Out) (ended : Option Status) → did cut events outs ended → now cut events (outs ++ out ∷ []) ended) where
-    given : (t : Talks watches opening did r c true false items p) → now t.cut t.events (t.outs ++ out ∷ []) t.ended
+      (gives : (cut : Option Status) (events : List Event) (outs : List Given) (ended : Option Status) → did cut events outs ended → now cut events (outs ++ given_at (mails events) out ∷ []) ended) where
+    given : (t : Talks watches opening did r c true false items p) → now t.cut t.events (t.outs ++ given_at (mails t.events) out ∷ []) t.ended
     given t =
         gives t.cut t.events t.outs t.ended
         (subst (λ os. did t.cut t.events os t.ended) (ap (λ lost. t.outs ++ lost) (t.none_lost refl) ∙ append-nil t.outs) t.heard)
@@ -117,14 +118,14 @@ module _ (watches : Bool) (opening : EntryKind) (r : Lock) (c : ℕ) (did now : 
     talks_said speaks t = record {
       cut = t.cut;
       events = t.events;
-      outs = t.outs ++ out ∷ [];
+      outs = t.outs ++ given_at (mails t.events) out ∷ [];
       lost = [];
       ended = t.ended;
       drives =
-          subst (λ w. Drives w opening r c t.events (t.outs ++ out ∷ []) items q) (sym silent)
+          subst (λ w. Drives w opening r c t.events (t.outs ++ given_at (mails t.events) out ∷ []) items q) (sym silent)
           (speaks.drives opening t.events t.outs items (subst (λ w. Drives w opening r c t.events t.outs items p) silent t.drives));
       quiet = cut_on r c is_saying t.cut p q say_uncancelled speaks.adds t.quiet;
-      heard = subst (λ os. now t.cut t.events os t.ended) (sym (append-nil (t.outs ++ out ∷ []))) (given t);
+      heard = subst (λ os. now t.cut t.events os t.ended) (sym (append-nil (t.outs ++ given_at (mails t.events) out ∷ []))) (given t);
       none_lost = λ _. refl;
       is_over = λ is. absurd (false≢true is);
     }
@@ -134,7 +135,7 @@ module _ (watches : Bool) (opening : EntryKind) (r : Lock) (c : ℕ) (did now : 
       cut = t.cut;
       events = t.events;
       outs = t.outs;
-      lost = out ∷ [];
+      lost = given_at (mails t.events) out ∷ [];
       ended = t.ended;
       drives = calm.drives watches opening t.events t.outs items t.drives;
       quiet = cut_on r c is_saying t.cut p q say_uncancelled calm.adds t.quiet;
@@ -145,7 +146,7 @@ module _ (watches : Bool) (opening : EntryKind) (r : Lock) (c : ℕ) (did now : 
 
   -- the call is cancelled, which answers a status
   pub talks_cut : (whole over : Bool) (status : Status) (p q : Seat) → watches ≡ true → Cuts r c status p q
-      → ((cut : Option Status) (events : List Event) (outs : List Out) (ended : Option Status) → did cut events outs ended → (next : Option Status) × now (Some status) events outs next)
+      → ((cut : Option Status) (events : List Event) (outs : List Given) (ended : Option Status) → did cut events outs ended → (next : Option Status) × now (Some status) events outs next)
       → Talks watches opening did r c whole over items p → Talks watches opening now r c whole false items q
   talks_cut whole over status p q watching cuts tells t =
       let next = tells t.cut t.events (t.outs ++ t.lost) t.ended t.heard in

@@ -15,7 +15,6 @@ use Rattle.turn_cell.specs.Passes.{AllFit, FitsValue}
 use Rattle.rpc_ids.specs.declared.method.MethodRef.{MethodRef}
 use Rattle.rpc_ids.specs.declared.status.Status.{Status}
 use Rattle.rpc_packet.specs.declared.owned.Packet.{Packet}
-use Rattle.rpc_handlers.specs.declared.answer.Out.{Out}
 use Rattle.rpc_handlers.specs.declared.event.Event.{Event}
 use Rattle.rpc_handlers.specs.declared.event.Memo.{Memo}
 use Rattle.rpc_journal.specs.declared.entry.Entry.{Entry}
@@ -42,14 +41,15 @@ use Rattle.rpc_shared.specs.session.Ring.{HaltsFor}
 use Rattle.rpc_shared.specs.session.Sessions.{AreLate, is_halted, is_halting}
 use Rattle.rpc_shared.proofs.session.PassLemmas.{late_still, own_there}
 use Rattle.live_client.specs.Ask.{live_setting}
-use Rattle.live_client.specs.Driving.{Drives, HasCut, is_drivers, runs_by}
+use Rattle.live_client.specs.Driving.{Drives, HasCut, is_drivers, runs_by, runs_in}
 use Rattle.live_client.specs.Feeding.{Reader, is_readers}
 use Rattle.live_client.specs.Histories.{AreOfLive, AreSaid, cancels, events_in, events_run, is_cancel, is_entry_of, said_by, says_of}
 use Rattle.live_client.specs.Silent.{is_silent, silent_rule}
+use Rattle.live_client.specs.asks.Tasks.{Given}
 use Rattle.live_client.specs.Told.{IsCutSo}
 use Rattle.live_client.proofs.ClientEntries.{Uncut, one_call, uncancelled}
 use Rattle.live_client.proofs.DriveLemmas.{front_beyond, runs_beyond, there_beyond}
-use Rattle.live_client.proofs.SaidLemmas.{said_later}
+use Rattle.live_client.proofs.SaidLemmas.{said_as, said_later}
 use Rattle.live_client.proofs.StepsOf.{end_stays, halts_split}
 use Rattle.live_client.proofs.WorkLemmas.{halted_on}
 
@@ -254,13 +254,13 @@ module _ (method : MethodRef) where
 
   -- ---- the passes of a closed table
 
-  pub record Closed (watches : Bool) (opening : EntryKind) (r : Lock) (c : ℕ) (events : List Event) (outs : List Out) (items : List Item) (q0 q1 : Seat) (t : Table) : Type 0 where
+  pub record Closed (watches : Bool) (opening : EntryKind) (r : Lock) (c : ℕ) (events : List Event) (outs : List Given) (items : List Item) (q0 q1 : Seat) (t : Table) : Type 0 where
     pub reader : Reader is_readers r q0
     pub drives : Drives watches opening r c events outs items q1
     pub fits : AllFit log_of seat_of base_of (q0 ∷ q1 ∷ []) t
     pub legal : IsLegal silent_rule r.base t.entries
 
-  module _ (table : TableId) (count : ℕ) (watches : Bool) (packet : Packet) (memo : Memo) (c : ℕ) (events : List Event) (outs : List Out) (items : List Item) (q0 q1 : Seat) (t : Table)
+  module _ (table : TableId) (count : ℕ) (watches : Bool) (packet : Packet) (memo : Memo) (c : ℕ) (events : List Event) (outs : List Given) (items : List Item) (q0 q1 : Seat) (t : Table)
       (x : Closed watches (Invoke packet memo) (live_lock table count) c events outs items q0 q1 t) where
     abbrev h : List Entry
     h = t.entries
@@ -345,7 +345,12 @@ module _ (method : MethodRef) where
     pub said_whole : AreSaid (live_setting method) c h outs (says_of h)
     said_whole =
         subst (AreSaid (live_setting method) c h outs) (sym says_are)
-        (said_later (live_setting method) c q1.view.known.seen h driver_fits.begins outs (says_of q1.view.known.mine) d.said)
+        (said_as (live_setting method) (runs_in (live_lock table count) c) (λ front. events_run (live_setting method) front c) c h runs_are outs (says_of q1.view.known.mine)
+        (said_later (live_setting method) (runs_in (live_lock table count) c) c q1.view.known.seen h driver_fits.begins outs (says_of q1.view.known.mine) d.said))
+      where
+        -- only the driver runs the call
+        runs_are : (front : List Entry) → IsPrefix front h → events_run (live_setting method) front c ≡ runs_in (live_lock table count) c front
+        runs_are front begins = events_own (reverse front) c (all-reverse Whose front (all_first Whose front begins.0 (subst (AllByRecursion Whose) (sym begins.1) whose)))
 
     pub cancels_are : cancels h ≡ cancels q1.view.known.mine
     cancels_are = cancels_own h whose ∙ ap cancels driver_fits.own

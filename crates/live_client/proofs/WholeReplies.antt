@@ -1,5 +1,5 @@
 -- What was sent behind the end of the output is replies.
-use Rattle.std.proofs.Common.{◌≡◌, ℕ, zero, suc, ◌≤◌, ◌==◌, nat_le, Bool, true, false, if◌then◌else◌, List, [], ◌∷◌, ◌++◌, length, reverse, Option, None, refl, ap, sym, ◌∙◌, subst, inl, inr, arith, append_assoc, length-append, eq-eqb}
+use Rattle.std.proofs.Common.{◌≡◌, ℕ, zero, suc, ◌≤◌, ◌==◌, nat_le, Bool, true, false, if◌then◌else◌, List, [], ◌∷◌, ◌++◌, length, reverse, Option, refl, ap, sym, ◌∙◌, subst, inl, inr, arith, append_assoc, length-append, eq-eqb}
 use Rattle.std.proofs.lemmas.Bool.{false≢true, true≢false, leb-false}
 use Rattle.std.proofs.lemmas.List.{append-nil, append_cancel_left, reverse-append}
 use Rattle.std.specs.List.{AllByRecursion}
@@ -10,7 +10,6 @@ use Rattle.entry_lists.proofs.Makers.{all_append, all_by_maker, all_first, all_s
 use Rattle.atomic_table.specs.Seated.{TableId}
 use Rattle.rpc_ids.specs.declared.method.MethodRef.{MethodRef}
 use Rattle.rpc_packet.specs.declared.owned.Packet.{Packet}
-use Rattle.rpc_handlers.specs.declared.answer.Out.{Out}
 use Rattle.rpc_handlers.specs.declared.event.Event.{Event}
 use Rattle.rpc_handlers.specs.declared.event.Memo.{Memo}
 use Rattle.rpc_journal.specs.declared.entry.Entry.{Entry}
@@ -34,6 +33,7 @@ use Rattle.live_client.specs.Driving.{IsCalmed, IsWritten, is_closing}
 use Rattle.live_client.specs.Feeding.{is_readers}
 use Rattle.live_client.specs.Histories.{is_cancel}
 use Rattle.live_client.specs.Live.{AreReplies, IsReply}
+use Rattle.live_client.specs.asks.Tasks.{Given}
 use Rattle.live_client.proofs.ClientEntries.{AddsReplies, Uncut, is_finish, is_late, late_replies, replies_trans}
 use Rattle.live_client.proofs.WholeLemmas.{Closed, Whose, is_marked, cancels_own, driver_fits, live_lock, reader_fits, uncut_of, whose}
 
@@ -107,7 +107,7 @@ module _ (method : MethodRef) where
 
   -- ---- behind the end of the output
 
-  module _ (table : TableId) (count : ℕ) (watches : Bool) (packet : Packet) (memo : Memo) (c : ℕ) (events : List Event) (outs : List Out) (items : List Item) (q0 q1 : Seat) (t : Table)
+  module _ (table : TableId) (count : ℕ) (watches : Bool) (packet : Packet) (memo : Memo) (c : ℕ) (events : List Event) (outs : List Given) (items : List Item) (q0 q1 : Seat) (t : Table)
       (x : (Closed method) watches (Invoke packet memo) ((live_lock method) table count) c events outs items q0 q1 t) where
     abbrev h : List Entry
     h = t.entries

@@ -13,7 +13,6 @@ use Rattle.link_io.specs.Stored.{Stored}
 use Rattle.link_io.specs.declared.why.Why.{Why}
 use Rattle.link_io.specs.declared.why.Why.TheVariants.{Sink, Store, JournalLimit, Memory}
 use Rattle.rpc_ids.specs.declared.status.Status.{Status}
-use Rattle.rpc_handlers.specs.declared.answer.Out.{Out}
 use Rattle.rpc_handlers.specs.declared.event.Event.{Event}
 use Rattle.rpc_journal.specs.declared.entry.Entry.{Entry}
 use Rattle.rpc_journal.specs.declared.entry.EntryKind.{EntryKind}
@@ -35,6 +34,7 @@ use Rattle.rpc_shared.specs.session.Sessions.{is_halted, is_halting, wire}
 use Rattle.rpc_shared.proofs.session.PassLemmas.{of_weaker}
 use Rattle.rpc_shared.proofs.session.WriterLemmas.{holds_more, wire-append}
 use Rattle.live_client.specs.Histories.{cancels}
+use Rattle.live_client.specs.asks.Tasks.{Given}
 use Rattle.live_client.specs.Silent.{silent_rule}
 use Rattle.live_client.specs.Driving.{Calm, Drives, FlushFails, Flushed, FlushesMore, HasCauses, HasCut, HasWorked, IsCalmed, IsClosing, IsWritten, Made, Rests, Talks, Works, is_closing, is_cutting, is_flushing, is_running, is_saying, is_talking}
 use Rattle.live_client.proofs.StepsOf.{cut_on, halts_split}
@@ -322,7 +322,7 @@ past_end (x ∷ xs) zero is = absurd (cc is)
 past_end (x ∷ xs) (suc n) is = omega (arith, past_end xs n is)
 
 -- the output is finished: what was sent up to its end was written
-pub finishes : (watches : Bool) (opening : EntryKind) (r : Lock) (c : ℕ) (events : List Event) (outs : List Out) (items : List Item) (p : Seat) (cut : Option Status) → HasCut r c cut p → Drives watches opening r c events outs items p → Rests r p → IsClosing r c items p
+pub finishes : (watches : Bool) (opening : EntryKind) (r : Lock) (c : ℕ) (events : List Event) (outs : List Given) (items : List Item) (p : Seat) (cut : Option Status) → HasCut r c cut p → Drives watches opening r c events outs items p → Rests r p → IsClosing r c items p
 finishes watches opening r c events outs items p cut quiet d rests =
     let own : made_by seat_of 1 p.view.known.seen ≡ p.view.known.mine = subst (λ n. made_by seat_of n p.view.known.seen ≡ p.view.known.mine) d.number d.stands.shown in
     let begins : IsPrefix rests.front p.view.known.seen = (rests.back, sym rests.seen) in
@@ -373,7 +373,7 @@ pub appends_kept : (w0 w w' : Option (List ℕ)) (bytes : List ℕ) → Keeps w 
 appends_kept w0 w w' bytes kept appended = Appends-kept w0 w w' bytes appended kept
 
 pub works_over : (watches : Bool) (opening : EntryKind) (did : Did) (r : Lock) (c : ℕ) (finished : Bool) (w0 w : Option (List ℕ)) (d0 d : Option Stored) (f0 f g0 g : ℕ) (p : Seat) (o : Option Status) → is_some o ≡ true
-    → ((cut : Option Status) (events : List Event) (outs : List Out) (ended : Option Status) → did cut events outs ended → o ≡ ended)
+    → ((cut : Option Status) (events : List Event) (outs : List Given) (ended : Option Status) → did cut events outs ended → o ≡ ended)
     → Works watches opening did r c false finished w0 w d0 d f0 f g0 g p → Works watches opening did r c true finished w0 w d0 d f0 f g0 g p
 works_over watches opening did r c finished w0 w d0 d f0 f g0 g p o some told so =
     let t = so.talks in

@@ -31,7 +31,8 @@ use Rattle.rpc_journal.specs.declared.answers.SayRefused.TheVariants.{JournalFul
 use Rattle.rpc_shared.specs.session.Crew.{Adds, AreOf, Lock, Seat, Stands, is_want}
 use Rattle.rpc_shared.specs.session.Ring.{HaltsFor}
 use Rattle.rpc_shared.specs.session.Sessions.{is_halted, is_halting, wire}
-use Rattle.live_client.specs.Histories.{AreSaid, cancels, says_of}
+use Rattle.live_client.specs.Histories.{AreSaidOver, cancels, says_of}
+use Rattle.live_client.specs.asks.Tasks.{Given, given_at, mails}
 use Rattle.live_client.specs.Silent.{is_silent, silent_rule}
 
 -- what the driver adds behind the opening of the call
@@ -58,8 +59,12 @@ runs_by seat [] c = []
 runs_by seat (d ∷ ds) c =
     if (d.entry.seat == seat) && is_finish_of c d.entry.kind then runs_by seat ds c ++ option_to_list (taken_event ds c) else runs_by seat ds c
 
+-- the same, of the driver's in this beginning of the history
+abbrev pub runs_in : Lock → ℕ → List Entry → List Event
+runs_in r c h = runs_by 1 (history r.base h) c
+
 -- The pass of the driver, which opened call c. It ran these events, was given these outs to say, and flushed these items.
-pub record Drives (watches : Bool) (opening : EntryKind) (r : Lock) (c : ℕ) (events : List Event) (outs : List Out) (items : List Item) (p : Seat) : Type 0 where
+pub record Drives (watches : Bool) (opening : EntryKind) (r : Lock) (c : ℕ) (events : List Event) (outs : List Given) (items : List Item) (p : Seat) : Type 0 where
   pub stands : Stands silent_rule r p
   pub number : p.view.known.number ≡ 1
   pub rest : List Entry
@@ -67,7 +72,7 @@ pub record Drives (watches : Bool) (opening : EntryKind) (r : Lock) (c : ℕ) (e
   pub kinds : AreOf (is_drivers watches) rest
   pub there : IsCall r.base p.view.known.seen c
   pub runs : runs_by 1 (history r.base p.view.known.seen) c ≡ events
-  pub said : AreSaid r.base c p.view.known.seen outs (says_of p.view.known.mine)
+  pub said : AreSaidOver r.base (runs_in r c) c p.view.known.seen outs (says_of p.view.known.mine)
   pub front : IsPrefix items (items_sent (history r.base p.view.known.seen))
   pub count : length items ≡ flushes p.view.known.mine
 
@@ -105,11 +110,11 @@ pub record Made (r : Lock) (c : ℕ) (finished : Bool) (w0 w : Option (List ℕ)
 
 -- The pass of the driver and its errand, which has heard the events that ran; what it gave out to be said was said or refused, but
 -- where the driver stopped, for the last of it.
-pub record Talks (watches : Bool) (opening : EntryKind) (did : Option Status → List Event → List Out → Option Status → Type 0) (r : Lock) (c : ℕ) (whole over : Bool) (items : List Item) (p : Seat) : Type 0 where
+pub record Talks (watches : Bool) (opening : EntryKind) (did : Option Status → List Event → List Given → Option Status → Type 0) (r : Lock) (c : ℕ) (whole over : Bool) (items : List Item) (p : Seat) : Type 0 where
   pub cut : Option Status
   pub events : List Event
-  pub outs : List Out
-  pub lost : List Out
+  pub outs : List Given
+  pub lost : List Given
   pub ended : Option Status
   pub drives : Drives watches opening r c events outs items p
   pub quiet : HasCut r c cut p
@@ -124,14 +129,14 @@ pub record HasCauses (f0 f g0 g : ℕ) (p : Seat) : Type 0 where
   pub later : (f0 ≤ f) × (g0 ≤ g)
 
 -- The driver between two steps, with the link and the store, and their faults.
-pub record Works (watches : Bool) (opening : EntryKind) (did : Option Status → List Event → List Out → Option Status → Type 0) (r : Lock) (c : ℕ) (over finished : Bool) (w0 w : Option (List ℕ)) (d0 d : Option Stored) (f0 f g0 g : ℕ) (p : Seat) : Type 0 where
+pub record Works (watches : Bool) (opening : EntryKind) (did : Option Status → List Event → List Given → Option Status → Type 0) (r : Lock) (c : ℕ) (over finished : Bool) (w0 w : Option (List ℕ)) (d0 d : Option Stored) (f0 f g0 g : ℕ) (p : Seat) : Type 0 where
   pub items : List Item
   pub talks : Talks watches opening did r c true over items p
   pub made : Made r c finished w0 w d0 d items p
   pub causes : HasCauses f0 f g0 g p
 
 -- The driver ends. Where an item failed, the table is halted, and the link may have a part of its frame.
-pub record HasWorked (watches : Bool) (opening : EntryKind) (did : Bool → Option Status → List Event → List Out → Option Status → Type 0) (r : Lock) (c : ℕ) (w0 w : Option (List ℕ)) (d0 d : Option Stored) (f0 f g0 g : ℕ) (p : Seat) : Type 0 where
+pub record HasWorked (watches : Bool) (opening : EntryKind) (did : Bool → Option Status → List Event → List Given → Option Status → Type 0) (r : Lock) (c : ℕ) (w0 w : Option (List ℕ)) (d0 d : Option Stored) (f0 f g0 g : ℕ) (p : Seat) : Type 0 where
   pub items : List Item
   pub next : List Item
   pub first : List Item
@@ -148,7 +153,7 @@ pub record HasWorked (watches : Bool) (opening : EntryKind) (did : Bool → Opti
 
 -- All that the driver does, from one state of its errand and its devices to another, where it ends well or is halted; and whether
 -- the errand still wants its call cancelled.
-pub record Drove (watches : Bool) (did now : Bool → ℕ → ℕ → Option Status → List Event → List Out → Option Status → Type 0) (cuts : Bool) (r : Lock) (c : ℕ) (ok : Bool) (last upto : ℕ) (w w' : Option (List ℕ)) (d d' : Option Stored) (f f' g g' : ℕ) (p q : Seat) : Type 0 where
+pub record Drove (watches : Bool) (did now : Bool → ℕ → ℕ → Option Status → List Event → List Given → Option Status → Type 0) (cuts : Bool) (r : Lock) (c : ℕ) (ok : Bool) (last upto : ℕ) (w w' : Option (List ℕ)) (d d' : Option Stored) (f f' g g' : ℕ) (p q : Seat) : Type 0 where
   pub works : ok ≡ true → (opening : EntryKind) (all : Bool) (start : ℕ) (w0 : Option (List ℕ)) (d0 : Option Stored) (f0 g0 : ℕ) → start ≤ last
       → Works watches opening (did all start last) r c false false w0 w d0 d f0 f g0 g p
       → Works watches opening (now true start upto) r c true true w0 w' d0 d' f0 f' g0 g' q
@@ -159,7 +164,7 @@ pub record Drove (watches : Bool) (did now : Bool → ℕ → ℕ → Option Sta
       → Works watches opening (did all start last) r c false false w0 w d0 d f0 f g0 g p → cuts ≡ false
 
 -- The driver has ended: well, with its call and all that it had to say; or at a halt.
-pub record DriverEnded (watches : Bool) (opening : EntryKind) (did : Bool → Option Status → List Event → List Out → Option Status → Type 0) (r : Lock) (c : ℕ) (w0 w : Option (List ℕ)) (d0 d : Option Stored) (f0 f g0 g : ℕ) (p : Seat) : Type 0 where
+pub record DriverEnded (watches : Bool) (opening : EntryKind) (did : Bool → Option Status → List Event → List Given → Option Status → Type 0) (r : Lock) (c : ℕ) (w0 w : Option (List ℕ)) (d0 d : Option Stored) (f0 f g0 g : ℕ) (p : Seat) : Type 0 where
   pub worked : HasWorked watches opening did r c w0 w d0 d f0 f g0 g p
   pub cause :
       (Works watches opening (did true) r c true true w0 w d0 d f0 f g0 g p × (is_settled (history r.base p.view.known.seen) ≡ true))
@@ -217,23 +222,23 @@ want_by _ = None
 -- a step that runs no event to its end and says nothing
 pub record Calm (r : Lock) (c : ℕ) (test : EntryKind → Bool) (p q : Seat) : Type 0 where
   pub adds : Adds silent_rule r test p q
-  pub drives : (watches : Bool) (opening : EntryKind) (events : List Event) (outs : List Out) (items : List Item) → Drives watches opening r c events outs items p → Drives watches opening r c events outs items q
+  pub drives : (watches : Bool) (opening : EntryKind) (events : List Event) (outs : List Given) (items : List Item) → Drives watches opening r c events outs items p → Drives watches opening r c events outs items q
 
 -- a run of this event ends
 pub record EndsRun (r : Lock) (c : ℕ) (event : Event) (p q : Seat) : Type 0 where
   pub adds : Adds silent_rule r is_running p q
-  pub drives : (watches : Bool) (opening : EntryKind) (events : List Event) (outs : List Out) (items : List Item) → Drives watches opening r c events outs items p → Drives watches opening r c (events ++ event ∷ []) outs items q
+  pub drives : (watches : Bool) (opening : EntryKind) (events : List Event) (outs : List Given) (items : List Item) → Drives watches opening r c events outs items p → Drives watches opening r c (events ++ event ∷ []) outs items q
 
--- this was said or refused
+-- this was said or refused, with the mail that had come
 pub record Speaks (r : Lock) (c : ℕ) (out : Out) (p q : Seat) : Type 0 where
   pub adds : Adds silent_rule r is_saying p q
-  pub drives : (opening : EntryKind) (events : List Event) (outs : List Out) (items : List Item) → Drives false opening r c events outs items p → Drives false opening r c events (outs ++ out ∷ []) items q
+  pub drives : (opening : EntryKind) (events : List Event) (outs : List Given) (items : List Item) → Drives false opening r c events outs items p → Drives false opening r c events (outs ++ given_at (mails events) out ∷ []) items q
 
 -- the call is cancelled, and quiet; cancelling it answered this status
 pub record Cuts (r : Lock) (c : ℕ) (status : Status) (p q : Seat) : Type 0 where
   pub adds : Adds silent_rule r is_cutting p q
   pub cut : HasCut r c (Some status) q
-  pub drives : (opening : EntryKind) (events : List Event) (outs : List Out) (items : List Item) → Drives true opening r c events outs items p → Drives true opening r c events outs items q
+  pub drives : (opening : EntryKind) (events : List Event) (outs : List Given) (items : List Item) → Drives true opening r c events outs items p → Drives true opening r c events outs items q
 
 -- what a flush made: the link got the frames, unless it is finished, and the store the actions
 pub record Flushed (finished : Bool) (w w' : Option (List ℕ)) (d d' : Option Stored) (made : List Item) : Type 0 where
@@ -243,7 +248,7 @@ pub record Flushed (finished : Bool) (w w' : Option (List ℕ)) (d d' : Option S
 -- the items that the driver flushed are these more
 abbrev pub FlushesMore : Lock → ℕ → List Item → Seat → Seat → Type 0
 FlushesMore r c more p q =
-    (watches : Bool) (opening : EntryKind) (events : List Event) (outs : List Out) (items : List Item)
+    (watches : Bool) (opening : EntryKind) (events : List Event) (outs : List Given) (items : List Item)
     → Drives watches opening r c events outs items p → Drives watches opening r c events outs (items ++ more) q
 
 -- an item was taken

@@ -2,6 +2,7 @@
 use Rattle.std.specs.Prelude.{◌≡◌, ◌⊎◌, ℕ, ◌==◌, ◌<◌, ◌&&◌, not, Bool, true, false, if◌then◌else◌, List, [], ◌∷◌, ◌++◌}
 use Rattle.std.specs.List.{AllByRecursion}
 use Rattle.std.specs.Option.{option_to_list}
+use mathlib.Core.List.{IsPrefix}
 use Rattle.rpc_handlers.specs.declared.answer.Out.{Out}
 use Rattle.rpc_handlers.specs.declared.answer.Out.TheVariants.{Say as Message}
 use Rattle.rpc_handlers.specs.declared.event.Event.{Event}
@@ -19,6 +20,7 @@ use Rattle.rpc_journal.specs.Lawful.{has_stream}
 use Rattle.rpc_journal.specs.Queues.{taken_event}
 use Rattle.rpc_shared.specs.session.Sessions.{is_halting}
 use Rattle.live_client.specs.Silent.{is_silent}
+use Rattle.live_client.specs.asks.Tasks.{Given, mails}
 
 -- What a seat adds behind the opening of the call: the reader's, 0, feeds the input; the driver's, 1, runs handlers, which answer
 -- nothing, flushes, and says what a transfer says or cancels a watch; each may halt.
@@ -64,23 +66,35 @@ abbrev pub IsShut : Setting → ℕ → List Deed → Type 0
 IsShut set c ds =
     (has_end ds c ≡ true) ⊎ (((c < call_count ds) × (has_stream set.role (call_at ds c) ≡ false)) ⊎ ((not (is_server set.role) && is_done ds c) ≡ true))
 
+-- The table refused the messages of c when just so much mail had come: in a beginning of the history, whose runs are so much mail,
+-- the call is shut.
+pub record IsRefusedAt (set : Setting) (runs : List Entry → List Event) (c : ℕ) (h : List Entry) (mail : ℕ) : Type 0 where
+  pub front : List Entry
+  pub begins : IsPrefix front h
+  pub came : mails (runs front) ≡ mail
+  pub shut : IsShut set c (history set front)
+
 -- Of these outs, in order, no message was said, and each store action was, but where the call was cancelled.
-abbrev pub AreActed : Setting → ℕ → List Entry → List Out → List Out → Type 0
+abbrev pub AreActed : Setting → ℕ → List Entry → List Given → List Out → Type 0
 AreActed set c h [] says = says ≡ []
-AreActed set c h (out ∷ outs) says =
-    ((is_spoken out ≡ true) × AreActed set c h outs says)
-    ⊎ (((is_spoken out ≡ false) × (rest : List Out) × (says ≡ out ∷ rest) × AreActed set c h outs rest)
-    ⊎ ((is_spoken out ≡ false) × (is_cancelled (history set h) c ≡ true) × AreActed set c h outs says))
+AreActed set c h (given ∷ outs) says =
+    ((is_spoken given.out ≡ true) × AreActed set c h outs says)
+    ⊎ (((is_spoken given.out ≡ false) × (rest : List Out) × (says ≡ given.out ∷ rest) × AreActed set c h outs rest)
+    ⊎ ((is_spoken given.out ≡ false) × (is_cancelled (history set h) c ≡ true) × AreActed set c h outs says))
+
+-- The same as AreSaid, where a beginning of the history has run these events.
+abbrev pub AreSaidOver : Setting → (List Entry → List Event) → ℕ → List Entry → List Given → List Out → Type 0
+AreSaidOver set runs c h [] says = says ≡ []
+AreSaidOver set runs c h (given ∷ outs) says =
+    ((rest : List Out) × (says ≡ given.out ∷ rest) × AreSaidOver set runs c h outs rest)
+    ⊎ (((is_long_out given.out ≡ true) × AreSaidOver set runs c h outs says)
+    ⊎ (((is_spoken given.out ≡ false) × (is_cancelled (history set h) c ≡ true) × AreSaidOver set runs c h outs says)
+    ⊎ (IsRefusedAt set runs c h given.mail × AreActed set c h (given ∷ outs) says)))
 
 -- Of these outs, in order, each was said, but for what no frame takes, for store actions of a call that was cancelled, and, from one
--- message on that the table refused, for all messages.
-abbrev pub AreSaid : Setting → ℕ → List Entry → List Out → List Out → Type 0
-AreSaid set c h [] says = says ≡ []
-AreSaid set c h (out ∷ outs) says =
-    ((rest : List Out) × (says ≡ out ∷ rest) × AreSaid set c h outs rest)
-    ⊎ (((is_long_out out ≡ true) × AreSaid set c h outs says)
-    ⊎ (((is_spoken out ≡ false) × (is_cancelled (history set h) c ≡ true) × AreSaid set c h outs says)
-    ⊎ (IsShut set c (history set h) × AreActed set c h (out ∷ outs) says)))
+-- message on that the table refused before more mail came to the task, for all messages.
+abbrev pub AreSaid : Setting → ℕ → List Entry → List Given → List Out → Type 0
+AreSaid set c h outs says = AreSaidOver set (λ front. events_run set front c) c h outs says
 
 abbrev pub is_cancel : EntryKind → Bool
 is_cancel (Cancel c) = true

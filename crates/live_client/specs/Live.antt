@@ -11,7 +11,6 @@ use Rattle.rpc_ids.specs.declared.status.Status.TheVariants.{InvalidArgument}
 use Rattle.rpc_packet.specs.declared.call_name.CallName.{CallName}
 use Rattle.rpc_packet.specs.declared.packet_type.PacketType.TheVariants.{ClientError}
 use Rattle.rpc_frames.specs.Heard.{heard_packets}
-use Rattle.rpc_handlers.specs.declared.answer.Out.{Out}
 use Rattle.rpc_journal.specs.declared.entry.Entry.{Entry}
 use Rattle.rpc_journal.specs.declared.entry.EntryKind.{EntryKind}
 use Rattle.rpc_journal.specs.declared.item.Item.{Item}
@@ -36,7 +35,7 @@ use Rattle.live_client.specs.Lengths.{committed_by, length_put}
 use Rattle.live_client.specs.Histories.{AreOfLive, AreSaid, cancels, events_run, says_of}
 use Rattle.live_client.specs.Silent.{silent_rule}
 use Rattle.live_client.specs.asks.Events.{first_end, messages_in}
-use Rattle.live_client.specs.asks.Tasks.{TaskRan}
+use Rattle.live_client.specs.asks.Tasks.{Given, TaskRan}
 
 -- The journal of a client that ended for this reason, which is that of its Halt, where there is one. It begins with the opening of
 -- its one call.
@@ -101,11 +100,11 @@ pub record Explains (method : MethodRef) (left_old left_new written_old written_
   pub written : Appends written_old written_new (wire first)
   pub stored : store.Holds (items_sent (history (live_setting method) h)) held_old held_new
 
--- A transfer: its task was given the events of the call's runs, and what it said is in the journal, but for what was refused. At
--- a halt the last of it may be unsaid.
-pub record TransferRan (method : MethodRef) {T : Type 0} (Ran : List Out → T → Type 0) (h : List Entry) : Type 0 where
-  pub outs : List Out
-  pub unsaid : List Out
+-- A transfer: its task was given the events of the call's runs, and what it said is in the journal, but for what was refused when
+-- its task said that. At a halt the last of it may be unsaid.
+pub record TransferRan (method : MethodRef) {T : Type 0} (Ran : List Given → T → Type 0) (h : List Entry) : Type 0 where
+  pub outs : List Given
+  pub unsaid : List Given
   pub said : AreSaid (live_setting method) 0 h outs (says_of h)
   pub all_said : is_halted (live_setting method) h ≡ false → unsaid ≡ []
   pub now : T

@@ -2,13 +2,13 @@
 use Rattle.std.specs.Prelude.{◌≡◌, Bool, true, false, List, [], ◌++◌, Option, Some, None, is_some}
 use Rattle.rpc_ids.specs.declared.method.MethodRef.{MethodRef}
 use Rattle.rpc_ids.specs.declared.status.Status.{Status}
-use Rattle.rpc_handlers.specs.declared.answer.Out.{Out}
 use Rattle.rpc_handlers.specs.declared.event.Event.{Event}
 use Rattle.rpc_journal.specs.declared.entry.Entry.{Entry}
 use Rattle.rpc_journal.specs.Calls.{end_of}
 use Rattle.rpc_journal.specs.History.{history}
 use Rattle.rpc_shared.specs.session.Sessions.{is_halted}
 use Rattle.live_client.specs.Ask.{live_setting}
+use Rattle.live_client.specs.asks.Tasks.{Given}
 use Rattle.live_client.specs.Histories.{AreSaid, cancels, events_run, says_of}
 
 -- the call was cancelled, which answered this; or it wasn't
@@ -18,10 +18,10 @@ IsCutSo method h (Some status) = (cancels h ≡ true) × (end_of (history (live_
 
 -- It heard the events of the call's runs. What it gave out was said or refused, but for the last of it at a halt; without one it
 -- has said all, and has ended.
-pub record HasTold (method : MethodRef) (did : Bool → Option Status → List Event → List Out → Option Status → Type 0) (h : List Entry) : Type 0 where
+pub record HasTold (method : MethodRef) (did : Bool → Option Status → List Event → List Given → Option Status → Type 0) (h : List Entry) : Type 0 where
   pub cut : Option Status
-  pub outs : List Out
-  pub lost : List Out
+  pub outs : List Given
+  pub lost : List Given
   pub ended : Option Status
   pub all : Bool
   pub is_cut : IsCutSo method h cut

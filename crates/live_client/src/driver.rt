@@ -41,7 +41,7 @@ fn listen<W: Errand, R: Wait>(
     requires ready { W.ready errand.old }
     requires uncut { W.cuts errand.old ≡ false }
     ensures adds { Adds silent_rule table.now is_talking pass.old pass.new }
-    ensures talks { (opening : EntryKind) (all : Bool) (start upto : ℕ) (items : List Item) → Talks W.watches opening (W.did errand.old all start upto) table.now call true false items pass.old → Talks W.watches opening (W.did errand.new all start upto) table.now call true false items pass.new }
+    ensures talks { (opening : EntryKind) (start upto : ℕ) (items : List Item) → Talks W.watches opening (W.did errand.old true start upto) table.now call true false items pass.old → Talks W.watches opening (W.did errand.new true start upto) table.now call true false items pass.new }
     ensures halted { OnErr result (is_halted table.now.base pass.new.view.known.seen ≡ true) }
     ensures uncut { W.cuts errand.new ≡ false }
     ensures ready { W.ready errand.new }
@@ -94,7 +94,7 @@ fn speak<W: Errand, C: Clock, R: Wait>(
     }
 }
 
-// Both. False where nothing was heard or said.
+// It goes on, and speaks; where it has nothing to say it listens. False where nothing was said or heard.
 fn talk<W: Errand, C: Clock, R: Wait>(
     rt: &R,
     table: &Table,
@@ -123,11 +123,9 @@ fn talk<W: Errand, C: Clock, R: Wait>(
     ensures past { W.moment errand.new ≤ C.last clock.new }
     ensures later { C.last clock.old ≤ C.last clock.new }
 {
-    match listen(rt, table, pass, call, errand) {
-        Ok(heard) => match speak(rt, table, pass, call, errand, bells, clock) {
-            Ok(said) => Ok(heard || said),
-            Err(halted) => Err(halted),
-        },
+    match speak(rt, table, pass, call, errand, bells, clock) {
+        Ok(true) => Ok(true),
+        Ok(false) => listen(rt, table, pass, call, errand),
         Err(halted) => Err(halted),
     }
 }

@@ -1,6 +1,5 @@
 //! The driver's steps with its errand: it hears an event, goes on, says what it has to say, or has the call cancelled.
 ghost use Rattle.std.specs.Prelude.{◌≡◌, ℕ, ◌≤◌, ◌++◌, [], ◌∷◌, List, Option, Ok, Some, None, true, false, Bool, is_ok, is_some, OnOk, OnErr};
-ghost use Rattle.rpc_handlers.specs.declared.answer.Out.{Out as Said};
 ghost use Rattle.rpc_handlers.specs.declared.event.Event.{Event as Heard};
 ghost use Rattle.rpc_ids.specs.declared.status.Status.{Status as End};
 ghost use Rattle.rpc_journal.specs.declared.entry.EntryKind.{EntryKind};
@@ -11,6 +10,7 @@ ghost use Rattle.rpc_shared.specs.session.Sessions.{is_halted};
 ghost use Rattle.task_core.specs.bells.Bells.{Tower};
 ghost use Rattle.live_client.specs.Driving.{CanDrive, Talks, is_cutting, is_running, is_saying};
 ghost use Rattle.live_client.specs.Silent.{silent_rule};
+ghost use Rattle.live_client.specs.asks.Tasks.{Given};
 
 use crate::asks::Errand;
 use crate::halting::{Halted, Seat, Table, halt};
@@ -22,7 +22,7 @@ use std::alloc::AllocError;
 use std::sync::Wait;
 use task_core::bells::Bells;
 
-/// Runs the call's handler on its next event, which the errand hears. False where there is none.
+/// Runs the call's handler on its next event, which the errand hears once it has said all. False where there is none.
 pub(crate) fn run_one<W: Errand, R: Wait>(
     rt: &R,
     table: &Table,
@@ -33,10 +33,10 @@ pub(crate) fn run_one<W: Errand, R: Wait>(
     requires can { CanDrive table.now call pass.old }
     requires ready { W.ready errand.old }
     ensures adds { Adds silent_rule table.now is_running pass.old pass.new }
-    ensures talks { (opening : EntryKind) (all over : Bool) (start upto : ℕ) (items : List Item) → Talks W.watches opening (W.did errand.old all start upto) table.now call true over items pass.old → Talks W.watches opening (W.did errand.new all start upto) table.now call true over items pass.new }
+    ensures talks { (opening : EntryKind) (over : Bool) (start upto : ℕ) (items : List Item) → Talks W.watches opening (W.did errand.old true start upto) table.now call true over items pass.old → Talks W.watches opening (W.did errand.new true start upto) table.now call true over items pass.new }
     ensures halted { OnErr result (is_halted table.now.base pass.new.view.known.seen ≡ true) }
     ensures uncut { OnErr result (W.cuts errand.old ≡ false → W.cuts errand.new ≡ false) }
-    ensures over { (opening : EntryKind) (all : Bool) (start upto : ℕ) (items : List Item) → Talks W.watches opening (W.did errand.old all start upto) table.now call true true items pass.old → W.cuts errand.old ≡ false → W.cuts errand.new ≡ false }
+    ensures over { (opening : EntryKind) (start upto : ℕ) (items : List Item) → Talks W.watches opening (W.did errand.old true start upto) table.now call true true items pass.old → W.cuts errand.old ≡ false → W.cuts errand.new ≡ false }
     ensures ready { W.ready errand.new }
     ensures origin { W.origin errand.new ≡ W.origin errand.old }
     ensures short { W.short errand.new ≡ W.short errand.old }
@@ -68,10 +68,10 @@ fn hear_one<W: Errand, R: Wait>(
     requires call { running.run.call ≡ call }
     requires listens { W.listens errand.old ≡ true }
     ensures adds { Adds silent_rule table.now is_running pass.old pass.new }
-    ensures talks { (opening : EntryKind) (all over : Bool) (start upto : ℕ) (items : List Item) → Talks W.watches opening (W.did errand.old all start upto) table.now call true over items pass.old → Talks W.watches opening (W.did errand.new all start upto) table.now call true over items pass.new }
+    ensures talks { (opening : EntryKind) (over : Bool) (start upto : ℕ) (items : List Item) → Talks W.watches opening (W.did errand.old true start upto) table.now call true over items pass.old → Talks W.watches opening (W.did errand.new true start upto) table.now call true over items pass.new }
     ensures halted { OnErr result (is_halted table.now.base pass.new.view.known.seen ≡ true) }
     ensures uncut { OnErr result (W.cuts errand.old ≡ false → W.cuts errand.new ≡ false) }
-    ensures over { (opening : EntryKind) (all : Bool) (start upto : ℕ) (items : List Item) → Talks W.watches opening (W.did errand.old all start upto) table.now call true true items pass.old → W.cuts errand.old ≡ false → W.cuts errand.new ≡ false }
+    ensures over { (opening : EntryKind) (start upto : ℕ) (items : List Item) → Talks W.watches opening (W.did errand.old true start upto) table.now call true true items pass.old → W.cuts errand.old ≡ false → W.cuts errand.new ≡ false }
     ensures ready { W.ready errand.new }
     ensures origin { W.origin errand.new ≡ W.origin errand.old }
     ensures short { W.short errand.new ≡ W.short errand.old }
@@ -94,9 +94,9 @@ fn answer<W: Errand>(running: &mut Running<Silent>, errand: &mut W) -> Result<()
     requires listens { W.listens errand.old ≡ true }
     ensures run { (running.new.run ≡ running.old.run) × (running.new.gives ≡ running.old.gives) }
     ensures answered { OnOk result (running.new.answer ≡ Some running.new.gives) }
-    ensures heard { OnOk result ((all : Bool) (start upto : ℕ) (cut : Option End) (events : List Heard) (outs : List Said) (ended : Option End) → W.did errand.old all start upto cut events outs ended
-        → (next : Option End) × W.did errand.new all start upto cut (events ++ running.old.run.event ∷ []) outs next × (is_some ended ≡ true → (next ≡ ended) × (W.cuts errand.new ≡ false))) }
-    ensures kept { OnErr result ((all : Bool) (start upto : ℕ) (cut : Option End) (events : List Heard) (outs : List Said) (ended : Option End) → W.did errand.old all start upto cut events outs ended → W.did errand.new all start upto cut events outs ended) }
+    ensures heard { OnOk result ((start upto : ℕ) (cut : Option End) (events : List Heard) (outs : List Given) (ended : Option End) → W.did errand.old true start upto cut events outs ended
+        → (next : Option End) × W.did errand.new true start upto cut (events ++ running.old.run.event ∷ []) outs next × (is_some ended ≡ true → (next ≡ ended) × (W.cuts errand.new ≡ false))) }
+    ensures kept { OnErr result ((all : Bool) (start upto : ℕ) (cut : Option End) (events : List Heard) (outs : List Given) (ended : Option End) → W.did errand.old all start upto cut events outs ended → W.did errand.new all start upto cut events outs ended) }
     ensures uncut { OnErr result (W.cuts errand.old ≡ false → W.cuts errand.new ≡ false) }
     ensures ready { W.ready errand.new }
     ensures origin { W.origin errand.new ≡ W.origin errand.old }

@@ -1,12 +1,12 @@
 -- What a call has heard, with one event more.
-use Rattle.std.proofs.Common.{◌≡◌, ℕ, ◌+◌, ◌<◌, ◌≤◌, ◌&&◌, ◌==◌, Bool, true, false, List, [], ◌∷◌, ◌++◌, length, Option, Some, None, is_some, is_none, refl, ap, sym, ◌∙◌, subst, arith, append_assoc, length-append, nat_lt}
+use Rattle.std.proofs.Common.{◌≡◌, ℕ, ◌+◌, ◌<◌, ◌≤◌, ◌&&◌, ◌==◌, true, false, List, [], ◌∷◌, ◌++◌, length, Option, Some, None, is_some, is_none, refl, ap, sym, ◌∙◌, arith, append_assoc, length-append, nat_lt}
 use Rattle.std.proofs.lemmas.Bool.{and_parts, ltb-true, false≢true, true≢false}
 use Rattle.std.proofs.lemmas.List.{append-nil}
 use Rattle.rpc_ids.specs.declared.status.Status.{Status}
-use Rattle.rpc_handlers.specs.declared.answer.Out.{Out}
 use Rattle.rpc_handlers.specs.declared.event.Event.{Event}
 use Rattle.rpc_handlers.specs.declared.event.Event.TheVariants.{Message, Ended}
 use Rattle.live_client.specs.asks.Events.{end_by, first_end, message_by, messages_in, or_else}
+use Rattle.live_client.specs.asks.Tasks.{Given}
 use Rattle.live_client.specs.asks.Calling.{Called, EndsBy, HasHeard, HasKept, has_enough, takes_more}
 use Rattle.live_client.specs.declared.asks.call.CallErrand.{CallErrand}
 
@@ -49,7 +49,7 @@ listening w is =
     at None none = refl
     at (Some s) none = absurd (false≢true none)
 
-module _ (w v : CallErrand) (cut : Option Status) (events : List Event) (outs : List Out) (ended : Option Status) (event : Event) (more : takes_more w ≡ true) (heard : HasHeard event w v) (same : v.limit ≡ w.limit) (so : Called w cut events outs ended) where
+module _ (w v : CallErrand) (cut : Option Status) (events : List Event) (outs : List Given) (ended : Option Status) (event : Event) (more : takes_more w ≡ true) (heard : HasHeard event w v) (same : v.limit ≡ w.limit) (so : Called w cut events outs ended) where
   going : ended ≡ None
   going = sym so.ended_is ∙ (listening w more).on
 
@@ -88,7 +88,7 @@ module _ (w v : CallErrand) (kept : HasKept w v) (same : v.limit ≡ w.limit) wh
   ends_kept None events ends = (kept.ended ∙ ends.0, λ is. let below = ends.1 (sym (ap is_some kept.ended) ∙ is) in let longer = ap length kept.messages in omega (arith, below, longer, same))
   ends_kept (Some status) events ends = (ap length kept.messages ∙ (ends.0 ∙ sym same), kept.ended ∙ ends.1)
 
-  pub called_kept : (cut : Option Status) (events : List Event) (outs : List Out) (ended : Option Status) → Called w cut events outs ended → Called v cut events outs ended
+  pub called_kept : (cut : Option Status) (events : List Event) (outs : List Given) (ended : Option Status) → Called w cut events outs ended → Called v cut events outs ended
   called_kept cut events outs ended so = record {
     told = kept.messages ∙ so.told;
     within = let longer = ap length kept.messages in omega (arith, so.within, longer, same);

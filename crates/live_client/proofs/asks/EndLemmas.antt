@@ -3,7 +3,6 @@ use Rattle.std.proofs.Common.{◌≡◌, ◌≢◌, ◌⊎◌, ℕ, ◌+◌, ◌
 use Rattle.std.proofs.lemmas.List.Concat.{flat_map-append}
 use Rattle.rpc_ids.specs.declared.status.Status.{Status}
 use Rattle.rpc_ids.specs.declared.status.Status.TheVariants.{Okay, DeadlineExceeded}
-use Rattle.rpc_handlers.specs.declared.answer.Out.{Out}
 use Rattle.rpc_handlers.specs.declared.event.Event.{Event}
 use Rattle.rpc_handlers.specs.declared.event.Event.TheVariants.{Message, Ended}
 use Rattle.task_core.specs.declared.mail.Mail.{Mail}
@@ -20,9 +19,9 @@ use Rattle.transfer_client.specs.Read.{end_at, new_download, read_offset, read_r
 use Rattle.transfer_client.specs.Write.{end_at as write_end, new_upload, write_rules}
 use Rattle.transfer_client.specs.Tasks.{PollsRead, PollsWrite, Reads, Writes}
 use Rattle.live_client.specs.asks.Ends.{EndsCall, IsTold, TellsEnd, piece_in, pieces_in}
-use Rattle.live_client.specs.asks.Tasks.{AreWholeBefore, TaskRan, WantedIf, mail_in, mail_of}
+use Rattle.live_client.specs.asks.Tasks.{AreWholeBefore, Given, TaskRan, WantedIf, mail_in, mail_of}
 use Rattle.live_client.proofs.asks.TellLemmas.{whole_before}
-use Rattle.live_client.proofs.asks.WalkLemmas.{HadMemory, had_ended, had_whole, stood}
+use Rattle.live_client.proofs.asks.WalkLemmas.{HadMemory, bare, had_ended, had_whole, stood}
 use Rattle.live_client.proofs.asks.DeadlineLemmas.{AnyMail, IsDue, ReadsSo, ReadsAt, TellsDeadline, Within, WritesAt, WritesSo, any_front, reads_keep, writes_keep}
 use Rattle.live_client.proofs.asks.FetchLemmas.{At, FetchesSo, IsMade, TellsOkay, Whole, came, fetches_keep, piece_of, whole_later}
 
@@ -80,7 +79,7 @@ came-events (Message text ∷ events) = ap (λ ps. piece_in 1 (Message text) ++ 
 came-events (Ended end ∷ events) = came-events events
 came-events (event ∷ events) = came-events events
 
-module _ (start end : ℕ) (events : List Event) (outs : List Out) (wanted : Bool) where
+module _ (start end : ℕ) (events : List Event) (outs : List Given) (wanted : Bool) where
   -- a deadline that is due was told in the events, or its time has passed
   due_told : (taken left mails : List Mail) → taken ++ left ≡ mails → mails ≡ flat_map mail_of events → IsDue 1 start end taken
       → (start + 8000 ≤ end) ⊎ (IsTold (TellsEnd 1 DeadlineExceeded) events ⊎ IsTold (EndsCall DeadlineExceeded) events)
@@ -128,7 +127,7 @@ module _ (start end : ℕ) (events : List Event) (outs : List Out) (wanted : Boo
   -- it has made the resource whole
   pub record HasMade (resource from : ℕ) : Type 0 where
     pub said : List Saying
-    pub outs_are : outs ≡ outs_of 1 said
+    pub outs_are : bare outs ≡ outs_of 1 said
     pub whole : Whole 1 resource (pieces_in 1 events) from said
 
   made_at : (resource : ℕ) (taken : List Mail) (agreed : Option ℕ) (stage : Reading) (said : List Saying) → end_at stage ≡ Some Okay → At 1 resource taken agreed stage said → IsMade 1 resource taken agreed said
@@ -138,7 +137,7 @@ module _ (start end : ℕ) (events : List Event) (outs : List Out) (wanted : Boo
   made_at resource taken agreed (reading.Over status) said over is = is (cc over)
 
   -- the pieces that came with the mail that was taken are among those of the events
-  made_of : (resource : ℕ) (taken left mails : List Mail) (agreed : Option ℕ) (asked from : ℕ) (said : List Saying) → taken ++ left ≡ mails → mails ≡ flat_map mail_of events → outs ≡ outs_of 1 said
+  made_of : (resource : ℕ) (taken left mails : List Mail) (agreed : Option ℕ) (asked from : ℕ) (said : List Saying) → taken ++ left ≡ mails → mails ≡ flat_map mail_of events → bare outs ≡ outs_of 1 said
       → from ≡ unwrap_or agreed asked → IsMade 1 resource taken agreed said → HasMade resource from ⊎ IsTold (TellsEnd 1 Okay) events
   made_of resource taken left mails agreed asked from said split is says from_is (inl m) =
       let pieces : came 1 taken ++ came 1 left ≡ pieces_in 1 events = sym (flat_map-append (piece_of 1) taken left) ∙ (ap (came 1) (split ∙ is) ∙ came-events events) in
@@ -158,5 +157,5 @@ module _ (start end : ℕ) (events : List Event) (outs : List Out) (wanted : Boo
       let s = stood read_rules 1 (FetchesSo 1 resource) (λ _. Unit {0}) PollsRead (λ t. t.session) (λ t. t.download) reads_whole (fetches_keep 1 resource (λ _. Unit {0})) start end (λ m low high. tt)
       task refl refl (record { resource_is = refl; stands = refl }) ran.log ran.alone ran.turns ran.between (had_whole task PollsRead ran.log ran.turns ran.whole) in
       let now_is : s.now ≡ now = cc (s.is, ran.last) in
-      made_of resource s.taken (mail_left ran.log 0) (mail_in ran.log) s.now.download.agreed s.now.download.asked (read_offset now.download) s.said s.mail ran.mail (sym ran.said ∙ s.says)
+      made_of resource s.taken (mail_left ran.log 0) (mail_in ran.log) s.now.download.agreed s.now.download.asked (read_offset now.download) s.said s.mail ran.mail (sym (ap bare ran.said) ∙ s.says)
       (ap (λ (t : Reads). read_offset t.download) (sym now_is)) (made_at resource s.taken s.now.download.agreed s.now.download.stage s.said (sym s.result ∙ (ran.result ∙ is)) s.holds.stands)

@@ -20,7 +20,7 @@ use Rattle.task_core.specs.Hearing.{HeardAt, HeardBelow, HeardTurns, RanHearing}
 use Rattle.task_core.specs.Runs.{Turn}
 use Rattle.task_core.specs.Tasks.{Adds, AddsNothing, HasKey, StandsFor, Tasks, has_key}
 use Rattle.task_core.specs.bells.Bells.{Heard}
-use Rattle.live_client.specs.asks.Tasks.{AreBetween, AreTurns, AreWhole, AreWholeBefore, IsAloneIn, WantedIf, mail_in, mail_of, said_in}
+use Rattle.live_client.specs.asks.Tasks.{AreBetween, AreTurns, AreWhole, AreWholeBefore, Given, IsAloneIn, WantedIf, given_at, given_in, mail_in, mail_of, mails}
 use Rattle.live_client.specs.asks.Telling.{AllAdd, IsAll, IsAlone, Tells, waiting}
 
 firsts-by_task : (key : ℕ) (outs : List Out) → map (λ (said : ℕ × Out). said.1) (by_task key outs) ≡ outs
@@ -51,15 +51,25 @@ whole_before (advanced moment ∷ log) so = whole_before log so
 whole_before (heard key total ∷ log) so = whole_before log so
 whole_before (took ∷ log) so = whole_before log so
 
-module _ {T : Type 0} (polls : T → Visit → T → Type 0) (task : T) (start upto : ℕ) (mails : List Mail) (outs : List Out) where
+-- what waits, as it is given behind so much mail
+abbrev waits : ℕ → List (ℕ × Out) → List Given
+waits mail outs = map (given_at mail) (map (λ (said : ℕ × Out). said.1) outs)
+
+waits_more : (mail : ℕ) (outs : List (ℕ × Out)) (key : ℕ) (said : List Out) → waits mail (outs ++ by_task key said) ≡ waits mail outs ++ map (given_at mail) said
+waits_more mail outs key said =
+    ap (map (given_at mail)) (map-append (λ (x : ℕ × Out). x.1) outs (by_task key said))
+    ∙ (map-append (given_at mail) (map (λ (x : ℕ × Out). x.1) outs) (map (λ (x : ℕ × Out). x.1) (by_task key said))
+    ∙ ap (λ s. waits mail outs ++ map (given_at mail) s) (firsts-by_task key said))
+
+module _ {T : Type 0} (polls : T → Visit → T → Type 0) (task : T) (start upto : ℕ) (posts : List Mail) (outs : List Given) where
   -- what a log tells of the task, whatever the dispatcher has
   pub record Sound (short : Bool) (log : List (Step T)) : Type 0 where
     pub alone : IsAloneIn task log
     pub turns : AreTurns polls log
     pub between : AreBetween start upto log
     pub whole : WantedIf short log
-    pub mail : mail_in log ≡ mails
-    pub said : said_in log ≡ outs ++ map (λ (said : ℕ × Out). said.1) (outs_of log)
+    pub mail : mail_in log ≡ posts
+    pub said : given_in log ≡ outs ++ waits (length posts) (outs_of log)
     pub early : start ≤ moment_of log
     pub late : moment_of log ≤ upto
 
@@ -94,11 +104,10 @@ module _ {T : Type 0} (polls : T → Visit → T → Type 0) (task : T) (start u
         whole = wanted_polled short turn.key turn.visit turn.after log so.whole;
         mail = so.mail;
         said =
-            ap (λ s. s ++ turn.visit.said) so.said
-            ∙ (append_assoc outs (map (λ (said : ℕ × Out). said.1) (outs_of log)) turn.visit.said
-            ∙ ap (λ s. outs ++ s)
-            (ap (λ s. map (λ (said : ℕ × Out). said.1) (outs_of log) ++ s) (sym (firsts-by_task turn.key turn.visit.said))
-            ∙ sym (map-append (λ (said : ℕ × Out). said.1) (outs_of log) (by_task turn.key turn.visit.said))));
+            ap (λ n. given_in log ++ map (given_at n) turn.visit.said) (ap length so.mail)
+            ∙ (ap (λ s. s ++ map (given_at (length posts)) turn.visit.said) so.said
+            ∙ (append_assoc outs (waits (length posts) (outs_of log)) (map (given_at (length posts)) turn.visit.said)
+            ∙ ap (λ s. outs ++ s) (sym (waits_more (length posts) (outs_of log) turn.key turn.visit.said))));
         early = so.early;
         late = so.late;
       })
@@ -142,20 +151,24 @@ module _ {T : Type 0} (polls : T → Visit → T → Type 0) (task : T) where
       between = tt;
       whole = tt;
       mail = refl;
-      said = sym (waiting_is tasks (added 0 task ∷ []) stands);
+      said = ap (map (given_at 0)) (sym (waiting_is tasks (added 0 task ∷ []) stands));
       result = refl;
     };
     all_said = sym stands.outs;
     uncut = refl;
   }
 
-  module _ (old new : Tasks T) (ear : Heard) (short all : Bool) (start upto : ℕ) (cut : Option Status) (events : List Event) (outs : List Out) (ended : Option Status) where
+  module _ (old new : Tasks T) (ear : Heard) (short all : Bool) (start upto : ℕ) (cut : Option Status) (events : List Event) (outs : List Given) (ended : Option Status) where
     all_on : (b : Bool) → new.outs ≡ old.outs → IsAll b old → IsAll b new
     all_on true same so = same ∙ so
     all_on false same so = tt
 
-    posted_mail : (mail : Mail) (event : Event) → mail_of event ≡ mail ∷ [] → Adds old new (posted 0 mail) → Tells polls task old ear short all start upto cut events outs ended
-        → Tells polls task new ear short all start upto cut (events ++ event ∷ []) outs ended
+    -- where nothing waits it is the same with whatever mail
+    none_wait : (xs ys : List (ℕ × Out)) (n m : ℕ) → xs ≡ [] → ys ≡ [] → outs ++ waits n xs ≡ outs ++ waits m ys
+    none_wait xs ys n m none nothing = ap (λ os. outs ++ waits n os) none ∙ sym (ap (λ os. outs ++ waits m os) nothing)
+
+    posted_mail : (mail : Mail) (event : Event) → mail_of event ≡ mail ∷ [] → Adds old new (posted 0 mail) → Tells polls task old ear short true start upto cut events outs ended
+        → Tells polls task new ear short true start upto cut (events ++ event ∷ []) outs ended
     posted_mail mail event is adds so =
         let t = so.told in
         let stands : StandsFor new (posted 0 mail ∷ t.log) = adds t.log t.stands in
@@ -172,15 +185,15 @@ module _ {T : Type 0} (polls : T → Visit → T → Type 0) (task : T) where
             mail =
                 ap (λ ms. ms ++ mail ∷ []) t.mail
                 ∙ (ap (λ ms. flat_map mail_of events ++ ms) (sym is ∙ sym (append-nil (mail_of event))) ∙ sym (flat_map-append mail_of events (event ∷ [])));
-            said = t.said ∙ ap (λ os. outs ++ map (λ (said : ℕ × Out). said.1) os) (sym same);
+            said = t.said ∙ none_wait old.outs new.outs (mails events) (mails (events ++ event ∷ [])) so.all_said (same ∙ so.all_said);
             result = t.result;
           };
-          all_said = all_on all same so.all_said;
+          all_said = same ∙ so.all_said;
           uncut = so.uncut;
         }
 
-    kept_log : AddsNothing old new → Tells polls task old ear short all start upto cut events outs ended → Tells polls task new ear short all start upto cut events outs ended
-    kept_log adds so =
+    kept_log : (all : Bool) → AddsNothing old new → Tells polls task old ear short all start upto cut events outs ended → Tells polls task new ear short all start upto cut events outs ended
+    kept_log all adds so =
         let t = so.told in
         let stands : StandsFor new t.log = adds t.log t.stands in
         let same : new.outs ≡ old.outs = sym stands.outs ∙ t.stands.outs in
@@ -194,7 +207,7 @@ module _ {T : Type 0} (polls : T → Visit → T → Type 0) (task : T) where
             between = t.between;
             whole = t.whole;
             mail = t.mail;
-            said = t.said ∙ ap (λ os. outs ++ map (λ (said : ℕ × Out). said.1) os) (sym same);
+            said = t.said ∙ ap (λ os. outs ++ waits (mails events) os) (sym same);
             result = t.result;
           };
           all_said = all_on all same so.all_said;
@@ -202,9 +215,9 @@ module _ {T : Type 0} (polls : T → Visit → T → Type 0) (task : T) where
         }
 
     pub tells_kept : AddsNothing old new → Tells polls task old ear short all start upto cut events outs ended → Tells polls task new ear short all start upto cut events outs ended
-    tells_kept adds so = kept_log adds so
+    tells_kept adds so = kept_log all adds so
 
-    no_mail : (event : Event) → mail_of event ≡ [] → Tells polls task new ear short all start upto cut events outs ended → Tells polls task new ear short all start upto cut (events ++ event ∷ []) outs ended
+    no_mail : (event : Event) → mail_of event ≡ [] → Tells polls task new ear short true start upto cut events outs ended → Tells polls task new ear short true start upto cut (events ++ event ∷ []) outs ended
     no_mail event none so = record {
       told = record {
         log = so.told.log;
@@ -217,7 +230,7 @@ module _ {T : Type 0} (polls : T → Visit → T → Type 0) (task : T) where
         mail =
             so.told.mail
             ∙ sym (flat_map-append mail_of events (event ∷ []) ∙ (ap (λ ms. flat_map mail_of events ++ (ms ++ [])) none ∙ append-nil (flat_map mail_of events)));
-        said = so.told.said;
+        said = so.told.said ∙ none_wait new.outs new.outs (mails events) (mails (events ++ event ∷ [])) so.all_said so.all_said;
         result = so.told.result;
       };
       all_said = so.all_said;
@@ -225,17 +238,17 @@ module _ {T : Type 0} (polls : T → Visit → T → Type 0) (task : T) where
     }
 
     -- an event is posted, where it is mail
-    pub tells_heard : (event : Event) → AllAdd old new (map (posted 0) (mail_of event)) → Tells polls task old ear short all start upto cut events outs ended
-        → Tells polls task new ear short all start upto cut (events ++ event ∷ []) outs ended
+    pub tells_heard : (event : Event) → AllAdd old new (map (posted 0) (mail_of event)) → Tells polls task old ear short true start upto cut events outs ended
+        → Tells polls task new ear short true start upto cut (events ++ event ∷ []) outs ended
     tells_heard (Message payload) adds so = posted_mail (Text payload) (Message payload) refl adds so
     tells_heard (Ended status) adds so = posted_mail (Closed status) (Ended status) refl adds so
-    tells_heard (Request payload) adds so = no_mail (Request payload) refl (kept_log adds so)
-    tells_heard Completion adds so = no_mail Completion refl (kept_log adds so)
-    tells_heard (Tick now) adds so = no_mail (Tick now) refl (kept_log adds so)
+    tells_heard (Request payload) adds so = no_mail (Request payload) refl (kept_log true adds so)
+    tells_heard Completion adds so = no_mail Completion refl (kept_log true adds so)
+    tells_heard (Tick now) adds so = no_mail (Tick now) refl (kept_log true adds so)
 
     -- an item is taken
     pub tells_some : (key : ℕ) (out : Out) → old.outs ≡ (key, out) ∷ new.outs → Adds old new took → Tells polls task old ear short all start upto cut events outs ended
-        → Tells polls task new ear short false start upto cut events (outs ++ out ∷ []) ended
+        → Tells polls task new ear short false start upto cut events (outs ++ given_at (mails events) out ∷ []) ended
     tells_some key out first adds so =
         let t = so.told in
         record {
@@ -248,7 +261,7 @@ module _ {T : Type 0} (polls : T → Visit → T → Type 0) (task : T) where
             between = t.between;
             whole = wanted_took short t.log t.whole;
             mail = t.mail;
-            said = t.said ∙ (ap (λ os. outs ++ map (λ (said : ℕ × Out). said.1) os) first ∙ sym (append_assoc outs (out ∷ []) (waiting new)));
+            said = t.said ∙ (ap (λ os. outs ++ waits (mails events) os) first ∙ sym (append_assoc outs (given_at (mails events) out ∷ []) (waits (mails events) new.outs)));
             result = t.result;
           };
           all_said = tt;
@@ -276,7 +289,7 @@ module _ {T : Type 0} (polls : T → Visit → T → Type 0) (task : T) where
             between = t.between;
             whole = wanted_took short t.log t.whole;
             mail = t.mail;
-            said = t.said ∙ ap (λ os. outs ++ map (λ (said : ℕ × Out). said.1) os) first;
+            said = t.said ∙ ap (λ os. outs ++ waits (mails events) os) first;
             result = t.result;
           };
           all_said = empty;
@@ -284,7 +297,7 @@ module _ {T : Type 0} (polls : T → Visit → T → Type 0) (task : T) where
         }
 
   -- the time goes on, and a run loads words and polls
-  module _ (old mid new : Tasks T) (ear new_ear : Heard) (all : Bool) (start upto now budget : ℕ) (cut : Option Status) (events : List Event) (outs : List Out) (ended : Option Status) (answer : Result Stop AllocError) where
+  module _ (old mid new : Tasks T) (ear new_ear : Heard) (all : Bool) (start upto now budget : ℕ) (cut : Option Status) (events : List Event) (outs : List Given) (ended : Option Status) (answer : Result Stop AllocError) where
     sound_of : start ≤ now → upto ≤ now → old.moment ≤ now → (so : Tells polls task old ear false all start upto cut events outs ended)
         → Sound polls task start now (flat_map mail_of events) outs false (advanced now ∷ so.told.log)
     sound_of early late goes so =
@@ -295,7 +308,7 @@ module _ {T : Type 0} (polls : T → Visit → T → Type 0) (task : T) where
           between = later_between start upto now t.log late t.between;
           whole = t.whole;
           mail = t.mail;
-          said = t.said ∙ ap (λ s. outs ++ s) (waiting_is old t.log t.stands);
+          said = t.said ∙ ap (λ s. outs ++ map (given_at (mails events)) s) (waiting_is old t.log t.stands);
           early = early;
           late = omega arith;
         }
@@ -321,7 +334,7 @@ module _ {T : Type 0} (polls : T → Visit → T → Type 0) (task : T) where
                   between = sound.0.between;
                   whole = sound.0.whole;
                   mail = sound.0.mail;
-                  said = sound.0.said ∙ ap (λ s. outs ++ s) (sym (waiting_is new ran.0 sound.1));
+                  said = sound.0.said ∙ ap (λ s. outs ++ map (given_at (mails events)) s) (sym (waiting_is new ran.0 sound.1));
                   result = refl;
                 };
                 all_said = tt;

@@ -1,8 +1,9 @@
 -- What is kept by each step of a transfer is kept by all polls of its task.
-use Rattle.std.proofs.Common.{◌≡◌, ◌≢◌, ℕ, ◌==◌, ◌≤◌, ◌&&◌, ◌||◌, if◌then◌else◌, Bool, true, false, List, [], ◌∷◌, ◌++◌, Option, Some, None, is_some, refl, ap, sym, ◌∙◌, subst, append_assoc}
+use Rattle.std.proofs.Common.{◌≡◌, ◌≢◌, ℕ, ◌==◌, ◌≤◌, ◌&&◌, ◌||◌, if◌then◌else◌, Bool, true, false, List, [], ◌∷◌, ◌++◌, length, map, Option, Some, None, is_some, refl, ap, sym, ◌∙◌, subst, append_assoc}
 use Rattle.std.proofs.lemmas.Bool.{eqb-true, false≢true}
 use Rattle.std.proofs.lemmas.List.{append-nil, map-append}
 use Rattle.rpc_ids.specs.declared.status.Status.{Status}
+use Rattle.rpc_handlers.specs.declared.answer.Out.{Out}
 use Rattle.task_core.specs.declared.mail.Mail.{Mail}
 use Rattle.task_core.specs.Visit.{Ending, Visit, ends, goes_on, is_short_of_memory}
 use Rattle.task_core.specs.Log.{Step, added, advanced, heard, polled, posted, took, woken, is_added, mail_of, moment_of, task_of}
@@ -11,7 +12,15 @@ use Rattle.task_core.specs.Runs.{Turn}
 use Rattle.transfer_words.specs.Saying.{Saying, Stepped, outs_of}
 use Rattle.transfer_client.specs.Machine.{Rules}
 use Rattle.transfer_client.specs.Polling as polling
-use Rattle.live_client.specs.asks.Tasks.{AreBetween, AreTurns, AreWhole, AreWholeBefore, IsAloneIn, mail_in, said_in}
+use Rattle.live_client.specs.asks.Tasks.{AreBetween, AreTurns, AreWhole, AreWholeBefore, Given, IsAloneIn, given_at, given_in, mail_in}
+
+-- the outs, without the mail that had come by then
+abbrev pub bare : List Given → List Out
+bare outs = map (λ given. given.out) outs
+
+bare-given : (mail : ℕ) (said : List Out) → bare (map (given_at mail) said) ≡ said
+bare-given mail [] = refl
+bare-given mail (out ∷ said) = ap (λ rest. out ∷ rest) (bare-given mail said)
 
 -- each poll had memory enough
 module _ {T : Type 0} where
@@ -166,7 +175,7 @@ module _ {A : Type 0} (k : Rules A) (session : ℕ) (J : ℕ → A → List Mail
       pub taken : List Mail
       pub said : List Saying
       pub mail : taken ++ mail_of log 0 ≡ mail_in log
-      pub says : said_in log ≡ outs_of session said
+      pub says : bare (given_in log) ≡ outs_of session said
       pub holds : J (moment_of log) (state_of now) taken said
       pub result : result_of log 0 ≡ k.end_of (state_of now)
 
@@ -225,7 +234,7 @@ module _ {A : Type 0} (k : Rules A) (session : ℕ) (J : ℕ → A → List Mail
               taken = s.taken ++ t.front;
               said = s.said ++ gave.sayings;
               mail = append_assoc s.taken t.front visit.left ∙ (ap (λ ms. s.taken ++ (t.front ++ ms)) poll.left ∙ (ap (λ ms. s.taken ++ ms) (t.split ∙ mail_is) ∙ s.mail));
-              says = ap (λ outs. outs ++ visit.said) s.says ∙ (ap (λ outs. outs_of session s.said ++ outs) poll.said ∙ sym (map-append _ s.said gave.sayings));
+              says = (map-append (λ given. given.out) (given_in log) (map (given_at (length (mail_in log))) visit.said) ∙ ap (λ outs. bare (given_in log) ++ outs) (bare-given (length (mail_in log)) visit.said)) ∙ ap (λ outs. outs ++ visit.said) s.says ∙ (ap (λ outs. outs_of session s.said ++ outs) poll.said ∙ sym (map-append _ s.said gave.sayings));
               holds = subst (λ m. J m (state_of after) (s.taken ++ t.front) (s.said ++ gave.sayings)) moment_is (subst (λ x. J visit.moment x (s.taken ++ t.front) (s.said ++ gave.sayings)) (sym poll.after) t.holds);
               result = ending_back (k.end_of (state_of after)) visit.ending poll.ending;
             })

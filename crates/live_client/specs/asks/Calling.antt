@@ -1,9 +1,9 @@
 -- A call whose messages are kept.
 use Rattle.std.specs.Prelude.{◌≡◌, ◌<◌, ◌≤◌, ◌==◌, ◌&&◌, Bool, true, List, [], ◌++◌, length, Option, Some, None, is_none, is_some, nat_lt}
 use Rattle.rpc_ids.specs.declared.status.Status.{Status}
-use Rattle.rpc_handlers.specs.declared.answer.Out.{Out}
 use Rattle.rpc_handlers.specs.declared.event.Event.{Event}
 use Rattle.live_client.specs.asks.Events.{end_by, first_end, message_by, messages_in, or_else}
+use Rattle.live_client.specs.asks.Tasks.{Given}
 use Rattle.live_client.specs.declared.asks.call.CallErrand.{CallErrand}
 
 -- it was cancelled at its limit, and ended with the answer; or its call has ended below the limit, if it has
@@ -12,7 +12,7 @@ EndsBy w (Some status) events = (length w.messages.items ≡ w.limit) × (w.ende
 EndsBy w None events = (w.ended ≡ first_end events) × (is_some w.ended ≡ true → length w.messages.items < w.limit)
 
 -- it keeps the messages among these events, and says nothing
-pub record Called (w : CallErrand) (cut : Option Status) (events : List Event) (outs : List Out) (ended : Option Status) : Type 0 where
+pub record Called (w : CallErrand) (cut : Option Status) (events : List Event) (outs : List Given) (ended : Option Status) : Type 0 where
   pub told : w.messages.items ≡ messages_in events
   pub within : length w.messages.items ≤ w.limit
   pub silent : outs ≡ []

@@ -1,5 +1,5 @@
 -- A task that speaks through a call: what it was told, what it said, and how it ended.
-use Rattle.std.specs.Prelude.{◌≡◌, ℕ, ◌≤◌, Bool, true, false, List, [], ◌∷◌, ◌++◌, flat_map, Option, Some}
+use Rattle.std.specs.Prelude.{◌≡◌, ℕ, ◌≤◌, Bool, true, false, List, [], ◌∷◌, ◌++◌, length, map, flat_map, Option, Some}
 use Rattle.rpc_ids.specs.declared.status.Status.{Status}
 use Rattle.rpc_handlers.specs.declared.answer.Out.{Out}
 use Rattle.rpc_handlers.specs.declared.event.Event.{Event}
@@ -17,6 +17,18 @@ mail_of (Message payload) = Text payload ∷ []
 mail_of (Ended status) = Closed status ∷ []
 mail_of _ = []
 
+-- how much mail these events are
+abbrev pub mails : List Event → ℕ
+mails events = length (flat_map mail_of events)
+
+-- an out of the task, and how much mail had come to it when it gave that
+pub record Given : Type 0 where
+  pub mail : ℕ
+  pub out : Out
+
+abbrev pub given_at : ℕ → Out → Given
+given_at mail out = record { mail = mail; out = out }
+
 module _ {T : Type 0} where
   -- all mail that was posted, in order
   abbrev pub mail_in : List (Step T) → List Mail
@@ -29,16 +41,16 @@ module _ {T : Type 0} where
   mail_in (polled key visit short task ∷ log) = mail_in log
   mail_in (took ∷ log) = mail_in log
 
-  -- all that the polls said, in order
-  abbrev pub said_in : List (Step T) → List Out
-  said_in [] = []
-  said_in (added key task ∷ log) = said_in log
-  said_in (posted key mail ∷ log) = said_in log
-  said_in (woken key ∷ log) = said_in log
-  said_in (advanced moment ∷ log) = said_in log
-  said_in (heard key total ∷ log) = said_in log
-  said_in (polled key visit short task ∷ log) = said_in log ++ visit.said
-  said_in (took ∷ log) = said_in log
+  -- all that the polls said, in order, with the mail that had been posted by then
+  abbrev pub given_in : List (Step T) → List Given
+  given_in [] = []
+  given_in (added key task ∷ log) = given_in log
+  given_in (posted key mail ∷ log) = given_in log
+  given_in (woken key ∷ log) = given_in log
+  given_in (advanced moment ∷ log) = given_in log
+  given_in (heard key total ∷ log) = given_in log
+  given_in (polled key visit short task ∷ log) = given_in log ++ map (given_at (length (mail_in log))) visit.said
+  given_in (took ∷ log) = given_in log
 
   -- the polls lie between these moments
   abbrev pub AreBetween : ℕ → ℕ → List (Step T) → Type 0
@@ -103,13 +115,13 @@ module _ {T : Type 0} where
   -- THE TASK'S ANSWER: polled between two moments, and given these events as its mail, it said these outs in order; `now` is the
   -- task as its last poll left it, and `ended` how that ended it, if it did. No poll found too little memory, but for the last where
   -- memory was wanting.
-  pub record TaskRan (polls : T → Visit → T → Type 0) (task : T) (from upto : ℕ) (wanted : Bool) (events : List Event) (outs : List Out) (now : T) (ended : Option Status) : Type 0 where
+  pub record TaskRan (polls : T → Visit → T → Type 0) (task : T) (from upto : ℕ) (wanted : Bool) (events : List Event) (outs : List Given) (now : T) (ended : Option Status) : Type 0 where
     pub log : List (Step T)
     pub alone : IsAloneIn task log
     pub turns : AreTurns polls log
     pub between : AreBetween from upto log
     pub whole : WantedIf wanted log
     pub mail : mail_in log ≡ flat_map mail_of events
-    pub said : said_in log ≡ outs
+    pub said : given_in log ≡ outs
     pub last : task_of log 0 ≡ Some now
     pub result : result_of log 0 ≡ ended

@@ -8,7 +8,7 @@ use Rattle.task_core.specs.Visit.{Visit}
 use Rattle.task_core.specs.Log.{Step, looks_of}
 use Rattle.task_core.specs.Due.{result_of}
 use Rattle.task_core.specs.Tasks.{Adds, AddsNothing, HasKey, StandsFor, Tasks}
-use Rattle.live_client.specs.asks.Tasks.{AreBetween, AreTurns, IsAloneIn, WantedIf, mail_in, mail_of, said_in}
+use Rattle.live_client.specs.asks.Tasks.{AreBetween, AreTurns, Given, IsAloneIn, WantedIf, given_at, given_in, mail_in, mail_of, mails}
 
 -- the ear of these words, of which there is one
 pub record HasWord (ear : Heard) (tower : Tower) : Type 0 where
@@ -30,9 +30,9 @@ module _ {T : Type 0} where
   IsAll true tasks = tasks.outs ≡ []
   IsAll false tasks = Unit {0}
 
-  -- Its steps: the polls lie between these moments, it was posted these events, and these outs were taken of what it said. No poll
-  -- found too little memory, but for the last where the task fell short of it.
-  pub record Told (polls : T → Visit → T → Type 0) (task : T) (tasks : Tasks T) (ear : Heard) (short : Bool) (start upto : ℕ) (events : List Event) (outs : List Out) (ended : Option Status) : Type 0 where
+  -- Its steps: the polls lie between these moments, it was posted these events, and these outs were taken of what it said; what waits
+  -- it said behind the last of its mail. No poll found too little memory, but for the last where the task fell short of it.
+  pub record Told (polls : T → Visit → T → Type 0) (task : T) (tasks : Tasks T) (ear : Heard) (short : Bool) (start upto : ℕ) (events : List Event) (outs : List Given) (ended : Option Status) : Type 0 where
     pub log : List (Step T)
     pub stands : StandsFor tasks log
     pub looks : looks_of log ≡ ear.looks
@@ -41,11 +41,11 @@ module _ {T : Type 0} where
     pub between : AreBetween start upto log
     pub whole : WantedIf short log
     pub mail : mail_in log ≡ flat_map mail_of events
-    pub said : said_in log ≡ outs ++ waiting tasks
+    pub said : given_in log ≡ outs ++ map (given_at (mails events)) (waiting tasks)
     pub result : result_of log 0 ≡ ended
 
   -- the same of a task that is never cancelled
-  pub record Tells (polls : T → Visit → T → Type 0) (task : T) (tasks : Tasks T) (ear : Heard) (short all : Bool) (start upto : ℕ) (cut : Option Status) (events : List Event) (outs : List Out) (ended : Option Status) : Type 0 where
+  pub record Tells (polls : T → Visit → T → Type 0) (task : T) (tasks : Tasks T) (ear : Heard) (short all : Bool) (start upto : ℕ) (cut : Option Status) (events : List Event) (outs : List Given) (ended : Option Status) : Type 0 where
     pub told : Told polls task tasks ear short start upto events outs ended
     pub all_said : IsAll all tasks
     pub uncut : cut ≡ None
@@ -57,6 +57,6 @@ module _ {T : Type 0} where
 
   -- all of it is some of it
   abbrev pub told_weaker :
-      (polls : T → Visit → T → Type 0) (task : T) (tasks : Tasks T) (ear : Heard) (short : Bool) (start upto : ℕ) (cut : Option Status) (events : List Event) (outs : List Out) (ended : Option Status)
+      (polls : T → Visit → T → Type 0) (task : T) (tasks : Tasks T) (ear : Heard) (short : Bool) (start upto : ℕ) (cut : Option Status) (events : List Event) (outs : List Given) (ended : Option Status)
       → Tells polls task tasks ear short true start upto cut events outs ended → Tells polls task tasks ear short false start upto cut events outs ended
   told_weaker polls task tasks ear short start upto cut events outs ended so = record { told = so.told; all_said = tt; uncut = so.uncut }

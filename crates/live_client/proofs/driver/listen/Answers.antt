@@ -1,4 +1,4 @@
-use Rattle.std.proofs.Common.{false, ◌∙◌}
+use Rattle.std.proofs.Common.{true, false, ◌∙◌}
 use Rattle.rpc_shared.proofs.session.PassLemmas.{adds_trans, adds_weaker}
 use Rattle.live_client.specs.Driving.{is_cutting, is_running, is_talking}
 use Rattle.live_client.specs.Silent.{silent_rule}
@@ -16,7 +16,7 @@ returns-in-Ok-clause-adds g c =
     (adds_weaker silent_rule c.args.table.now is_cutting is_talking c.run_one.new.pass c.cut_one.new.pass cut_talks c.cut_one.ensures.adds)
 
 pub returns-in-Ok-clause-talks : goal.returns-in-Ok-clause-talks
-returns-in-Ok-clause-talks g c = λ opening all start upto items t. c.cut_one.ensures.talks opening all start upto items (c.run_one.ensures.talks opening all false start upto items t)
+returns-in-Ok-clause-talks g c = λ opening start upto items t. c.cut_one.ensures.talks opening true start upto items (c.run_one.ensures.talks opening false start upto items t)
 
 pub returns-in-Ok-clause-fits : goal.returns-in-Ok-clause-fits
 returns-in-Ok-clause-fits g c = λ tower fits. c.cut_one.ensures.fits tower (c.run_one.ensures.fits tower fits)
@@ -28,7 +28,7 @@ pub returns-in-Err-clause-adds : goal.returns-in-Err-clause-adds
 returns-in-Err-clause-adds g c = adds_weaker silent_rule c.args.table.now is_running is_talking c.args.pass.now c.run_one.new.pass run_talks c.run_one.ensures.adds
 
 pub returns-in-Err-clause-talks : goal.returns-in-Err-clause-talks
-returns-in-Err-clause-talks g c = λ opening all start upto items t. c.run_one.ensures.talks opening all false start upto items t
+returns-in-Err-clause-talks g c = λ opening start upto items t. c.run_one.ensures.talks opening false start upto items t
 
 pub returns-in-Err-clause-uncut : goal.returns-in-Err-clause-uncut
 returns-in-Err-clause-uncut g c = c.in-Err.ensures.uncut c.requires.uncut

@@ -1,61 +1,38 @@
-use Rattle.std.proofs.Common.{◌≤◌, true, false, sym, ◌∙◌, subst}
+use Rattle.std.proofs.Common.{Ok, true, false, ap, ◌∙◌}
 use Rattle.rpc_shared.proofs.session.PassLemmas.{adds_trans, adds_weaker}
 use Rattle.live_client.specs.Driving.{is_saying, is_talking}
 use Rattle.live_client.specs.Silent.{silent_rule}
+use Rattle.live_client.proofs.FeedLemmas.{on_err_with, on_ok_with}
 use Rattle.live_client.proofs.StepsOf.{can_on}
-use Rattle.live_client.proofs.TalkLemmas.{talks_weaker}
+use Rattle.live_client.proofs.TalkLemmas.{talks_same, talks_weaker}
 use Rattle.live_client.proofs.WorkLemmas.{say_talks}
 use Rattle.live_client.proofs.driver.talk.Goals as goal
 
-pub speak-requires-clause-can : goal.speak-requires-clause-can
-speak-requires-clause-can g c = can_on c.args.table.now c.args.call is_talking c.args.pass.now c.listen.new.pass c.requires.can c.listen.ensures.adds
+pub listen-requires-clause-can : goal.listen-requires-clause-can
+listen-requires-clause-can g c = can_on c.args.table.now c.args.call is_saying c.args.pass.now c.speak.new.pass c.requires.can c.speak.ensures.adds
 
-pub speak-requires-clause-fits : goal.speak-requires-clause-fits
-speak-requires-clause-fits g c = c.listen.ensures.fits c.args.bells.now c.requires.fits
+pub returns-in-Ok-true-clause-adds : goal.returns-in-Ok-true-clause-adds
+returns-in-Ok-true-clause-adds g c = adds_weaker silent_rule c.args.table.now is_saying is_talking c.args.pass.now c.speak.new.pass say_talks c.speak.ensures.adds
 
-pub speak-requires-clause-past : goal.speak-requires-clause-past
-speak-requires-clause-past g c = subst (λ n. n ≤ g.C.Clock.last c.args.clock.now) (sym c.listen.ensures.moment) c.requires.past
+pub returns-in-Ok-false-clause-adds : goal.returns-in-Ok-false-clause-adds
+returns-in-Ok-false-clause-adds g c =
+    adds_trans silent_rule c.args.table.now is_talking c.args.pass.now c.speak.new.pass c.listen.new.pass
+    (adds_weaker silent_rule c.args.table.now is_saying is_talking c.args.pass.now c.speak.new.pass say_talks c.speak.ensures.adds) c.listen.ensures.adds
 
-pub returns-then-heard-clause-adds : goal.returns-then-heard-clause-adds
-returns-then-heard-clause-adds g c =
-    adds_trans silent_rule c.args.table.now is_talking c.args.pass.now c.listen.new.pass c.speak.new.pass c.listen.ensures.adds
-    (adds_weaker silent_rule c.args.table.now is_saying is_talking c.listen.new.pass c.speak.new.pass say_talks c.speak.ensures.adds)
+pub returns-in-Ok-false-clause-talks : goal.returns-in-Ok-false-clause-talks
+returns-in-Ok-false-clause-talks g c = on_ok_with _ c.listen.result (λ _. λ opening all start items early t.
+    let last = g.C.Clock.last c.speak.new.clock in
+    talks_same g.W.Errand.watches opening c.args.table.now c.args.call (g.W.Errand.did c.listen.new.errand true start last) (g.W.Errand.did c.listen.new.errand false start last) items true false c.listen.new.pass
+    (λ cut events outs ended so. g.W.Errand.weaker c.listen.new.errand start last cut events outs ended so)
+    (c.listen.ensures.talks opening start last items (c.speak.ensures.none (c.in-Ok-false.is ∙ ap Ok c.in-Ok-false.field-0-test) opening all start items early t)))
 
-pub returns-then-heard-clause-talks : goal.returns-then-heard-clause-talks
-returns-then-heard-clause-talks g c = λ opening all start items early t. c.in-Ok-speak.ensures.talks opening all start items early (c.listen.ensures.talks opening all start (g.C.Clock.last c.args.clock.now) items t)
+pub returns-in-Ok-false-clause-stopped : goal.returns-in-Ok-false-clause-stopped
+returns-in-Ok-false-clause-stopped g c = on_err_with _ c.listen.result (λ _. λ opening all start items early t.
+    let last = g.C.Clock.last c.speak.new.clock in (
+      true,
+      talks_weaker g.W.Errand.watches opening c.args.table.now c.args.call (g.W.Errand.did c.listen.new.errand true start last) (g.W.Errand.did c.listen.new.errand true start last) items true false c.listen.new.pass
+          (c.listen.ensures.talks opening start last items (c.speak.ensures.none (c.in-Ok-false.is ∙ ap Ok c.in-Ok-false.field-0-test) opening all start items early t)),
+    ))
 
-pub returns-else-heard-clause-adds : goal.returns-else-heard-clause-adds
-returns-else-heard-clause-adds g c =
-    adds_trans silent_rule c.args.table.now is_talking c.args.pass.now c.listen.new.pass c.speak.new.pass c.listen.ensures.adds
-    (adds_weaker silent_rule c.args.table.now is_saying is_talking c.listen.new.pass c.speak.new.pass say_talks c.speak.ensures.adds)
-
-pub returns-else-heard-clause-talks : goal.returns-else-heard-clause-talks
-returns-else-heard-clause-talks g c = λ opening all start items early t. c.in-Ok-speak.ensures.talks opening all start items early (c.listen.ensures.talks opening all start (g.C.Clock.last c.args.clock.now) items t)
-
-pub returns-then-heard-clause-none : goal.returns-then-heard-clause-none
-returns-then-heard-clause-none g c = λ is. absurd (cc is)
-
-pub returns-else-heard-clause-none : goal.returns-else-heard-clause-none
-returns-else-heard-clause-none g c = λ is opening all start items early t.
-    c.speak.ensures.none (c.in-Ok-speak.is ∙ is) opening all start items early (c.listen.ensures.talks opening all start (g.C.Clock.last c.args.clock.now) items t)
-
-pub returns-in-Err-speak-clause-adds : goal.returns-in-Err-speak-clause-adds
-returns-in-Err-speak-clause-adds g c =
-    adds_trans silent_rule c.args.table.now is_talking c.args.pass.now c.listen.new.pass c.speak.new.pass c.listen.ensures.adds
-    (adds_weaker silent_rule c.args.table.now is_saying is_talking c.listen.new.pass c.speak.new.pass say_talks c.speak.ensures.adds)
-
-pub returns-in-Err-speak-clause-stopped : goal.returns-in-Err-speak-clause-stopped
-returns-in-Err-speak-clause-stopped g c = λ opening all start items early t. (false, c.in-Err-speak.ensures.stopped opening all start items early (c.listen.ensures.talks opening all start (g.C.Clock.last c.args.clock.now) items t))
-
-pub returns-in-Err-clause-stopped : goal.returns-in-Err-clause-stopped
-returns-in-Err-clause-stopped g c = λ opening all start items early t. (
-  all,
-  talks_weaker g.W.Errand.watches opening c.args.table.now c.args.call (g.W.Errand.did c.listen.new.errand all start (g.C.Clock.last c.args.clock.now)) (g.W.Errand.did c.listen.new.errand all start (g.C.Clock.last c.args.clock.now)) items true false c.listen.new.pass
-      (c.listen.ensures.talks opening all start (g.C.Clock.last c.args.clock.now) items t),
-)
-
-pub returns-in-Err-clause-fits : goal.returns-in-Err-clause-fits
-returns-in-Err-clause-fits g c = c.listen.ensures.fits c.args.bells.now c.requires.fits
-
-pub returns-in-Err-clause-past : goal.returns-in-Err-clause-past
-returns-in-Err-clause-past g c = subst (λ n. n ≤ g.C.Clock.last c.args.clock.now) (sym c.listen.ensures.moment) c.requires.past
+pub returns-in-Err-clause-adds : goal.returns-in-Err-clause-adds
+returns-in-Err-clause-adds g c = adds_weaker silent_rule c.args.table.now is_saying is_talking c.args.pass.now c.speak.new.pass say_talks c.speak.ensures.adds

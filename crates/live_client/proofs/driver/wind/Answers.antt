@@ -33,7 +33,7 @@ returns-in-Ok-flush_one-clause-works g c = on_ok_with _ c.stands.result (λ _. �
     let did = g.W.Errand.did c.args.errand.now true start upto in
     let now = g.W.Errand.did c.run_one.new.errand true start upto in
     let t = works_winds watches opening r c.args.call w0 d0 f0 g0 did now true true is_running (written c.args.output.now) (holds c.args.store.now) (f c.args.output.now) (k c.args.store.now) p m runs_wants run_closes c.run_one.ensures.adds
-    (λ items t. c.run_one.ensures.talks opening true true start upto items t) so in
+    (λ items t. c.run_one.ensures.talks opening true start upto items t) so in
     let n = c.flush_one.new.pass in
     let e = c.flush_one.ensures in
     let made = c.in-Ok-flush_one.ensures.made in
@@ -59,7 +59,7 @@ returns-in-Ok-flush_one-clause-worked g c = on_err_with _ c.stands.result (λ _.
     let did = g.W.Errand.did c.args.errand.now true start upto in
     let now = g.W.Errand.did c.run_one.new.errand true start upto in
     let t = works_winds watches opening r c.args.call w0 d0 f0 g0 did now true true is_running (written c.args.output.now) (holds c.args.store.now) (f c.args.output.now) (k c.args.store.now) p m runs_wants run_closes c.run_one.ensures.adds
-    (λ items t. c.run_one.ensures.talks opening true true start upto items t) so in
+    (λ items t. c.run_one.ensures.talks opening true start upto items t) so in
     let n = c.flush_one.new.pass in
     let e = c.flush_one.ensures in
     let made = c.in-Ok-flush_one.ensures.made in
@@ -74,13 +74,13 @@ returns-in-Ok-flush_one-clause-worked g c = on_err_with _ c.stands.result (λ _.
     (f c.flush_one.new.output) (k c.flush_one.new.store) q end.talks end.made end.causes)
 
 pub returns-in-Ok-flush_one-clause-uncut : goal.returns-in-Ok-flush_one-clause-uncut
-returns-in-Ok-flush_one-clause-uncut g c = λ opening start upto w0 d0 f0 g0 so uncut. c.run_one.ensures.over opening true start upto so.items so.talks uncut
+returns-in-Ok-flush_one-clause-uncut g c = λ opening start upto w0 d0 f0 g0 so uncut. c.run_one.ensures.over opening start upto so.items so.talks uncut
 
 pub returns-in-Err-flush_one-clause-uncut : goal.returns-in-Err-flush_one-clause-uncut
-returns-in-Err-flush_one-clause-uncut g c = λ opening start upto w0 d0 f0 g0 so uncut. c.run_one.ensures.over opening true start upto so.items so.talks uncut
+returns-in-Err-flush_one-clause-uncut g c = λ opening start upto w0 d0 f0 g0 so uncut. c.run_one.ensures.over opening start upto so.items so.talks uncut
 
 pub returns-in-Err-clause-uncut : goal.returns-in-Err-clause-uncut
-returns-in-Err-clause-uncut g c = λ opening start upto w0 d0 f0 g0 so uncut. c.run_one.ensures.over opening true start upto so.items so.talks uncut
+returns-in-Err-clause-uncut g c = λ opening start upto w0 d0 f0 g0 so uncut. c.run_one.ensures.over opening start upto so.items so.talks uncut
 
 pub returns-in-Err-flush_one-clause-can : goal.returns-in-Err-flush_one-clause-can
 returns-in-Err-flush_one-clause-can g c = can_on c.args.table.now c.args.call is_flushing c.run_one.new.pass c.flush_one.new.pass (can_on c.args.table.now c.args.call is_running c.args.pass.now c.run_one.new.pass c.requires.can c.run_one.ensures.adds) c.flush_one.ensures.adds
@@ -101,7 +101,7 @@ returns-in-Err-flush_one-clause-worked g c = λ opening start upto w0 d0 f0 g0 s
     let did = g.W.Errand.did c.args.errand.now true start upto in
     let now = g.W.Errand.did c.run_one.new.errand true start upto in
     let t = works_winds watches opening r c.args.call w0 d0 f0 g0 did now true true is_running (written c.args.output.now) (holds c.args.store.now) (f c.args.output.now) (k c.args.store.now) p m runs_wants run_closes c.run_one.ensures.adds
-    (λ items t. c.run_one.ensures.talks opening true true start upto items t) so in
+    (λ items t. c.run_one.ensures.talks opening true start upto items t) so in
     let n = c.flush_one.new.pass in
     let e = c.flush_one.ensures in
     works_failed watches opening r c.args.call w0 d0 f0 g0 now true (written c.args.output.now) (written c.flush_one.new.output) (holds c.args.store.now) (holds c.flush_one.new.store)
@@ -126,6 +126,6 @@ returns-in-Err-clause-worked g c = λ opening start upto w0 d0 f0 g0 so.
     let did = g.W.Errand.did c.args.errand.now true start upto in
     let now = g.W.Errand.did c.run_one.new.errand true start upto in
     let t = works_winds watches opening r c.args.call w0 d0 f0 g0 did now true true is_running (written c.args.output.now) (holds c.args.store.now) (f c.args.output.now) (k c.args.store.now) p m runs_wants run_closes c.run_one.ensures.adds
-    (λ items t. c.run_one.ensures.talks opening true true start upto items t) so in
+    (λ items t. c.run_one.ensures.talks opening true start upto items t) so in
     works_ended watches opening r c.args.call w0 d0 f0 g0 true (λ some. g.W.Errand.did c.run_one.new.errand some start upto) true true true t.items (written c.args.output.now) (holds c.args.store.now)
     (f c.args.output.now) (k c.args.store.now) m t.talks t.made t.causes

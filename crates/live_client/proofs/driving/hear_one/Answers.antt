@@ -11,15 +11,15 @@ pub returns-then-is_err-clause-adds : goal.returns-then-is_err-clause-adds
 returns-then-is_err-clause-adds g c = c.halt.ensures.adds is_running refl
 
 pub returns-then-is_err-clause-talks : goal.returns-then-is_err-clause-talks
-returns-then-is_err-clause-talks g c = λ opening all over start upto items t.
+returns-then-is_err-clause-talks g c = λ opening over start upto items t.
     let kept = of_err c.answer.result (sym c.is_err.ensures.value ∙ c.if-is_err.true) c.answer.ensures.kept in
-    talks_calm g.W.Errand.watches opening c.args.table.now c.args.call (g.W.Errand.did c.args.errand.now all start upto) (g.W.Errand.did c.answer.new.errand all start upto) items true over is_running
+    talks_calm g.W.Errand.watches opening c.args.table.now c.args.call (g.W.Errand.did c.args.errand.now true start upto) (g.W.Errand.did c.answer.new.errand true start upto) items true over is_running
     c.args.pass.now c.halt.new.pass run_uncancelled
     (halt_calm c.args.table.now c.args.call c.args.pass.now c.halt.new.pass c.requires.can Memory is_running c.halt.ensures.did refl refl (λ is. absurd (cc is)) (c.halt.ensures.adds is_running refl))
-    (λ cut events outs ended. kept all start upto cut events outs ended) t
+    (λ cut events outs ended. kept true start upto cut events outs ended) t
 
 pub returns-then-is_err-clause-over : goal.returns-then-is_err-clause-over
-returns-then-is_err-clause-over g c = λ opening all start upto items t.
+returns-then-is_err-clause-over g c = λ opening start upto items t.
     of_err c.answer.result (sym c.is_err.ensures.value ∙ c.if-is_err.true) c.answer.ensures.uncut
 
 ends_of_it : (g : Over) (c : goal.After-end_run g) → EndsRun c.args.table.now c.args.call c.args.running.run.event c.args.pass.now c.end_run.new.pass
@@ -29,13 +29,13 @@ pub returns-clause-adds : goal.returns-clause-adds
 returns-clause-adds g c = (ends_of_it g c).adds
 
 pub returns-clause-talks : goal.returns-clause-talks
-returns-clause-talks g c = λ opening all over start upto items t.
+returns-clause-talks g c = λ opening over start upto items t.
     let heard = of_ok c.answer.result (sym c.is_err.ensures.value ∙ c.if-is_err.false) c.answer.ensures.heard in
-    talks_heard g.W.Errand.watches opening c.args.table.now c.args.call (g.W.Errand.did c.args.errand.now all start upto) (g.W.Errand.did c.answer.new.errand all start upto) items
-    (g.W.Errand.cuts c.answer.new.errand ≡ false) c.args.running.run.event c.args.pass.now c.end_run.new.pass (ends_of_it g c) (λ cut events outs ended. heard all start upto cut events outs ended) true over t
+    talks_heard g.W.Errand.watches opening c.args.table.now c.args.call (g.W.Errand.did c.args.errand.now true start upto) (g.W.Errand.did c.answer.new.errand true start upto) items
+    (g.W.Errand.cuts c.answer.new.errand ≡ false) c.args.running.run.event c.args.pass.now c.end_run.new.pass (ends_of_it g c) (λ cut events outs ended. heard start upto cut events outs ended) true over t
 
 pub returns-clause-over : goal.returns-clause-over
-returns-clause-over g c = λ opening all start upto items t _.
+returns-clause-over g c = λ opening start upto items t _.
     let heard = of_ok c.answer.result (sym c.is_err.ensures.value ∙ c.if-is_err.false) c.answer.ensures.heard in
-    over_uncut g.W.Errand.watches opening c.args.table.now c.args.call (g.W.Errand.did c.args.errand.now all start upto) (g.W.Errand.did c.answer.new.errand all start upto) items
-    (g.W.Errand.cuts c.answer.new.errand ≡ false) c.args.running.run.event c.args.pass.now c.end_run.new.pass (ends_of_it g c) (λ cut events outs ended. heard all start upto cut events outs ended) true t
+    over_uncut g.W.Errand.watches opening c.args.table.now c.args.call (g.W.Errand.did c.args.errand.now true start upto) (g.W.Errand.did c.answer.new.errand true start upto) items
+    (g.W.Errand.cuts c.answer.new.errand ≡ false) c.args.running.run.event c.args.pass.now c.end_run.new.pass (ends_of_it g c) (λ cut events outs ended. heard start upto cut events outs ended) true t

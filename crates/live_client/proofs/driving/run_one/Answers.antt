@@ -10,22 +10,22 @@ pub returns-then-not-listens-clause-adds : goal.returns-then-not-listens-clause-
 returns-then-not-listens-clause-adds g c = adds_self silent_rule c.args.table.now is_running c.args.pass.now c.requires.can.stands
 
 pub returns-then-not-listens-clause-talks : goal.returns-then-not-listens-clause-talks
-returns-then-not-listens-clause-talks g c = λ opening all over start upto items t. t
+returns-then-not-listens-clause-talks g c = λ opening over start upto items t. t
 
 pub returns-in-Ok-None-clause-adds : goal.returns-in-Ok-None-clause-adds
 returns-in-Ok-None-clause-adds g c = c.begin_run.ensures.calm.adds
 
 pub returns-in-Ok-None-clause-talks : goal.returns-in-Ok-None-clause-talks
-returns-in-Ok-None-clause-talks g c = λ opening all over start upto items t.
-    talks_calm g.W.Errand.watches opening c.args.table.now c.args.call (g.W.Errand.did c.args.errand.now all start upto) (g.W.Errand.did c.args.errand.now all start upto) items true over is_running
+returns-in-Ok-None-clause-talks g c = λ opening over start upto items t.
+    talks_calm g.W.Errand.watches opening c.args.table.now c.args.call (g.W.Errand.did c.args.errand.now true start upto) (g.W.Errand.did c.args.errand.now true start upto) items true over is_running
     c.args.pass.now c.begin_run.new.pass run_uncancelled c.begin_run.ensures.calm (λ cut events outs ended so. so) t
 
 pub returns-in-Err-clause-adds : goal.returns-in-Err-clause-adds
 returns-in-Err-clause-adds g c = c.begin_run.ensures.calm.adds
 
 pub returns-in-Err-clause-talks : goal.returns-in-Err-clause-talks
-returns-in-Err-clause-talks g c = λ opening all over start upto items t.
-    talks_calm g.W.Errand.watches opening c.args.table.now c.args.call (g.W.Errand.did c.args.errand.now all start upto) (g.W.Errand.did c.args.errand.now all start upto) items true over is_running
+returns-in-Err-clause-talks g c = λ opening over start upto items t.
+    talks_calm g.W.Errand.watches opening c.args.table.now c.args.call (g.W.Errand.did c.args.errand.now true start upto) (g.W.Errand.did c.args.errand.now true start upto) items true over is_running
     c.args.pass.now c.begin_run.new.pass run_uncancelled c.begin_run.ensures.calm (λ cut events outs ended so. so) t
 
 pub hear_one-requires-clause-can : goal.hear_one-requires-clause-can
@@ -35,13 +35,13 @@ pub returns-in-Ok-Some-clause-adds : goal.returns-in-Ok-Some-clause-adds
 returns-in-Ok-Some-clause-adds g c = adds_trans silent_rule c.args.table.now is_running c.args.pass.now c.begin_run.new.pass c.hear_one.new.pass c.begin_run.ensures.calm.adds c.hear_one.ensures.adds
 
 pub returns-in-Ok-Some-clause-talks : goal.returns-in-Ok-Some-clause-talks
-returns-in-Ok-Some-clause-talks g c = λ opening all over start upto items t.
-    c.hear_one.ensures.talks opening all over start upto items (
-    talks_calm g.W.Errand.watches opening c.args.table.now c.args.call (g.W.Errand.did c.args.errand.now all start upto) (g.W.Errand.did c.args.errand.now all start upto) items true over is_running
+returns-in-Ok-Some-clause-talks g c = λ opening over start upto items t.
+    c.hear_one.ensures.talks opening over start upto items (
+    talks_calm g.W.Errand.watches opening c.args.table.now c.args.call (g.W.Errand.did c.args.errand.now true start upto) (g.W.Errand.did c.args.errand.now true start upto) items true over is_running
     c.args.pass.now c.begin_run.new.pass run_uncancelled c.begin_run.ensures.calm (λ cut events outs ended so. so) t)
 
 pub returns-in-Ok-Some-clause-over : goal.returns-in-Ok-Some-clause-over
-returns-in-Ok-Some-clause-over g c = λ opening all start upto items t uncut.
-    c.hear_one.ensures.over opening all start upto items (
-    talks_calm g.W.Errand.watches opening c.args.table.now c.args.call (g.W.Errand.did c.args.errand.now all start upto) (g.W.Errand.did c.args.errand.now all start upto) items true true is_running
+returns-in-Ok-Some-clause-over g c = λ opening start upto items t uncut.
+    c.hear_one.ensures.over opening start upto items (
+    talks_calm g.W.Errand.watches opening c.args.table.now c.args.call (g.W.Errand.did c.args.errand.now true start upto) (g.W.Errand.did c.args.errand.now true start upto) items true true is_running
     c.args.pass.now c.begin_run.new.pass run_uncancelled c.begin_run.ensures.calm (λ cut events outs ended so. so) t) uncut

@@ -5,7 +5,7 @@ use Rattle.live_client.proofs.asks.call.CallErrandErrand.hear.Goals as goal
 pub returns-clause-heard : goal.returns-clause-heard
 returns-clause-heard c =
     on_ok_map c.take.result
-    (λ heard. λ all start upto cut events outs ended so.
+    (λ heard. λ start upto cut events outs ended so.
     hears c.args.self.now c.take.new.self cut events outs ended c.args.event c.requires.listens heard c.take.ensures.limit so)
     c.take.ensures.heard
 

@@ -1,4 +1,4 @@
-use Rattle.std.proofs.Common.{[], ◌∷◌, ◌++◌, refl, sym, subst}
+use Rattle.std.proofs.Common.{true, [], ◌∷◌, ◌++◌, refl, sym, subst}
 use Rattle.live_client.specs.declared.asks.transfer.TaskErrand.{TaskErrand}
 use Rattle.live_client.specs.asks.Telling.{Tells}
 use Rattle.live_client.proofs.asks.TellLemmas.{keeps_alone, on_err_map, on_ok_map, tells_heard, tells_kept}
@@ -8,10 +8,10 @@ pub returns-clause-heard : goal.returns-clause-heard
 returns-clause-heard g c =
     let old = c.args.self.now in
     on_ok_map c.post.result
-    (λ posts. λ all start upto cut events outs ended so. (
+    (λ posts. λ start upto cut events outs ended so. (
       ended,
-      subst (λ (x : TaskErrand g.row.T.Denot). Tells g.T.Task.polls x.first.value c.post.new.self.tasks x.ear x.short.value all start upto cut (events ++ c.args.event ∷ []) outs ended) (sym c.post.ensures.rest)
-          (tells_heard g.T.Task.polls old.first.value old.tasks c.post.new.self.tasks old.ear old.short.value all start upto cut events outs ended c.args.event posts so),
+      subst (λ (x : TaskErrand g.row.T.Denot). Tells g.T.Task.polls x.first.value c.post.new.self.tasks x.ear x.short.value true start upto cut (events ++ c.args.event ∷ []) outs ended) (sym c.post.ensures.rest)
+          (tells_heard g.T.Task.polls old.first.value old.tasks c.post.new.self.tasks old.ear old.short.value true start upto cut events outs ended c.args.event posts so),
       λ _. (refl, refl),
     ))
     c.post.ensures.posts
