@@ -1,9 +1,11 @@
+pub mod RoomLemmas
 pub mod WireLemmas
 pub mod ServerLemmas
 pub mod ClientLemmas
 pub mod TimeLemmas
 pub mod StopLemmas
 pub mod SizeLemmas
+pub mod FitLemmas
 pub mod LineLemmas
 pub mod EndLemmas
 pub mod TurnLemmas

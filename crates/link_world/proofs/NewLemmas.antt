@@ -87,6 +87,7 @@ module _ (script : Script) (tuning : Tuning) (s : ServerState) (c : ClientState)
     now = ended.now;
     run = record { count = ends.comes.count; before = ends.comes.now; turns = ends.comes.turns; ends = ended.ends ends.last };
     report = ended.report;
+    text = ended.text;
     server = ended.server;
     client = ended.client;
     server_store = ended.server_store;

@@ -16,7 +16,8 @@ use Rattle.rpc_schedule.specs.Schedule.{Settles, input_seat}
 use Rattle.rpc_schedule.specs.Serving.{deeds}
 use Rattle.link_laws.specs.declared.world.limits.TheConstants.{TURN_OF_TIME}
 use Rattle.link_laws.specs.world.Client.{ClientSettles}
-use Rattle.link_laws.specs.world.Reports.{carries_chunk}
+use Rattle.link_script.specs.text.Report.{report_text}
+use Rattle.link_laws.specs.world.Reports.{carries_chunk, report_of}
 use Rattle.link_laws.specs.world.Setup.{client_setting}
 use Rattle.link_laws.specs.world.World.{Setup, World, client_store, server_store, with_client, with_server}
 use Rattle.link_world.specs.client.ClientSide.{ClientMoves, ClientState}
@@ -72,6 +73,11 @@ module _ (k : Setup) (commands : List Command) (w : World) where
       let client_stored : client.stored ≡ client_store k now =
       client_moves.kept k.client_store shows.client.stored ∙ ap (λ all. kept all k.client_store) (last_items c client y z shows.client client_moves last) in
       let chunks : ℕ = count_by carries_chunk z.numbered in
+      let report_is : outcome.report ≡ report_of k now =
+      tells.report ∙ (ap (λ lines. reported lines (length z.numbered) d.delivered chunks server.stored client.stored) shows.course.lines
+      ∙ (ap (λ n. reported w.lines (length z.numbered) n chunks server.stored client.stored) shows.course.delivered
+      ∙ (ap (λ st. reported w.lines (length z.numbered) w.delivered chunks st client.stored) server_stored
+      ∙ ap (λ st. reported w.lines (length z.numbered) w.delivered chunks (server_store k now) st) client_stored))) in
       record {
         now = now;
         ends = λ is_last. record {
@@ -82,10 +88,8 @@ module _ (k : Setup) (commands : List Command) (w : World) where
           client_settles = in_world k (λ set at h task. ClientSettles set at (adding h input_seat EndIn) None then None) commands w c d w.fed_client shows.client shows.course client_settles;
           is = sym (ap (λ v. with_client k v then) server_is ∙ client_is);
         };
-        report = tells.report ∙ (ap (λ lines. reported lines (length z.numbered) d.delivered chunks server.stored client.stored) shows.course.lines
-            ∙ (ap (λ n. reported w.lines (length z.numbered) n chunks server.stored client.stored) shows.course.delivered
-            ∙ (ap (λ st. reported w.lines (length z.numbered) w.delivered chunks st client.stored) server_stored
-            ∙ ap (λ st. reported w.lines (length z.numbered) w.delivered chunks (server_store k now) st) client_stored)));
+        report = report_is;
+        text = tells.text ∙ ap report_text report_is;
         server = tells.server;
         client = tells.client;
         server_store = tells.server_store ∙ server_stored;

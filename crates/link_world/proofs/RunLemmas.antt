@@ -1,5 +1,5 @@
 -- A run, turn by turn.
-use Rattle.std.proofs.Common.{◌≡◌, ℕ, zero, suc, ◌-◌, ◌<◌, ◌≤◌, List, [], ◌∷◌, length, slice_get, Option, Some, None, refl, ap, sym, ◌∙◌, subst, arith, length-drop}
+use Rattle.std.proofs.Common.{◌≡◌, ℕ, zero, suc, ◌-◌, ◌+◌, ◌<◌, ◌≤◌, ◌^◌, List, [], ◌∷◌, length, slice_get, Option, Some, None, refl, ap, sym, ◌∙◌, subst, arith, length-drop}
 use Rattle.std.specs.Prelude.{IfSome, option_and_then}
 use Rattle.std.specs.List.{AllByRecursion}
 use Rattle.link_script.specs.declared.command.Command.{Command}
@@ -11,7 +11,8 @@ use Rattle.rpc_schedule.specs.Serving.{deeds}
 use Rattle.rpc_schedule.proofs.ServingLemmas.{below_full}
 use Rattle.link_laws.specs.declared.world.limits.TheConstants.{MAX_DELIVERIES}
 use Rattle.link_laws.specs.world.Limits.{IsPastFrames}
-use Rattle.link_laws.specs.world.Turns.{Kind, Turns, ending, next_kind, timing}
+use Rattle.link_laws.specs.transfers_fit.Fits.{AreSmall}
+use Rattle.link_laws.specs.world.Turns.{Kind, Turns, ending, next_kind, starting, timing}
 use Rattle.link_laws.specs.world.Turns as world
 use Rattle.link_laws.specs.world.World.{Plain, Setup, World, calling, first_world}
 use Rattle.link_world.specs.declared.client.under.Under.{Under}
@@ -48,14 +49,15 @@ cancels_known c (Some (Calling plain x)) call now is attends unended =
 cancels_known c (Some (Closing channel ended)) call now is attends unended = absurd is
 
 -- the turn that comes next may be made
-pub can_turn : (commands : List Command) (c : ClientState) (d : Course) (now : ℕ) (turn : NextTurn) → AllByRecursion IsCommand commands
-    → IsNext commands d turn → Attends c d.under now → IsOpen c d.under → CanTurn c d turn
-can_turn commands c d now (ToServer frame) fit next attends unended = tt
-can_turn commands c d now (ToClient frame) fit next attends unended = tt
-can_turn commands c d now (Start command) fit next attends unended =
-    (all_at IsCommand commands d.started command.now fit next.0, next.1)
-can_turn commands c d now (Cancel call) fit next attends unended = cancels_known c d.under call now next attends unended
-can_turn commands c d now Time fit next attends unended = tt
+pub can_turn : (k : Setup) (commands : List Command) (w : World) (x : Wiring) (c : ClientState) (d : Course) (now : ℕ) (turn : NextTurn) → AllByRecursion IsCommand commands
+    → IsNext commands d turn → TakesTurn k w x turn → Attends c d.under now → IsOpen c d.under
+    → ((command : Command) (rest : List Command) → next_kind w ≡ starting command rest → (d.sessions + 1 < 2 ^ 32) × AreSmall c.stored.full) → CanTurn c d turn
+can_turn k commands w x c d now (ToServer frame) fit next takes attends unended fits = tt
+can_turn k commands w x c d now (ToClient frame) fit next takes attends unended fits = tt
+can_turn k commands w x c d now (Start command) fit next takes attends unended fits =
+    let starts = fits command.now takes.0 takes.1 in (all_at IsCommand commands d.started command.now fit next.0, next.1, starts.0, starts.1)
+can_turn k commands w x c d now (Cancel call) fit next takes attends unended fits = cancels_known c d.under call now next attends unended
+can_turn k commands w x c d now Time fit next takes attends unended fits = tt
 
 pub takes_left : (k : Setup) (w : World) (x : Wiring) (turn : NextTurn) → TakesTurn k w x turn → next_kind w ≡ ending → ⊥
 takes_left k w x (ToServer frame) takes is = let other = takes.1 in absurd cc

@@ -1,3 +1,4 @@
+pub mod Room
 pub mod Refused
 pub mod Showing
 pub mod Making

@@ -1,7 +1,8 @@
 -- What is told of the run of a script.
-use Rattle.std.specs.Prelude.{◌≡◌, ℕ, ◌+◌, List, slice_get, Some}
+use Rattle.std.specs.Prelude.{◌≡◌, ℕ, ◌+◌, List, slice_get, Some, string_bytes}
 use Rattle.link_script.specs.declared.command.Command.{Command}
 use Rattle.link_script.specs.declared.script.Script.{Script}
+use Rattle.link_script.specs.text.Report.{report_text}
 use Rattle.link_laws.specs.world.Reports.{report_of}
 use Rattle.link_laws.specs.world.Setup.{setup_of}
 use Rattle.link_laws.specs.world.Sound.{IsSound}
@@ -16,13 +17,15 @@ use Rattle.link_laws.specs.lossless_scripts.Lossless.{EndsAs, chunks_of}
 use Rattle.link_laws.specs.lossless_scripts.Scripts.{BeginsFewWrites}
 use Rattle.link_laws.specs.okay_means_bytes.Okay.{LinesHoldFrom, Throughout}
 use Rattle.link_world.specs.declared.outcome.Outcome.{Outcome}
+use Rattle.link_world.specs.Room.{StaysWithin}
 
--- the outcome is that of a run of these commands: both journals are its histories, the report is what is told of it, and the
--- stores hold what was kept
+-- the outcome is that of a run of these commands: both journals are its histories, the report is what is told of it and the text
+-- the report's, and the stores hold what was kept
 pub record IsRunBy (k : Setup) (commands : List Command) (outcome : Outcome) : Type 0 where
   pub now : World
   pub run : Turned k commands now
   pub report : outcome.report ≡ report_of k now
+  pub text : string_bytes outcome.text ≡ report_text (report_of k now)
   pub server : outcome.server.entries ≡ now.server
   pub client : outcome.client.entries ≡ now.client
   pub server_store : outcome.server_store.stored ≡ server_store k now
@@ -31,6 +34,10 @@ pub record IsRunBy (k : Setup) (commands : List Command) (outcome : Outcome) : T
 -- THE OUTCOME IS THAT OF THE RUN OF A SCRIPT
 abbrev pub IsRunOf : Script → Outcome → Type 0
 IsRunOf script outcome = IsRunBy (setup_of script) script.commands outcome
+
+-- NEITHER JOURNAL WAS FULL where an entry wanted room
+abbrev pub BothStayWithin : Outcome → Type 0
+BothStayWithin outcome = StaysWithin outcome.server.entries × StaysWithin outcome.client.entries
 
 -- the outcome is that of the run of a script, of whose last world this holds
 pub record IsRunWith (Holds : Setup → List Command → World → Type 0) (script : Script) (outcome : Outcome) : Type 0 where

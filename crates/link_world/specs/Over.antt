@@ -1,6 +1,7 @@
 -- The end of a run, and what is told of it.
-use Rattle.std.specs.Prelude.{◌≡◌, length, count_by}
+use Rattle.std.specs.Prelude.{◌≡◌, length, count_by, string_bytes}
 use Rattle.link_io.specs.Resources.{lengths_of}
+use Rattle.link_script.specs.text.Report.{report_text}
 use Rattle.link_laws.specs.world.Reports.{carries_chunk, report_of}
 use Rattle.link_laws.specs.world.Turns.{Ends, ending, next_kind}
 use Rattle.link_laws.specs.world.World.{Setup, World, client_store, server_store}
@@ -20,6 +21,7 @@ pub record Tells (s : ServerState) (c : ClientState) (x : Wiring) (d : Course) (
     server = lengths_of s.stored.full;
     client = lengths_of c.stored.full;
   }
+  pub text : string_bytes outcome.text ≡ report_text outcome.report
   pub server : outcome.server.entries ≡ s.end.serving.table.entries
   pub client : outcome.client.entries ≡ c.end.serving.table.entries
   pub server_store : outcome.server_store.stored ≡ s.stored
@@ -30,6 +32,7 @@ pub record LeadsToEnd (k : Setup) (w : World) (outcome : Outcome) : Type 0 where
   pub now : World
   pub ends : next_kind w ≡ ending → Ends k w now
   pub report : outcome.report ≡ report_of k now
+  pub text : string_bytes outcome.text ≡ report_text (report_of k now)
   pub server : outcome.server.entries ≡ now.server
   pub client : outcome.client.entries ≡ now.client
   pub server_store : outcome.server_store.stored ≡ server_store k now

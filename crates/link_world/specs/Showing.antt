@@ -13,6 +13,7 @@ use Rattle.rpc_schedule.specs.Serving.{deeds}
 use Rattle.rpc_schedule.specs.ends.EndState.{WasFed}
 use Rattle.transfer_base.specs.declared.tuning.Tuning.{Tuning}
 use Rattle.link_laws.specs.declared.world.limits.TheConstants.{TURN_OF_TIME}
+use Rattle.link_laws.specs.transfers_fit.Fits.{AreSmall}
 use Rattle.link_laws.specs.world.Setup.{client_setting}
 use Rattle.link_laws.specs.world.World.{Setup, World}
 use Rattle.link_world.specs.declared.client.under.Under.{Under}
@@ -82,9 +83,9 @@ pub record Stands (s : ServerState) (c : ClientState) (d : Course) : Type 0 wher
   pub attends : Attends c d.under (TURN_OF_TIME * d.times)
   pub times : d.times ≤ MAX_ENTRIES
 
--- a turn that may be made then
+-- a turn that may be made then; where a command starts, a session more has a number, and the client's resources fit
 abbrev pub CanTurn : ClientState → Course → NextTurn → Type 0
-CanTurn c d (Start command) = IsCommand command.now × (d.started + 1 < 2 ^ 64)
+CanTurn c d (Start command) = IsCommand command.now × (d.started + 1 < 2 ^ 64) × (d.sessions + 1 < 2 ^ 32) × AreSmall c.stored.full
 CanTurn c d (Cancel call) = (call < call_count (deeds c.end.serving)) × (end_of (deeds c.end.serving) call ≡ None)
 CanTurn c d _ = Unit {0}
 

@@ -9,6 +9,7 @@ use Rattle.rpc_ids.specs.declared.method.Role.TheVariants.{Server, Client}
 use Rattle.rpc_schedule.specs.ends.EndState.{WasFed}
 use Rattle.transfer_base.specs.declared.limits.TheConstants.{MAX_CHUNK, MAX_WINDOW}
 use Rattle.transfer_base.specs.declared.tuning.Tuning.{Tuning}
+use Rattle.link_laws.specs.transfers_fit.Scripts.{IsScript}
 use Rattle.link_laws.specs.world.Setup.{made_resources, script_chunk, script_window, server_setting, stocked}
 use Rattle.link_world.specs.client.ClientSide.{ClientRests, ClientState}
 use Rattle.link_world.specs.server.ServerSide.{ServerRests, ServerState}
@@ -24,11 +25,11 @@ pub record IsWithinBounds (script : Script) : Type 0 where
   pub left_client : IsOnce (made_resources script.left_client)
   pub commands : AllByRecursion IsCommand script.commands
 
--- both ends and the link are those of a script before anything happens
+-- both ends and the link are those of a script whose numbers fit, before anything happens
 pub record IsNew (script : Script) (tuning : Tuning) (s : ServerState) (c : ClientState) (x : Wiring) : Type 0 where
   pub window : tuning.window ≡ script_window script
   pub chunk : tuning.chunk ≡ script_chunk script
-  pub commands : AllByRecursion IsCommand script.commands
+  pub fits : IsScript script
   pub server_rests : ServerRests s
   pub setting : s.end.serving.table.setting ≡ server_setting (stocked script.server script.left_server) (script_window script) (script_chunk script)
   pub server_entries : s.end.serving.table.entries ≡ []

@@ -7,10 +7,11 @@ use link_script::Report;
 use rpc_journal::Journal;
 use std::alloc::AllocError;
 
-/// The run of a script: what is told of it, the journals of both ends, and what their stores hold then.
+/// The run of a script: what is told of it, also as a text, the journals of both ends, and what their stores hold then.
 #[derive(Drop)]
 pub struct Outcome {
     pub report: Report,
+    pub text: String,
     pub server: Journal,
     pub client: Journal,
     pub server_store: MemStore,

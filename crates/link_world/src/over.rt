@@ -7,6 +7,7 @@ ghost use Rattle.link_laws.specs.world.Limits.{EndStops};
 ghost use Rattle.link_laws.specs.world.Setup.{quiet_rule};
 ghost use Rattle.link_laws.specs.world.World.{Setup, World};
 ghost use Rattle.link_world.specs.Over.{LeadsToEnd, Tells};
+ghost use Rattle.link_world.specs.Outcomes.{BothStayWithin};
 ghost use Rattle.link_world.specs.Showing.{Shows, Stands};
 
 use crate::client::ClientEnd;
@@ -15,6 +16,7 @@ use crate::outcome::{Outcome, WorldRefused};
 use crate::server::{ServerEnd, Wires, lengths};
 use crate::turns::moment;
 use link_script::Report;
+use link_script::text::print_report;
 use std::alloc::{AllocError, Global};
 
 /// Nothing is left to do: both ends are told that the link is given up, and all is told of the run.
@@ -31,6 +33,7 @@ pub(crate) fn end(
     ensures journal { result ≡ Err WorldRefused.Journal → (k : Setup) (commands : List Command) (w : World) → Shows k commands server client wires course w → EndStops k w }
     ensures server { IfOk result (λ outcome. IsLegal demo_rule server.end.serving.table.setting outcome.server.entries) }
     ensures client { IfOk result (λ outcome. IsLegal quiet_rule client.end.serving.table.setting outcome.client.entries) }
+    ensures room { IfOk result BothStayWithin }
 {
     let now = moment(course.times);
     server.end_in(&mut wires)?;
@@ -68,11 +71,14 @@ fn tell(
         server: lengths(alloc, &mut server_store)?,
         client: lengths(alloc, &mut client_store)?,
     };
+    let mut text = String::new(alloc);
+    print_report(alloc, &report, &mut text)?;
     Ok(Outcome {
         report,
+        text,
         server,
         client,
-        server_store,
-        client_store,
+        server_store: server_store.into_inner(),
+        client_store: client_store.into_inner(),
     })
 }

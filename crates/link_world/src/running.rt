@@ -1,7 +1,8 @@
 //! A run, turn by turn.
-ghost use Rattle.std.specs.Prelude.{◌≡◌, Err, OnOk};
+ghost use Rattle.std.specs.Prelude.{◌≡◌, ◌<◌, ◌^◌, length, Err, OnOk};
 ghost use Rattle.std.specs.List.{AllByRecursion};
 ghost use Rattle.link_script.specs.Script.{IsCommand};
+ghost use Rattle.link_laws.specs.transfers_fit.Fits.{BeginsSmall};
 ghost use Rattle.link_laws.specs.world.Limits.{IsPastFrames, IsPastJournal};
 ghost use Rattle.link_laws.specs.world.World.{first_world};
 ghost use Rattle.link_world.specs.Running.{EndsWith, setup_by};
@@ -29,6 +30,8 @@ pub(crate) fn run_turns(
     requires stands { Stands server.old client.old course.old }
     requires open { IsOpen client.old course.old.under }
     requires commands { AllByRecursion IsCommand commands.now }
+    requires few { length commands.now < 2 ^ 32 }
+    requires small { BeginsSmall (setup_by server.old client.old wires.old tuning) }
     requires begins { Shows (setup_by server.old client.old wires.old tuning) commands.now server.old client.old wires.old course.old (first_world commands.now) }
     ensures stands { OnOk result (Stands server.new client.new course.new) }
     ensures ends { OnOk result (EndsWith (setup_by server.old client.old wires.old tuning) commands.now server.new client.new wires.new course.new) }

@@ -8,6 +8,7 @@ mod serving;
 mod stopped;
 mod stores;
 mod wires;
+mod world_store;
 
 pub use channels::{LAST_CHANNEL, world_channels};
 pub use progress::committed;
@@ -16,3 +17,4 @@ pub use serving::take_out;
 pub use stopped::Stopped;
 pub use stores::{lengths, shelf_of, stock_bytes, store_of};
 pub use wires::Wires;
+pub use world_store::WorldStore;

@@ -8,6 +8,7 @@ ghost use Rattle.link_world.specs.client.Asking.{IsAsked};
 ghost use Rattle.link_world.specs.client.ClientSide.{Attends, ClientRests, ClientState};
 ghost use Rattle.link_world.specs.server.ServerSide.{ServerRests};
 ghost use Rattle.link_laws.specs.declared.world.limits.TheConstants.{TURN_OF_TIME};
+ghost use Rattle.link_laws.specs.transfers_fit.Fits.{AreSmall};
 ghost use Rattle.link_laws.specs.world.Limits.{StopsIn};
 ghost use Rattle.link_laws.specs.world.Turns.{next_kind, starting};
 ghost use Rattle.link_laws.specs.world.World.{Setup, World};
@@ -21,7 +22,7 @@ use crate::turns::moment;
 use link_script::Command;
 use transfer_base::Tuning;
 
-/// The client is asked a command. So many of them that their sessions have no number would not fit into memory.
+/// The client is asked a command.
 pub(crate) fn ask(
     command: &Command,
     tuning: Tuning,
@@ -31,6 +32,8 @@ pub(crate) fn ask(
 ) -> Result<(), Stopped>
     requires rest { ClientRests client.old }
     requires asked { IsAsked command.now }
+    requires sessions { course.old.sessions + 1 < 2 ^ 32 }
+    requires small { AreSmall client.old.stored.full }
     requires times { course.old.times ≤ MAX_ENTRIES }
     ensures rest { OnOk result (ClientRests client.new) }
     ensures attends { OnOk result (Attends client.new course.new.under (TURN_OF_TIME * course.new.times)) }
@@ -42,9 +45,6 @@ pub(crate) fn ask(
         → ClientShows k client.old w.client w.fed_client → IsTuned k tuning → CourseShows commands course.old (with_coming rest w)
         → StopsIn k w (starting command.now rest) }
 {
-    if course.sessions == u32::MAX {
-        return Err(Stopped::Memory);
-    }
     let now = moment(course.times);
     let under = client.start(command, &mut course.sessions, tuning, now, wires)?;
     course.under = Some(under);
@@ -85,6 +85,8 @@ pub(crate) fn start(
     requires stands { Stands server.old client.old course.old }
     requires command { IsCommand command.now }
     requires started { course.old.started + 1 < 2 ^ 64 }
+    requires sessions { course.old.sessions + 1 < 2 ^ 32 }
+    requires small { AreSmall client.old.stored.full }
     ensures stands { OnOk result (Stands server.new client.new course.new) }
     ensures turn { OnOk result ((k : Setup) (commands : List Command) (w : World) (rest : List Command) → ServerShows k server.old w.server w.fed_server
         → ClientShows k client.old w.client w.fed_client → CourseShows commands course.old w → IsTuned k tuning → wires.old ≡ wiring_of k w

@@ -8,7 +8,7 @@ ghost use Rattle.link_laws.specs.world.Sound.{NoFlips};
 ghost use Rattle.link_laws.specs.transfers_fit.Scripts.{IsScript};
 ghost use Rattle.link_laws.specs.lossless_scripts.Lossless.{IsLosslessScript};
 ghost use Rattle.link_laws.specs.lossless_scripts.Scripts.{IsOpenScript};
-ghost use Rattle.link_world.specs.Outcomes.{AllArrive, AllEndWell, IsRunOf, IsRunWith, LinesHold, LossesEndWell, RunIsSound, SoundLinesHold};
+ghost use Rattle.link_world.specs.Outcomes.{AllArrive, AllEndWell, BothStayWithin, IsRunOf, IsRunWith, LinesHold, LossesEndWell, RunIsSound, SoundLinesHold};
 ghost use Rattle.link_world.specs.Starting.{IsWithinBounds};
 
 use crate::client::ClientEnd;
@@ -46,9 +46,10 @@ impl Model for World {
 }
 
 impl World {
-    /// The world of a script.
+    /// The world of a script whose numbers fit.
     pub fn new(alloc: Global, script: Script) -> Result<World, AllocError>
-        requires { IsWithinBounds script }
+        requires bounds { IsWithinBounds script }
+        requires fits { IsScript script }
         ensures { IfOk result (λ world. world ≡ script) }
     {
         let tuning = tuning_of(&script);
@@ -87,9 +88,10 @@ impl World {
         ensures journal { result ≡ Err WorldRefused.Journal → IsPastJournal (setup_of self) self.commands }
         ensures server { IfOk result (λ outcome. IsLegal demo_rule (setup_of self).server outcome.server.entries) }
         ensures client { IfOk result (λ outcome. IsLegal quiet_rule client_setting outcome.client.entries) }
-        ensures sound { IsScript self → NoFlips self.losses → IfOk result (IsRunWith RunIsSound self) }
-        ensures bytes { IsScript self → NoFlips self.losses → IfOk result (IsRunWith LinesHold self) }
-        ensures sound_bytes { IsScript self → IfOk result (IsRunWith SoundLinesHold self) }
+        ensures room { IfOk result BothStayWithin }
+        ensures sound { NoFlips self.losses → IfOk result (IsRunWith RunIsSound self) }
+        ensures bytes { NoFlips self.losses → IfOk result (IsRunWith LinesHold self) }
+        ensures sound_bytes { IfOk result (IsRunWith SoundLinesHold self) }
         ensures lossless { IsLosslessScript self → IfOk result (IsRunWith AllEndWell self) }
         ensures arrives { IsLosslessScript self → IfOk result (IsRunWith AllArrive self) }
         ensures losses { IsOpenScript self → IfOk result (IsRunWith LossesEndWell self) }

@@ -1,5 +1,7 @@
 //! Scripts of one transfer, and of several where an older one still speaks.
 
+ghost use Rattle.std.specs.Prelude.{◌<◌, ◌^◌, length};
+
 mod again;
 mod damage;
 mod drops;
@@ -13,9 +15,23 @@ use rpc_ids::Status;
 use std::alloc::{AllocError, Global};
 use std::process::Abort;
 
+// No script here is longer.
+const TEXT_LIMIT: usize = 1_048_576;
+
 /// What is told of the run of a script's text, where it is a script and meets no limit.
 fn told(alloc: Global, text: &str) -> Result<Option<Report>, AllocError> {
-    let Ok(script) = read_script(alloc, text.as_bytes())? else {
+    let text = text.as_bytes();
+    if text.len() < TEXT_LIMIT {
+        told_of(alloc, text)
+    } else {
+        Ok(None)
+    }
+}
+
+fn told_of(alloc: Global, text: &[u8]) -> Result<Option<Report>, AllocError>
+    requires { length text.now < 2 ^ 20 }
+{
+    let Ok(script) = read_script(alloc, text)? else {
         return Ok(None);
     };
     match World::new(alloc, script)?.run() {

@@ -14,7 +14,6 @@ use Rattle.link_laws.specs.world.Setup.{setup_of}
 use Rattle.link_laws.specs.world.Sound.{NoFlips}
 use Rattle.link_laws.specs.world.Turns.{Turned}
 use Rattle.link_laws.specs.world.World.{World}
-use Rattle.link_laws.specs.transfers_fit.Scripts.{IsScript}
 use Rattle.link_laws.specs.lossless_scripts.Lossless.{IsLosslessScript}
 use Rattle.link_laws.specs.lossless_scripts.Scripts.{IsOpenScript}
 use Rattle.link_world.specs.Outcomes.{AllArrive, AllEndWell, LinesHold, LossesEndWell, RunIsSound, SoundLinesHold}
@@ -25,17 +24,16 @@ use Rattle.pw_run.specs.declared.told.Found.TheVariants.{Good, BadLine, PastFram
 abbrev pub limit_text : List ℕ → ℕ → List ℕ
 limit_text what limit = line (codes "limit" ∷ what ∷ decimal limit ∷ [])
 
--- The script was run to its end, and this is the report of its run. Where its numbers fit and no loss damages a frame, the run is
--- sound; in a run that is sound throughout, OK means the bytes, whatever the link does; where nothing is lost, or chunks alone and of
--- each transfer none in one of its first four rounds, all end well, and the next one in time, whatever chunks it loses; and where
--- nothing is lost all arrives.
+-- The script was run to its end, and this is the report of its run. Where no loss damages a frame, the run is sound; in a run that is
+-- sound throughout, OK means the bytes, whatever the link does; where nothing is lost, or chunks alone and of each transfer none in one
+-- of its first four rounds, all end well, and the next one in time, whatever chunks it loses; and where nothing is lost all arrives.
 pub record TellsReport (script : Script) (told : List ℕ) : Type 0 where
   pub now : World
   pub run : Turned (setup_of script) script.commands now
   pub report : told ≡ report_text (report_of (setup_of script) now)
-  pub sound : IsScript script → NoFlips script.losses → RunIsSound (setup_of script) script.commands now
-  pub sound_bytes : IsScript script → SoundLinesHold (setup_of script) script.commands now
-  pub bytes : IsScript script → NoFlips script.losses → LinesHold (setup_of script) script.commands now
+  pub sound : NoFlips script.losses → RunIsSound (setup_of script) script.commands now
+  pub sound_bytes : SoundLinesHold (setup_of script) script.commands now
+  pub bytes : NoFlips script.losses → LinesHold (setup_of script) script.commands now
   pub lossless : IsLosslessScript script → AllEndWell (setup_of script) script.commands now
   pub arrives : IsLosslessScript script → AllArrive (setup_of script) script.commands now
   pub losses : IsOpenScript script → LossesEndWell (setup_of script) script.commands now

@@ -1,18 +1,20 @@
 //! The command `link`: a script is run, over a link that loses.
-ghost use Rattle.std.specs.Prelude.{◌≡◌, ◌++◌, IfOk, OnOk, string_bytes};
+ghost use Rattle.std.specs.Prelude.{◌≡◌, ◌+◌, ◌<◌, ◌^◌, length, IfOk, string_bytes};
+ghost use Rattle.link_laws.specs.transfers_fit.Scripts.{IsScript};
 ghost use Rattle.link_world.specs.Starting.{IsWithinBounds};
 ghost use Rattle.pw_run.specs.Link.{TellsLink, TellsRun, limit_text};
 
 use crate::told::{Found, Told};
 use link_laws::world::MAX_DELIVERIES;
 use link_script::Script;
-use link_script::text::{add_bad_line, print_report, read_script};
+use link_script::text::{add_bad_line, read_script};
 use link_world::{World, WorldRefused};
 use rpc_journal::MAX_ENTRIES;
 use std::alloc::{AllocError, Global};
 
-/// What is told of the run of the script in a text.
+/// What is told of the run of the script in a text, whose commands can be numbered.
 pub(crate) fn link(alloc: Global, text: &[u8]) -> Result<Told, AllocError>
+    requires { length text.now + 1 < 2 ^ 32 }
     ensures { IfOk result (λ told. TellsLink text.now told.text.items told.found) }
 {
     match read_script(alloc, text)? {
@@ -26,21 +28,18 @@ pub(crate) fn link(alloc: Global, text: &[u8]) -> Result<Told, AllocError>
 }
 
 fn run(alloc: Global, script: Script) -> Result<Told, AllocError>
-    requires { IsWithinBounds script }
+    requires bounds { IsWithinBounds script }
+    requires fits { IsScript script }
     ensures { IfOk result (λ told. TellsRun script told.text.items told.found) }
 {
-    let mut text = String::new(alloc);
     match World::new(alloc, script)?.run() {
-        Ok(outcome) => {
-            print_report(alloc, &outcome.report, &mut text)?;
-            Ok(told(text, Found::Good))
-        }
+        Ok(outcome) => Ok(told(outcome.text, Found::Good)),
         Err(WorldRefused::Frames) => {
-            add_limit("frames", MAX_DELIVERIES, &mut text)?;
+            let text = limit_line(alloc, "frames", MAX_DELIVERIES)?;
             Ok(told(text, Found::PastFrames))
         }
         Err(WorldRefused::Journal) => {
-            add_limit("journal", MAX_ENTRIES, &mut text)?;
+            let text = limit_line(alloc, "journal", MAX_ENTRIES)?;
             Ok(told(text, Found::PastJournal))
         }
         Err(WorldRefused::Memory) => Err(AllocError),
@@ -57,8 +56,10 @@ fn told(text: String, found: Found) -> Told
     }
 }
 
-fn add_limit(what: &str, limit: u64, text: &mut String) -> Result<(), AllocError>
-    ensures { OnOk result (string_bytes text.new ≡ string_bytes text.old ++ limit_text what.now limit) }
+fn limit_line(alloc: Global, what: &str, limit: u64) -> Result<String, AllocError>
+    ensures { IfOk result (λ text. string_bytes text ≡ limit_text what.now limit) }
 {
-    writeln!(text, "limit {what} {limit}")
+    let mut text = String::new(alloc);
+    writeln!(text, "limit {what} {limit}")?;
+    Ok(text)
 }

@@ -1,5 +1,5 @@
 //! The commands that read a text: it is read to its end, and then what is found in it is written.
-ghost use Rattle.std.specs.Prelude.{◌≡◌, ◌≢◌, ◌≤◌, false, IfOk, string_bytes};
+ghost use Rattle.std.specs.Prelude.{◌≡◌, ◌≢◌, ◌+◌, ◌<◌, ◌≤◌, ◌^◌, false, length, IfOk, string_bytes};
 ghost use Rattle.link_io.specs.Causes.{Rose};
 ghost use Rattle.link_io.specs.Reading.{ConsumesUpTo};
 ghost use Rattle.rpc_schedule.specs.declared.stream.TheConstants.{INPUT_LIMIT};
@@ -78,6 +78,7 @@ fn limit_line(alloc: Global, limit: usize) -> Result<String, AllocError>
 // Writes what is found in the text.
 fn write_told<O: Sink>(alloc: Global, command: TextCommand, text: &[u8], output: &mut O) -> Outcome
     requires open { O.finished output.old ≡ false }
+    requires short { length text.now + 1 < 2 ^ 32 }
     ensures words { result ≢ BadWords }
     ensures link { result ≢ LinkFault }
     ensures source { result ≢ SourceFault }
@@ -94,6 +95,7 @@ fn write_told<O: Sink>(alloc: Global, command: TextCommand, text: &[u8], output:
 }
 
 fn told_of(alloc: Global, command: TextCommand, text: &[u8]) -> Result<Told, AllocError>
+    requires { length text.now + 1 < 2 ^ 32 }
     ensures { IfOk result (λ told. Tells command text.now told.text.items told.found) }
 {
     match command {

@@ -38,6 +38,7 @@ use Rattle.link_world.specs.declared.client.under.Under.{Under}
 use Rattle.link_world.specs.client.ClientSide.{ClientWorks}
 use Rattle.link_world.specs.client.Underway.{call_seen, call_under, task_seen, under_seen}
 use Rattle.link_world.specs.client.Working.{IsKept, Settled, TakesMore}
+use Rattle.link_world.proofs.RoomLemmas.{within_adding}
 
 -- No packet opens a call at a client.
 
@@ -87,6 +88,7 @@ arrived_kept old items events p room kept =
     let opens = arrive_opens set (history set h) p (ap (λ s. s.role) kept.setting) in
     record {
       orderly = steps.orderly;
+      room = within_adding h input_seat (Arrive p) kept.room room;
       setting = kept.setting;
       items = kept.items ∙ sym steps.same_items;
       events = λ c. ap (λ ds. finished_since ds c) (history-push set h e) ∙ (rw opens refl ∙ kept.events c);
@@ -231,6 +233,7 @@ fed_rests now old mid new u1 u2 items events rest packet settled kept = record {
   idle = settled.idle;
   unended = settled.stays.input ∙ (ap (λ s. input_ended (deeds s)) packet.adds ∙ arrive_unended old.table.setting old.table.entries packet.packet rest.unended);
   over = settled.over;
+  room = kept.room;
 }
 
 -- the call under way is there still

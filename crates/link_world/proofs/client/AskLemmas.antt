@@ -49,6 +49,7 @@ use Rattle.link_world.specs.client.Asking.{Begins, ClientAdds, ClientAsks, IsCli
 use Rattle.link_world.specs.declared.client.under.Under.{Under}
 use Rattle.link_world.specs.client.ClientSide.{ClientState, ClientWorks}
 use Rattle.link_world.specs.client.Underway.{task_seen, under_of}
+use Rattle.link_world.proofs.RoomLemmas.{within_adding}
 
 nothing_dropped : {A : Type 0} (n : ℕ) → drop {A = A} n [] ≡ []
 nothing_dropped zero = refl
@@ -113,10 +114,10 @@ grows set h seat kind =
     (omega (arith, length-append (calls (history set h)) (option_to_list (effect_of set (history set h) kind).opens)))
 
 pub adds_one : (old new : EndState) (kind : EntryKind) → KeepsAside old new → new.serving.table.entries ≡ adding old.serving.table.entries run_seat kind → IsOrderly old.serving
-    → ((k : ℕ) → is_start_of k kind ≡ false) → ((k : ℕ) → is_finish_of k kind ≡ false) → ((k : ℕ) → is_replace_of k kind ≡ false)
+    → is_full old.serving.table.entries ≡ false → ((k : ℕ) → is_start_of k kind ≡ false) → ((k : ℕ) → is_finish_of k kind ≡ false) → ((k : ℕ) → is_replace_of k kind ≡ false)
     → is_flush kind ≡ false → takes_room kind ≡ false → is_end_in kind ≡ false
     → ClientAdds old.serving (adding old.serving.table.entries run_seat kind) new.serving
-adds_one old new kind aside adds orderly start finish replace flush room ends =
+adds_one old new kind aside adds orderly free start finish replace flush room ends =
     subst (ClientAdds old.serving (adding old.serving.table.entries run_seat kind)) (sym (entered_is old new run_seat kind aside adds))
     (let set = old.serving.table.setting in
     let h = old.serving.table.entries in
@@ -130,6 +131,7 @@ adds_one old new kind aside adds orderly start finish replace flush room ends =
       calls = grows set h run_seat kind;
       kept = λ items events k. record {
         orderly = enter.orderly;
+        room = within_adding h run_seat kind k.room free;
         setting = k.setting;
         items = k.items ∙ sym enter.items;
         events = λ c. kept_events set h run_seat kind finish replace c ∙ k.events c;

@@ -38,6 +38,8 @@ use Rattle.link_world.proofs.server.RestLemmas.{entered_is, enters}
 use Rattle.link_world.specs.declared.client.under.Under.{Under}
 use Rattle.link_world.specs.client.ClientSide.{ClientMoves, ClientRests, ClientState, ClientWorks}
 use Rattle.link_world.specs.client.Working.{IsKept, Settled}
+use Rattle.link_world.specs.Room.{has_kept_room}
+use Rattle.link_world.proofs.RoomLemmas.{within_kept}
 
 pub moves_by : (before after : ClientState) (old new : Wiring) → after.end.serving.table.setting ≡ before.end.serving.table.setting
     → GoesOut Client before.items old after.items new
@@ -53,7 +55,7 @@ pub rests_by : (s : ClientState) → IsResting s.end.serving → IsKept s.end.se
 rests_by s rest k = record { resting = rest; setting = k.setting; items = k.items; events = k.events }
 
 pub kept_by : (s : ClientState) → ClientRests s → IsKept s.end.serving s.items s.events
-kept_by s rest = record { orderly = rest.resting.orderly; setting = rest.setting; items = rest.items; events = rest.events }
+kept_by s rest = record { orderly = rest.resting.orderly; room = rest.resting.room; setting = rest.setting; items = rest.items; events = rest.events }
 
 -- the client is at rest behind its work
 pub rests_then : (now : ℕ) (old new : Serving) (u1 u2 : Option Under) (items : List Item) (events : List (ℕ × Event)) → old.refused ≡ None → input_ended (deeds old) ≡ false
@@ -64,19 +66,21 @@ rests_then now old new u1 u2 items events accepts unended settled k = record {
   idle = settled.idle;
   unended = settled.stays.input ∙ unended;
   over = settled.over;
+  room = k.room;
 }
 
 -- an entry that opens no call and ends no run: what is kept is as it was
 pub entered_kept : (old : Serving) (items : List Item) (events : List (ℕ × Event)) (seat : ℕ) (kind : EntryKind) → IsKept old items events
     → (effect_of old.table.setting (deeds old) kind).opens ≡ None
     → ((k : ℕ) → is_start_of k kind ≡ false) → ((k : ℕ) → is_finish_of k kind ≡ false) → ((k : ℕ) → is_replace_of k kind ≡ false)
-    → is_flush kind ≡ false → takes_room kind ≡ false → IsKept (with_entry old seat kind) items events
-entered_kept old items events seat kind k opens start finish replace flush room =
+    → is_flush kind ≡ false → takes_room kind ≡ false → has_kept_room kind ≡ true → IsKept (with_entry old seat kind) items events
+entered_kept old items events seat kind k opens start finish replace flush room kept =
     let set = old.table.setting in
     let h = old.table.entries in
     let enter = enters old seat kind k.orderly start finish flush room in
     record {
       orderly = enter.orderly;
+      room = within_kept h seat kind k.room kept;
       setting = k.setting;
       items = k.items ∙ sym enter.items;
       events = λ c. ap (λ ds. finished_since ds c) (history-push set h (entry_by seat kind)) ∙ (rw (opens, replace c, finish c) refl ∙ k.events c);

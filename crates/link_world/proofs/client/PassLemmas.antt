@@ -38,7 +38,9 @@ use Rattle.link_world.proofs.server.RestLemmas.{entered_is, enters, unentered_is
 use Rattle.link_laws.specs.world.Client.{FlushesTo, all_said_in, said_in}
 use Rattle.link_laws.specs.world.Limits.{saying_stops}
 use Rattle.link_world.specs.declared.server.stopped.Stopped.TheVariants.{Journal}
+use Rattle.link_world.specs.Room.{StaysWithin}
 use Rattle.link_world.specs.client.Working.{ClientFlushes, ClientSays, Passes, stop_of}
+use Rattle.link_world.proofs.RoomLemmas.{unfull, within_adding, within_kept}
 
 -- the entry leaves the calls and their events alone
 record IsPassing (kind : EntryKind) (does : Effect) : Type 0 where
@@ -62,7 +64,7 @@ leaves_alone set ds e p = record {
 }
 
 pub passes_none : (s : Serving) → IsOrderly s → Passes s s
-passes_none s orderly = record { stays = stays_itself s; orderly = orderly; calls = refl; took = λ c. refl; waiting = λ c. refl }
+passes_none s orderly = record { stays = stays_itself s; orderly = orderly; calls = refl; took = λ c. refl; waiting = λ c. refl; room = λ all. all }
 
 pub passes_then : (a b c : Serving) → Passes a b → Passes b c → Passes a c
 passes_then a b c first more = record {
@@ -71,6 +73,7 @@ passes_then a b c first more = record {
   calls = more.calls ∙ first.calls;
   took = λ k. more.took k ∙ first.took k;
   waiting = λ k. more.waiting k ∙ first.waiting k;
+  room = λ all. more.room (first.room all);
 }
 
 said_effect : (o : Option Opening) (f : Opening → Item) (c : ℕ) (out : Out) → IsPassing (Say c out) (with_call o (λ opening. says_item (f opening)))
@@ -78,8 +81,8 @@ said_effect None f c out = record { opens = refl; drops = refl; puts = refl; sta
 said_effect (Some o) f c out = record { opens = refl; drops = refl; puts = refl; start = λ k. refl; finish = λ k. refl; replace = λ k. refl }
 
 -- one thing was said
-said_passes : (s : Serving) (c : ℕ) (out : Out) → IsOrderly s → ClientSays s (adding s.table.entries run_seat (Say c out)) (with_entry s run_seat (Say c out))
-said_passes s c out orderly =
+said_passes : (s : Serving) (c : ℕ) (out : Out) → IsOrderly s → is_full s.table.entries ≡ false → ClientSays s (adding s.table.entries run_seat (Say c out)) (with_entry s run_seat (Say c out))
+said_passes s c out orderly free =
     let set = s.table.setting in
     let h = s.table.entries in
     let e = entry_by run_seat (Say c out) in
@@ -99,6 +102,7 @@ said_passes s c out orderly =
         calls = ap calls is ∙ alone.calls;
         took = λ k. ap (λ ds. finished_since ds k) is ∙ alone.took k;
         waiting = λ k. ap (λ ds. waiting_of ds k) is ∙ alone.waiting k;
+        room = λ all. within_adding h run_seat (Say c out) all free;
       };
       same_items = enter.items;
       said = refl;
@@ -106,12 +110,12 @@ said_passes s c out orderly =
 
 -- it was said, unless it was refused
 pub says_or_not : (s new : Serving) (c : ℕ) (out : Out) (refusal : Option SayRefused) → out_refusal s.table.setting (deeds s) c out ≡ refusal → IsOrderly s
-    → new ≡ (if is_none refusal then with_entry s run_seat (Say c out) else s) → ClientSays s (said_in s.table.setting c s.table.entries out) new
-says_or_not s new c out None unrefused orderly same =
+    → is_full s.table.entries ≡ false → new ≡ (if is_none refusal then with_entry s run_seat (Say c out) else s) → ClientSays s (said_in s.table.setting c s.table.entries out) new
+says_or_not s new c out None unrefused orderly free same =
     subst (λ n. ClientSays s (said_in s.table.setting c s.table.entries out) n) (sym same)
     (subst (λ h. ClientSays s h (with_entry s run_seat (Say c out)))
-    (ap (λ r. if is_none r then adding s.table.entries run_seat (Say c out) else s.table.entries) (sym unrefused)) (said_passes s c out orderly))
-says_or_not s new c out (Some why) refused orderly same =
+    (ap (λ r. if is_none r then adding s.table.entries run_seat (Say c out) else s.table.entries) (sym unrefused)) (said_passes s c out orderly free))
+says_or_not s new c out (Some why) refused orderly free same =
     subst (λ n. ClientSays s (said_in s.table.setting c s.table.entries out) n) (sym same)
     (subst (λ h. ClientSays s h s)
     (ap (λ r. if is_none r then adding s.table.entries run_seat (Say c out) else s.table.entries) (sym refused))
@@ -123,6 +127,7 @@ pub say_taken : (old new : EndState) (c : ℕ) (out : Out) → SayDid old.servin
     → ClientSays old.serving (said_in old.serving.table.setting c old.serving.table.entries out) new.serving
 say_taken old new c out did aside orderly =
     says_or_not old.serving new.serving c out None (unrefused (is_full old.serving.table.entries) did.unrefused) orderly
+    (unfull (is_full old.serving.table.entries) JournalFull (out_refusal old.serving.table.setting (deeds old.serving) c out) did.unrefused)
     (entered_is old new run_seat (Say c out) aside did.adds)
   where
     unrefused : (full : Bool) → or_else (refused_where full JournalFull) (out_refusal old.serving.table.setting (deeds old.serving) c out) ≡ None
@@ -144,11 +149,18 @@ say_refused old new c out why goes did aside orderly = at did.cause
         stopped same none = absurd (let n = subst (λ w. stop_of w ≡ None) (sym same) none in cc)
     refused false is = is
 
+    free : (full : Bool) → or_else (refused_where full JournalFull) (out_refusal old.serving.table.setting (deeds old.serving) c out) ≡ Some why → full ≡ false
+    free true is = absurd (stopped (some_same _ _ is) goes)
+      where
+        stopped : JournalFull ≡ why → stop_of why ≡ None → ⊥
+        stopped same none = absurd (let n = subst (λ w. stop_of w ≡ None) (sym same) none in cc)
+    free false is = refl
+
     at : (why ≡ NoMemory) ⊎ (say_refusal old.serving.table.setting old.serving.table.entries c out ≡ Some why)
         → ClientSays old.serving (said_in old.serving.table.setting c old.serving.table.entries out) new.serving
     at (inl memory) = absurd (let n = subst (λ w. stop_of w ≡ None) memory goes in cc)
     at (inr is) =
-        says_or_not old.serving new.serving c out (Some why) (refused (is_full old.serving.table.entries) is) orderly (unentered_is old new aside did.kept)
+        says_or_not old.serving new.serving c out (Some why) (refused (is_full old.serving.table.entries) is) orderly (free (is_full old.serving.table.entries) is) (unentered_is old new aside did.kept)
 
 cut_unfull : (cut : Bool) (status : Status) → refused_where cut (Closed status) ≡ Some JournalFull → ⊥
 cut_unfull true status is = absurd cc
@@ -222,6 +234,7 @@ flush_passes old new item steps gives =
       calls = ap calls is ∙ alone.calls;
       took = λ k. ap (λ ds. finished_since ds k) is ∙ alone.took k;
       waiting = λ k. ap (λ ds. waiting_of ds k) is ∙ alone.waiting k;
+      room = λ all. subst (λ s. StaysWithin s.table.entries) (sym gives.1) (within_kept h flush_seat Flush all refl);
     }
 
 -- flushes so far

@@ -21,13 +21,14 @@ use Rattle.rpc_schedule.proofs.EntryLemmas.{none_ready}
 use Rattle.rpc_schedule.proofs.LoopLemmas.{stays_then}
 use Rattle.link_laws.specs.world.Client.{ClientSettles, FlushesTo, all_said_in, mail_between, mail_of, task_after, task_polled, task_said, transfer_says}
 use Rattle.link_laws.specs.world.Limits.{ClientStops, TaskStops, saying_stops}
-use Rattle.link_laws.specs.world.Setup.{client_setting}
+use Rattle.link_laws.specs.world.Setup.{client_setting, quiet_rule}
 use Rattle.link_laws.specs.world.Turns.{under_with}
 use Rattle.link_laws.specs.world.World.{Tasked}
 use Rattle.link_world.specs.declared.client.under.Under.{Under}
 use Rattle.link_world.specs.client.Speaking.{SayingStops, mail_among, polled_with, said_with}
 use Rattle.link_world.specs.client.Underway.{task_seen, under_seen}
 use Rattle.link_world.specs.client.Working.{ClientFlushes, ClientRuns, ClientRunsFull, ClientSays, IsKept, Settled}
+use Rattle.link_world.proofs.RoomLemmas.{runs_within}
 
 -- a slice from a place on
 pub rest_is : {A : Type 0} (xs : List A) (n : ℕ) → take (length xs - n) (drop n xs) ≡ drop n xs
@@ -153,6 +154,7 @@ module _ (now : ℕ) (old ran : Serving) (before after : List (ℕ × Event)) (r
       → ClientFlushes said new → items ≡ items_flushed (deeds new) → IsKept new items after
   kept_then out items kept more said new entries says flushes are = record {
     orderly = flushes.passes.orderly;
+    room = flushes.passes.room (says.passes.room (runs_within quiet_rule old.table.setting runs.run_count old.table.entries ran.table.entries runs.runs runs.orderly.room kept.room));
     setting = flushes.passes.stays.setting ∙ (says.passes.stays.setting ∙ (runs.stays.setting ∙ kept.setting));
     items = are;
     events = λ c. flushes.passes.took c ∙ (says.passes.took c ∙ (runs.took c ∙ (ap (λ events. events ++ of_call c runs.more) (kept.events c)

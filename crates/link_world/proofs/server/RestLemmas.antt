@@ -25,16 +25,20 @@ use Rattle.rpc_schedule.specs.Settling.{IsOrderly, SettlesAll}
 use Rattle.rpc_schedule.proofs.EntryLemmas.{arrivals-push, room-push}
 use Rattle.rpc_schedule.proofs.ScheduleLemmas.{over_stays}
 use Rattle.link_laws.specs.world.Turns.{ServerTakes}
+use Rattle.link_world.specs.Room.{StaysWithin}
 use Rattle.link_world.specs.server.Resting.{IsResting, TakesMore}
+use Rattle.link_world.proofs.RoomLemmas.{settled_within, within_adding}
 
 -- a settled server is at rest, where nothing was refused and the input goes on
-pub resting_after : (rule : HandlerRule) (mid new : Serving) → SettlesAll rule mid new → mid.refused ≡ None → input_ended (deeds mid) ≡ false → IsResting new
-resting_after rule mid new settles accepts unended = record {
+pub resting_after : (rule : HandlerRule) (mid new : Serving) → SettlesAll rule mid new → mid.refused ≡ None → input_ended (deeds mid) ≡ false
+    → StaysWithin mid.table.entries → IsResting new
+resting_after rule mid new settles accepts unended room = record {
   orderly = settles.orderly;
   accepts = settles.stays.refused ∙ accepts;
   idle = settles.idle;
   unended = settles.stays.input ∙ unended;
   over = subst (λ set. IsOver set new.table.entries) (sym settles.stays.setting) settles.settles.over;
+  room = settled_within rule mid new settles room;
 }
 
 arrive_unended : (set : Setting) (h : List Entry) (p : Packet) → input_ended (history set h) ≡ false → input_ended (history set (adding h input_seat (Arrive p))) ≡ false
@@ -42,11 +46,11 @@ arrive_unended set h p unended = ap input_ended (history-push set h (entry_by in
 
 pub resting_fed : (rule : HandlerRule) (old mid new : Serving) (n : ℕ) → IsResting old → Feeds old (Ok n) mid → SettlesAll rule mid new → IsResting new
 resting_fed rule old mid new n rest (accepts, inl same) settles =
-    resting_after rule old new (subst (λ s. SettlesAll rule s new) same settles) rest.accepts rest.unended
+    resting_after rule old new (subst (λ s. SettlesAll rule s new) same settles) rest.accepts rest.unended rest.room
 resting_fed rule old mid new n rest (accepts, inr takes) settles =
     let after = with_entry old input_seat (Arrive takes.packet) in
     resting_after rule after new (subst (λ s. SettlesAll rule s new) takes.adds settles) rest.accepts
-    (arrive_unended old.table.setting old.table.entries takes.packet rest.unended)
+    (arrive_unended old.table.setting old.table.entries takes.packet rest.unended) (within_adding old.table.entries input_seat (Arrive takes.packet) rest.room takes.room)
 
 -- one packet more
 pub takes_then : (rule : HandlerRule) (set : Setting) (packets : List Packet) (p : Packet) (a b c : List Entry) → ServerTakes rule set packets a b

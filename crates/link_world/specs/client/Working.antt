@@ -25,10 +25,12 @@ use Rattle.link_world.specs.declared.server.stopped.Stopped.TheVariants.{Journal
 use Rattle.link_world.specs.declared.client.under.Under.{Under}
 use Rattle.link_world.specs.client.ClientSide.{ClientWorks, HasEvents}
 use Rattle.link_world.specs.client.Underway.{task_seen, under_seen}
+use Rattle.link_world.specs.Room.{StaysWithin}
 
--- nothing runs, and what was kept of the history is what it tells
+-- nothing runs, each entry had room, and what was kept of the history is what it tells
 pub record IsKept (s : Serving) (out : List Item) (taken : List (ℕ × Event)) : Type 0 where
   pub orderly : IsOrderly s
+  pub room : StaysWithin s.table.entries
   pub setting : s.table.setting ≡ client_setting
   pub items : out ≡ items_flushed (deeds s)
   pub events : HasEvents s taken
@@ -53,13 +55,14 @@ pub record ClientRunsFull (old new : Serving) : Type 0 where
   pub runs : RunsTo quiet_rule old.table.setting run_count old.table.entries new.table.entries
   pub stops : HasNoRoom old.table.setting new.table.entries
 
--- entries were added that open no call, and neither put nor take an event
+-- entries were added that had room, open no call, and neither put nor take an event
 pub record Passes (old new : Serving) : Type 0 where
   pub stays : Stays old new
   pub orderly : IsOrderly new
   pub calls : calls (deeds new) ≡ calls (deeds old)
   pub took : (c : ℕ) → finished_since (deeds new) c ≡ finished_since (deeds old) c
   pub waiting : (c : ℕ) → waiting_of (deeds new) c ≡ waiting_of (deeds old) c
+  pub room : StaysWithin old.table.entries → StaysWithin new.table.entries
 
 -- such entries were added, and these stand there then; nothing went out
 pub record ClientSays (old : Serving) (entries : List Entry) (new : Serving) : Type 0 where

@@ -8,14 +8,16 @@ use Rattle.rpc_schedule.specs.Serving.{Serving, deeds, is_idle}
 use Rattle.rpc_schedule.specs.Settling.{IsOrderly}
 use Rattle.link_laws.specs.world.Limits.{ServerTakingStops}
 use Rattle.link_laws.specs.world.Turns.{ServerTakes}
+use Rattle.link_world.specs.Room.{StaysWithin}
 
--- nothing is left to do, nothing was refused, and more may come
+-- nothing is left to do, nothing was refused, more may come, and each entry had room
 pub record IsResting (s : Serving) : Type 0 where
   pub orderly : IsOrderly s
   pub accepts : s.refused ≡ None
   pub idle : is_idle s ≡ true
   pub unended : input_ended (deeds s) ≡ false
   pub over : IsOver s.table.setting s.table.entries
+  pub room : StaysWithin s.table.entries
 
 -- so many packets arrived, and each was settled before the next one
 pub record TakesMore (rule : HandlerRule) (old new : Serving) : Type 0 where

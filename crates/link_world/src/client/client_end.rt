@@ -9,10 +9,12 @@ ghost use Rattle.rpc_journal.specs.Lawful.{IsLegal};
 ghost use Rattle.rpc_schedule.specs.Schedule.{input_seat, run_seat};
 ghost use Rattle.rpc_schedule.specs.Serving.{deeds};
 ghost use Rattle.rpc_schedule.specs.ends.EndState.{WasFed};
+ghost use Rattle.link_laws.specs.transfers_fit.Fits.{AreSmall};
 ghost use Rattle.link_laws.specs.world.Client.{ClientSettles};
 ghost use Rattle.link_laws.specs.world.Limits.{AskingStops, ClientStops};
 ghost use Rattle.link_laws.specs.world.Setup.{client_setting, quiet_rule};
 ghost use Rattle.link_laws.specs.world.World.{Setup, World};
+ghost use Rattle.link_world.specs.Room.{StaysWithin};
 ghost use Rattle.link_world.specs.client.Asking.{ClientAsks, IsAsked, IsClientOf};
 ghost use Rattle.link_world.specs.client.ClientSide.{Attends, ClientHears, ClientMoves, ClientRests, ClientStopsHearing, ClientWorks};
 ghost use Rattle.link_world.specs.client.Working.{IsKept, Settled};
@@ -22,9 +24,8 @@ use crate::client::quiet::Quiet;
 use crate::client::starting::begin;
 use crate::client::under::Under;
 use crate::client::working::{feed_all, settle};
-use crate::server::{Stopped, Wires, world_channels};
+use crate::server::{Stopped, Wires, WorldStore, world_channels};
 use demo_services::demo_registry;
-use link_io::MemStore;
 use link_script::Command;
 use rpc_client::Client;
 use rpc_handlers::Event;
@@ -38,7 +39,7 @@ use transfer_base::Tuning;
 pub struct ClientEnd {
     pub(crate) alloc: Global,
     pub(crate) client: Client<Quiet>,
-    pub(crate) store: MemStore,
+    pub(crate) store: WorldStore,
     pub(crate) items: Vec<Item>,
     pub(crate) events: Vec<(u32, Event)>,
 }
@@ -48,14 +49,14 @@ impl Model for ClientEnd {
 
     ghost Value = { ClientState };
 
-    ghost view = { λ s. record { end = s.client; stored = s.store.stored; items = s.items.items; events = s.events.items } };
+    ghost view = { λ s. record { end = s.client; stored = s.store; items = s.items.items; events = s.events.items } };
 }
 
 impl ClientEnd {
     /// A client without a call.
-    pub fn new(alloc: Global, store: MemStore) -> Result<ClientEnd, AllocError>
+    pub fn new(alloc: Global, store: WorldStore) -> Result<ClientEnd, AllocError>
         ensures rest { IfOk result ClientRests }
-        ensures begins { IfOk result (λ s. (s.end.serving.table.entries ≡ []) × (s.stored ≡ store.stored) × (s.items ≡ [])) }
+        ensures begins { IfOk result (λ s. (s.end.serving.table.entries ≡ []) × (s.stored ≡ store) × (s.items ≡ [])) }
         ensures unfed { IfOk result (λ s. WasFed client_role s.end []) }
     {
         let client = Client::new(alloc, world_channels(alloc)?, demo_registry(alloc)?)?;
@@ -69,10 +70,10 @@ impl ClientEnd {
     }
 
     /// The journal and the store.
-    pub fn into_parts(self) -> (Journal, MemStore)
+    pub fn into_parts(self) -> (Journal, WorldStore)
         ensures journal { result.0.entries ≡ self.end.serving.table.entries }
         ensures legal { IsLegal quiet_rule self.end.serving.table.setting self.end.serving.table.entries }
-        ensures store { result.1.stored ≡ self.stored }
+        ensures store { result.1 ≡ self.stored }
     {
         let ClientEnd {
             alloc: _,
@@ -145,6 +146,7 @@ impl ClientEnd {
         requires rest { ClientRests self.old }
         requires asked { IsAsked command.now }
         requires room { sessions.old + 1 < 2 ^ 32 }
+        requires small { AreSmall self.old.stored.full }
         ensures rest { OnOk result (ClientRests self.new) }
         ensures attends { IfOk result (λ way. Attends self.new (Some way) now) }
         ensures asks { IfOk result (λ way. (k : Setup) (w : World) → IsClientOf k w self.old sessions.old tuning now → ClientAsks k w command.now self.new.end.serving.table.entries way sessions.new) }
@@ -198,6 +200,7 @@ impl ClientEnd {
         requires rest { ClientRests self.old }
         ensures settles { OnOk result (ClientSettles client_setting now (adding self.old.end.serving.table.entries input_seat EndIn) None self.new.end.serving.table.entries None) }
         ensures items { OnOk result (self.new.items ≡ items_flushed (deeds self.new.end.serving)) }
+        ensures room { OnOk result (StaysWithin self.new.end.serving.table.entries) }
         ensures moves { OnOk result (ClientMoves self.old wires.old self.new wires.new) }
         ensures full { IfErr result (λ why. why ≡ Stopped.Journal → ClientStops client_setting now (adding self.old.end.serving.table.entries input_seat EndIn) None) }
     {

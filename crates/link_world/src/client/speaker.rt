@@ -11,7 +11,7 @@ use rpc_handlers::{Event, Out};
 use rpc_ids::Status;
 use std::alloc::{AllocError, Global};
 use std::marker::Model;
-use task_core::Dispatcher;
+use task_core::{Dispatcher, TaskRefused};
 
 /// A transfer under way: the task that speaks in a session, through a call of the client.
 #[derive(Drop)]
@@ -69,8 +69,8 @@ impl Speaker {
                 tasks,
                 key,
             }),
-            // There is room for many tasks, so memory alone can be wanting.
-            Err(_) => Err(AllocError),
+            Err((_, TaskRefused::Memory)) => Err(AllocError),
+            Err((_, TaskRefused::Full)) => unreachable!(),
         }
     }
 

@@ -8,6 +8,7 @@ ghost use Rattle.rpc_schedule.specs.Serving.{deeds};
 ghost use Rattle.rpc_schedule.specs.Settling.{IsOrderly};
 ghost use Rattle.rpc_schedule.specs.ends.EndState.{WasFed};
 ghost use Rattle.transfer_base.specs.declared.limits.TheConstants.{MAX_RESOURCE};
+ghost use Rattle.link_laws.specs.transfers_fit.Fits.{AreSmall};
 ghost use Rattle.link_laws.specs.world.Limits.{adding_stops};
 ghost use Rattle.link_laws.specs.world.Setup.{client_setting};
 ghost use Rattle.link_laws.specs.world.Starts.{starts};
@@ -20,21 +21,20 @@ use crate::client::quiet::Quiet;
 use crate::client::speaker::Speaker;
 use crate::client::transfer_task::Way;
 use crate::client::under::{Plain, Under};
-use crate::server::Stopped;
+use crate::server::{Stopped, WorldStore};
 use bytes::Bytes;
 use demo_services::ids;
-use link_io::MemStore;
 use link_script::Command;
 use rpc_client::Client;
 use std::alloc::Global;
-use transfer_base::{MAX_RESOURCE, Tuning};
+use transfer_base::Tuning;
 use transfer_client::{ReadTask, WriteTask};
 
 /// The client's owner adds what a command starts with. Answers what is under way then.
 pub(crate) fn begin(
     alloc: Global,
     client: &mut Client<Quiet>,
-    store: &MemStore,
+    store: &WorldStore,
     command: &Command,
     sessions: &mut u32,
     tuning: Tuning,
@@ -43,11 +43,12 @@ pub(crate) fn begin(
     requires orderly { IsOrderly client.old.serving }
     requires asked { IsAsked command.now }
     requires room { sessions.old + 1 < 2 ^ 32 }
-    ensures begins { IfOk result (λ way. (k : Setup) (w : World) (at : ℕ) → IsClientOf k w (record { end = client.old; stored = store.now.stored; items = []; events = [] }) sessions.old tuning at → Begins k w (command.now) client.new.serving.table.entries way sessions.new) }
+    requires small { AreSmall store.now.full }
+    ensures begins { IfOk result (λ way. (k : Setup) (w : World) (at : ℕ) → IsClientOf k w (record { end = client.old; stored = store.now; items = []; events = [] }) sessions.old tuning at → Begins k w (command.now) client.new.serving.table.entries way sessions.new) }
     ensures adds { OnOk result (ClientAdds client.old.serving client.new.serving.table.entries client.new.serving) }
     ensures there { IfOk result (λ way. IfSome (call_seen (Some way)) (λ c. c < call_count (deeds client.new.serving))) }
     ensures unpolled { IfOk result (λ way. last_poll (Some way) ≡ 0) }
-    ensures full { IfErr result (λ why. why ≡ Stopped.Journal → (k : Setup) (w : World) (at : ℕ) → IsClientOf k w (record { end = client.old; stored = store.now.stored; items = []; events = [] }) sessions.old tuning at → adding_stops (starts k w (command.now)).adds w.client ≡ true) }
+    ensures full { IfErr result (λ why. why ≡ Stopped.Journal → (k : Setup) (w : World) (at : ℕ) → IsClientOf k w (record { end = client.old; stored = store.now; items = []; events = [] }) sessions.old tuning at → adding_stops (starts k w (command.now)).adds w.client ≡ true) }
     ensures fed { OnOk result ((bytes : List ℕ) → WasFed client_role client.old bytes → WasFed client_role client.new bytes) }
 {
     match command {
@@ -92,7 +93,7 @@ pub(crate) fn begin(
 fn begin_read(
     alloc: Global,
     client: &mut Client<Quiet>,
-    store: &MemStore,
+    store: &WorldStore,
     resource: u32,
     offset: u64,
     sessions: &mut u32,
@@ -102,11 +103,11 @@ fn begin_read(
     requires orderly { IsOrderly client.old.serving }
     requires offset { offset ≤ MAX_RESOURCE }
     requires room { sessions.old + 1 < 2 ^ 32 }
-    ensures begins { IfOk result (λ way. (k : Setup) (w : World) (at : ℕ) → IsClientOf k w (record { end = client.old; stored = store.now.stored; items = []; events = [] }) sessions.old tuning at → Begins k w (Read resource offset) client.new.serving.table.entries way sessions.new) }
+    ensures begins { IfOk result (λ way. (k : Setup) (w : World) (at : ℕ) → IsClientOf k w (record { end = client.old; stored = store.now; items = []; events = [] }) sessions.old tuning at → Begins k w (Read resource offset) client.new.serving.table.entries way sessions.new) }
     ensures adds { OnOk result (ClientAdds client.old.serving client.new.serving.table.entries client.new.serving) }
     ensures there { IfOk result (λ way. IfSome (call_seen (Some way)) (λ c. c < call_count (deeds client.new.serving))) }
     ensures unpolled { IfOk result (λ way. last_poll (Some way) ≡ 0) }
-    ensures full { IfErr result (λ why. why ≡ Stopped.Journal → (k : Setup) (w : World) (at : ℕ) → IsClientOf k w (record { end = client.old; stored = store.now.stored; items = []; events = [] }) sessions.old tuning at → adding_stops (starts k w (Read resource offset)).adds w.client ≡ true) }
+    ensures full { IfErr result (λ why. why ≡ Stopped.Journal → (k : Setup) (w : World) (at : ℕ) → IsClientOf k w (record { end = client.old; stored = store.now; items = []; events = [] }) sessions.old tuning at → adding_stops (starts k w (Read resource offset)).adds w.client ≡ true) }
     ensures fed { OnOk result ((bytes : List ℕ) → WasFed client_role client.old bytes → WasFed client_role client.new bytes) }
 {
     let session = *sessions + 1;
@@ -126,7 +127,7 @@ fn begin_read(
 fn begin_write(
     alloc: Global,
     client: &mut Client<Quiet>,
-    store: &MemStore,
+    store: &WorldStore,
     resource: u32,
     offset: u64,
     sessions: &mut u32,
@@ -135,21 +136,18 @@ fn begin_write(
     requires setting { client.old.serving.table.setting ≡ client_setting }
     requires orderly { IsOrderly client.old.serving }
     requires room { sessions.old + 1 < 2 ^ 32 }
-    ensures begins { IfOk result (λ way. (k : Setup) (w : World) (at : ℕ) → IsClientOf k w (record { end = client.old; stored = store.now.stored; items = []; events = [] }) sessions.old tuning at → Begins k w (Write resource offset) client.new.serving.table.entries way sessions.new) }
+    requires small { AreSmall store.now.full }
+    ensures begins { IfOk result (λ way. (k : Setup) (w : World) (at : ℕ) → IsClientOf k w (record { end = client.old; stored = store.now; items = []; events = [] }) sessions.old tuning at → Begins k w (Write resource offset) client.new.serving.table.entries way sessions.new) }
     ensures adds { OnOk result (ClientAdds client.old.serving client.new.serving.table.entries client.new.serving) }
     ensures there { IfOk result (λ way. IfSome (call_seen (Some way)) (λ c. c < call_count (deeds client.new.serving))) }
     ensures unpolled { IfOk result (λ way. last_poll (Some way) ≡ 0) }
-    ensures full { IfErr result (λ why. why ≡ Stopped.Journal → (k : Setup) (w : World) (at : ℕ) → IsClientOf k w (record { end = client.old; stored = store.now.stored; items = []; events = [] }) sessions.old tuning at → adding_stops (starts k w (Write resource offset)).adds w.client ≡ true) }
+    ensures full { IfErr result (λ why. why ≡ Stopped.Journal → (k : Setup) (w : World) (at : ℕ) → IsClientOf k w (record { end = client.old; stored = store.now; items = []; events = [] }) sessions.old tuning at → adding_stops (starts k w (Write resource offset)).adds w.client ≡ true) }
     ensures fed { OnOk result ((bytes : List ℕ) → WasFed client_role client.old bytes → WasFed client_role client.new bytes) }
 {
     let Some(bytes) = store.full(resource) else {
         return Ok(Under::Lacking(resource));
     };
     let length = bytes.len() as u64;
-    // No transfer makes a longer one.
-    if length > MAX_RESOURCE {
-        return Err(Stopped::Memory);
-    }
     let session = *sessions + 1;
     let task = WriteTask::new(alloc, session, resource, bytes.clone()?, offset.min(length));
     let call = match transfer_call(alloc, client, ids::WRITE) {
@@ -162,8 +160,8 @@ fn begin_write(
 }
 
 // How much is left of a resource, in bytes.
-fn left_length(store: &MemStore, resource: u32) -> u64
-    ensures { result ≡ length (unwrap_or (found resource store.now.stored.left) []) }
+fn left_length(store: &WorldStore, resource: u32) -> u64
+    ensures { result ≡ length (unwrap_or (found resource store.now.left) []) }
 {
     match store.left(resource) {
         Some(bytes) => bytes.len() as u64,

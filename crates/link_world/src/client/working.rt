@@ -23,8 +23,7 @@ ghost use Rattle.link_world.specs.client.Working.{ClientFlushes, ClientRuns, Cli
 
 use crate::client::quiet::Quiet;
 use crate::client::under::Under;
-use crate::server::{Stopped, Wires, take_out};
-use link_io::Store;
+use crate::server::{Stopped, Wires, WorldStore, take_out};
 use rpc_calls::SayRefused;
 use rpc_client::{Client, work_until_idle};
 use rpc_handlers::{Event, MAX_PAYLOAD, Out};
@@ -33,10 +32,10 @@ use rpc_journal::{Item, StartRefused};
 use std::alloc::AllocError;
 
 /// Feeds a frame, and does the client's work after each packet that is heard in it.
-pub(crate) fn feed_all<S: Store>(
+pub(crate) fn feed_all(
     client: &mut Client<Quiet>,
     frame: &[u8],
-    store: &mut S,
+    store: &mut WorldStore,
     items: &mut Vec<Item>,
     events: &mut Vec<(u32, Event)>,
     under: &mut Option<Under>,
@@ -53,7 +52,7 @@ pub(crate) fn feed_all<S: Store>(
     ensures there { OnOk result (IfSome (call_seen under.new) (λ c. c < call_count (deeds client.new.serving))) }
     ensures past { OnOk result (last_poll under.new ≤ now) }
     ensures out { OnOk result (GoesOut client_role items.old.items wires.old items.new.items wires.new) }
-    ensures holds { OnOk result ((st : Option Stored) → Holds items.old.items st (S.holds store.old) → Holds items.new.items st (S.holds store.new)) }
+    ensures holds { OnOk result ((st : Option Stored) → Holds items.old.items st (Some store.old) → Holds items.new.items st (Some store.new)) }
     ensures fed { OnOk result ((bytes : List ℕ) → WasFed client_role client.old bytes → WasFed client_role client.new (bytes ++ frame.now)) }
     ensures full { IfErr result (λ why. why ≡ Stopped.Journal → (bytes : List ℕ) → WasFed client_role client.old bytes → ClientStopsHearing now client.old.serving under.old bytes frame.now) }
 {
@@ -69,9 +68,9 @@ pub(crate) fn feed_all<S: Store>(
 }
 
 /// Does the client's work once: its calls run, the task that speaks is polled, and all goes out.
-pub(crate) fn settle<S: Store>(
+pub(crate) fn settle(
     client: &mut Client<Quiet>,
-    store: &mut S,
+    store: &mut WorldStore,
     items: &mut Vec<Item>,
     events: &mut Vec<(u32, Event)>,
     under: &mut Option<Under>,
@@ -85,7 +84,7 @@ pub(crate) fn settle<S: Store>(
     ensures kept { OnOk result (IsKept client.new.serving items.new.items events.new.items) }
     ensures past { OnOk result (last_poll under.new ≤ now) }
     ensures out { OnOk result (GoesOut client_role items.old.items wires.old items.new.items wires.new) }
-    ensures holds { OnOk result ((st : Option Stored) → Holds items.old.items st (S.holds store.old) → Holds items.new.items st (S.holds store.new)) }
+    ensures holds { OnOk result ((st : Option Stored) → Holds items.old.items st (Some store.old) → Holds items.new.items st (Some store.new)) }
     ensures full { IfErr result (λ why. why ≡ Stopped.Journal → ClientStops client_setting now client.old.serving.table.entries (task_seen under.old)) }
     ensures fed { (bytes : List ℕ) → WasFed client_role client.old bytes → WasFed client_role client.new bytes }
 {
@@ -213,9 +212,9 @@ fn is_long(out: &Out) -> bool
 }
 
 // Flushes each item that waits.
-fn flush_all<S: Store>(
+fn flush_all(
     client: &mut Client<Quiet>,
-    store: &mut S,
+    store: &mut WorldStore,
     items: &mut Vec<Item>,
     wires: &mut Wires,
 ) -> Result<(), AllocError>
@@ -224,7 +223,7 @@ fn flush_all<S: Store>(
     ensures flushes { OnOk result (ClientFlushes client.old.serving client.new.serving) }
     ensures items { OnOk result (items.new.items ≡ items_flushed (deeds client.new.serving)) }
     ensures out { OnOk result (GoesOut client_role items.old.items wires.old items.new.items wires.new) }
-    ensures holds { OnOk result ((st : Option Stored) → Holds items.old.items st (S.holds store.old) → Holds items.new.items st (S.holds store.new)) }
+    ensures holds { OnOk result ((st : Option Stored) → Holds items.old.items st (Some store.old) → Holds items.new.items st (Some store.new)) }
     ensures fed { (bytes : List ℕ) → WasFed client_role client.old bytes → WasFed client_role client.new bytes }
 {
     'items: while let Some(item) = client.next_out() {

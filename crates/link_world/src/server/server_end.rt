@@ -17,6 +17,7 @@ ghost use Rattle.rpc_schedule.specs.Schedule.{Settles, flush_seat, input_seat};
 ghost use Rattle.rpc_schedule.specs.Serving.{deeds};
 ghost use Rattle.rpc_schedule.specs.ends.EndState.{WasFed};
 ghost use Rattle.link_laws.specs.world.Starts.{ended_by_close};
+ghost use Rattle.link_world.specs.Room.{StaysWithin};
 ghost use Rattle.link_world.specs.server.ServerSide.{ServerHears, ServerMoves, ServerRests, ServerStopsHearing};
 
 use crate::server::channels::world_channels;
@@ -25,8 +26,8 @@ use crate::server::serving::{feed_all, settle};
 use crate::server::stopped::Stopped;
 use crate::server::stores::shelf_of;
 use crate::server::wires::Wires;
+use crate::server::world_store::WorldStore;
 use demo_services::{DemoMaker, demo_registry};
-use link_io::MemStore;
 use rpc_calls::CloseRefused;
 use rpc_journal::{Item, Journal};
 use rpc_packet::CallName;
@@ -39,7 +40,7 @@ use transfer_base::Tuning;
 #[derive(Drop)]
 pub struct ServerEnd {
     server: Server<DemoMaker>,
-    store: MemStore,
+    store: WorldStore,
     items: Vec<Item>,
 }
 
@@ -48,15 +49,15 @@ impl Model for ServerEnd {
 
     ghost Value = { ServerState };
 
-    ghost view = { λ s. record { end = s.server; stored = s.store.stored; items = s.items.items } };
+    ghost view = { λ s. record { end = s.server; stored = s.store; items = s.items.items } };
 }
 
 impl ServerEnd {
     /// A server without a call, whose transfers are of what the store lists now.
-    pub fn new(alloc: Global, mut store: MemStore, tuning: Tuning) -> Result<ServerEnd, AllocError>
-        ensures setting { IfOk result (λ s. s.end.serving.table.setting ≡ server_setting store.stored tuning.window tuning.chunk) }
+    pub fn new(alloc: Global, mut store: WorldStore, tuning: Tuning) -> Result<ServerEnd, AllocError>
+        ensures setting { IfOk result (λ s. s.end.serving.table.setting ≡ server_setting store tuning.window tuning.chunk) }
         ensures rest { IfOk result ServerRests }
-        ensures begins { IfOk result (λ s. (s.end.serving.table.entries ≡ []) × (s.stored ≡ store.stored) × (s.items ≡ [])) }
+        ensures begins { IfOk result (λ s. (s.end.serving.table.entries ≡ []) × (s.stored ≡ store) × (s.items ≡ [])) }
         ensures unfed { IfOk result (λ s. WasFed server_role s.end []) }
     {
         let shelf = shelf_of(&mut store)?;
@@ -70,10 +71,10 @@ impl ServerEnd {
     }
 
     /// The journal and the store.
-    pub fn into_parts(self) -> (Journal, MemStore)
+    pub fn into_parts(self) -> (Journal, WorldStore)
         ensures journal { result.0.entries ≡ self.end.serving.table.entries }
         ensures legal { IsLegal demo_rule self.end.serving.table.setting self.end.serving.table.entries }
-        ensures store { result.1.stored ≡ self.stored }
+        ensures store { result.1 ≡ self.stored }
     {
         let ServerEnd {
             server,
@@ -161,6 +162,7 @@ impl ServerEnd {
         requires { ServerRests self.old }
         ensures settles { OnOk result (Settles demo_rule self.old.end.serving.table.setting (adding self.old.end.serving.table.entries input_seat EndIn) self.new.end.serving.table.entries) }
         ensures items { OnOk result (self.new.items ≡ items_flushed (deeds self.new.end.serving)) }
+        ensures room { OnOk result (StaysWithin self.new.end.serving.table.entries) }
         ensures moves { OnOk result (ServerMoves self.old wires.old self.new wires.new) }
         ensures full { IfErr result (λ why. why ≡ Stopped.Journal → ServerStops demo_rule self.old.end.serving.table.setting (adding self.old.end.serving.table.entries input_seat EndIn)) }
     {

@@ -1,5 +1,5 @@
 //! What a server does with what comes to it, until nothing is left to do.
-ghost use Rattle.std.specs.Prelude.{◌≡◌, ℕ, ◌∷◌, [], ◌++◌, List, IfErr, OnOk, Option};
+ghost use Rattle.std.specs.Prelude.{◌≡◌, ℕ, ◌∷◌, [], ◌++◌, List, IfErr, OnOk, Option, Some};
 ghost use Rattle.link_io.specs.Stored.{Stored};
 ghost use Rattle.rpc_ids.specs.declared.method.Role.TheVariants.{Server as server_role};
 ghost use Rattle.rpc_journal.specs.Items.{items_flushed, packet_of};
@@ -11,17 +11,18 @@ ghost use Rattle.link_world.specs.server.Wiring.{GoesOut, with_all_sent};
 
 use crate::server::stopped::Stopped;
 use crate::server::wires::Wires;
-use link_io::{Store, StoreRefused};
+use crate::server::world_store::WorldStore;
+use link_io::StoreRefused;
 use rpc_ids::Role;
 use rpc_journal::{Item, StartRefused};
 use rpc_schedule::{Serves, make_action};
 use std::alloc::AllocError;
 
 /// Feeds a frame, and settles after each packet that is heard in it.
-pub(crate) fn feed_all<T: Serves, S: Store>(
+pub(crate) fn feed_all<T: Serves>(
     server: &mut T,
     frame: &[u8],
-    store: &mut S,
+    store: &mut WorldStore,
     items: &mut Vec<Item>,
     wires: &mut Wires,
 ) -> Result<(), Stopped>
@@ -31,7 +32,7 @@ pub(crate) fn feed_all<T: Serves, S: Store>(
     ensures takes { OnOk result (TakesMore T.rule (T.seen server.old) (T.seen server.new)) }
     ensures items { OnOk result (items.new.items ≡ items_flushed (deeds (T.seen server.new))) }
     ensures out { OnOk result (GoesOut server_role items.old.items wires.old items.new.items wires.new) }
-    ensures holds { OnOk result ((st : Option Stored) → Holds items.old.items st (S.holds store.old) → Holds items.new.items st (S.holds store.new)) }
+    ensures holds { OnOk result ((st : Option Stored) → Holds items.old.items st (Some store.old) → Holds items.new.items st (Some store.new)) }
     ensures fed { OnOk result ((s : List ℕ) → T.stands server.old s → T.stands server.new (s ++ frame.now)) }
     ensures full { IfErr result (λ why. why ≡ Stopped.Journal → (s : List ℕ) → T.stands server.old s → StopsWithin T.rule T.heard (T.seen server.old) s frame.now) }
 {
@@ -45,9 +46,9 @@ pub(crate) fn feed_all<T: Serves, S: Store>(
 }
 
 /// Runs the calls that are ready and flushes the items that wait, until nothing is left to do.
-pub(crate) fn settle<T: Serves, S: Store>(
+pub(crate) fn settle<T: Serves>(
     server: &mut T,
-    store: &mut S,
+    store: &mut WorldStore,
     items: &mut Vec<Item>,
     wires: &mut Wires,
 ) -> Result<(), Stopped>
@@ -56,7 +57,7 @@ pub(crate) fn settle<T: Serves, S: Store>(
     ensures ok { OnOk result (SettlesAll T.rule (T.seen server.old) (T.seen server.new)) }
     ensures items { OnOk result (items.new.items ≡ items_flushed (deeds (T.seen server.new))) }
     ensures out { OnOk result (GoesOut server_role items.old.items wires.old items.new.items wires.new) }
-    ensures holds { OnOk result ((st : Option Stored) → Holds items.old.items st (S.holds store.old) → Holds items.new.items st (S.holds store.new)) }
+    ensures holds { OnOk result ((st : Option Stored) → Holds items.old.items st (Some store.old) → Holds items.new.items st (Some store.new)) }
     ensures full { IfErr result (λ why. why ≡ Stopped.Journal → StopsFull T.rule (T.seen server.old) (T.seen server.new)) }
     ensures fed { OnOk result ((s : List ℕ) → T.stands server.old s → T.stands server.new s) }
 {
@@ -74,9 +75,9 @@ pub(crate) fn settle<T: Serves, S: Store>(
 }
 
 // Runs calls until none is ready, and then flushes each item that waits.
-fn run_and_flush<T: Serves, S: Store>(
+fn run_and_flush<T: Serves>(
     server: &mut T,
-    store: &mut S,
+    store: &mut WorldStore,
     items: &mut Vec<Item>,
     wires: &mut Wires,
 ) -> Result<(), Stopped>
@@ -86,7 +87,7 @@ fn run_and_flush<T: Serves, S: Store>(
     ensures grows { OnOk result (Grows (T.seen server.old) (T.seen server.new)) }
     ensures items { OnOk result (items.new.items ≡ items_flushed (deeds (T.seen server.new))) }
     ensures out { OnOk result (GoesOut server_role items.old.items wires.old items.new.items wires.new) }
-    ensures holds { OnOk result ((st : Option Stored) → Holds items.old.items st (S.holds store.old) → Holds items.new.items st (S.holds store.new)) }
+    ensures holds { OnOk result ((st : Option Stored) → Holds items.old.items st (Some store.old) → Holds items.new.items st (Some store.new)) }
     ensures full { IfErr result (λ why. why ≡ Stopped.Journal → StopsFull T.rule (T.seen server.old) (T.seen server.new)) }
     ensures fed { OnOk result ((s : List ℕ) → T.stands server.old s → T.stands server.new s) }
 {
@@ -115,9 +116,9 @@ fn run_all<T: Serves>(server: &mut T) -> Result<(), StartRefused>
 }
 
 // Flushes each item that waits.
-fn flush_all<T: Serves, S: Store>(
+fn flush_all<T: Serves>(
     server: &mut T,
-    store: &mut S,
+    store: &mut WorldStore,
     items: &mut Vec<Item>,
     wires: &mut Wires,
 ) -> Result<(), AllocError>
@@ -126,7 +127,7 @@ fn flush_all<T: Serves, S: Store>(
     ensures ok { OnOk result (FlushesAll T.rule (T.seen server.old) (T.seen server.new)) }
     ensures items { OnOk result (items.new.items ≡ items_flushed (deeds (T.seen server.new))) }
     ensures out { OnOk result (GoesOut server_role items.old.items wires.old items.new.items wires.new) }
-    ensures holds { OnOk result ((st : Option Stored) → Holds items.old.items st (S.holds store.old) → Holds items.new.items st (S.holds store.new)) }
+    ensures holds { OnOk result ((st : Option Stored) → Holds items.old.items st (Some store.old) → Holds items.new.items st (Some store.new)) }
     ensures fed { OnOk result ((s : List ℕ) → T.stands server.old s → T.stands server.new s) }
 {
     'items: while let Some(item) = server.next_out() {
@@ -136,21 +137,21 @@ fn flush_all<T: Serves, S: Store>(
 }
 
 /// An item goes out of the end of this role: a store action is made, and a packet is sent.
-pub fn take_out<S: Store>(
+pub fn take_out(
     sender: Role,
     item: Item,
-    store: &mut S,
+    store: &mut WorldStore,
     items: &mut Vec<Item>,
     wires: &mut Wires,
 ) -> Result<(), AllocError>
     ensures items { OnOk result (items.new.items ≡ items.old.items ++ item ∷ []) }
     ensures wires { OnOk result (wires.new ≡ with_all_sent sender (packet_of item.act) wires.old) }
-    ensures holds { OnOk result ((st : Option Stored) → Holds items.old.items st (S.holds store.old) → Holds items.new.items st (S.holds store.new)) }
+    ensures holds { OnOk result ((st : Option Stored) → Holds items.old.items st (Some store.old) → Holds items.new.items st (Some store.new)) }
 {
     match make_action(store, item.call, &item.act) {
         Ok(()) => {}
-        // No call of a world's store fails, so memory is wanting.
-        Err(StoreRefused::Failed | StoreRefused::Memory) => return Err(AllocError),
+        Err(StoreRefused::Memory) => return Err(AllocError),
+        Err(StoreRefused::Failed) => unreachable!(),
     }
     wires.take_out(sender, &item)?;
     items.push(item)?;

@@ -4,8 +4,9 @@ ghost use Rattle.link_io.specs.Resources.{IsOnce, lengths_of};
 ghost use Rattle.link_io.specs.Stored.{shelf_of};
 ghost use Rattle.link_laws.specs.world.Setup.{made_bytes, made_resources, stocked};
 
+use crate::server::world_store::WorldStore;
 use bytes::Bytes;
-use link_io::{Fulls, MemStore, Shelf, Store};
+use link_io::{Fulls, Shelf, Store, StoreRefused};
 use link_script::{Resources, Stock, next_number};
 use std::alloc::{AllocError, Global};
 
@@ -33,32 +34,33 @@ fn resources(alloc: Global, stocks: &[Stock]) -> Result<Fulls, AllocError>
     Ok(fulls)
 }
 
-/// A store with these resources and these leftovers, none of whose calls fails.
-pub fn store_of(alloc: Global, full: &[Stock], left: &[Stock]) -> Result<MemStore, AllocError>
+/// A store with these resources and these leftovers.
+pub fn store_of(alloc: Global, full: &[Stock], left: &[Stock]) -> Result<WorldStore, AllocError>
     requires full { IsOnce (made_resources full.now) }
     requires left { IsOnce (made_resources left.now) }
-    ensures { IfOk result (λ store. store.stored ≡ stocked full.now left.now) }
+    ensures { IfOk result (λ store. store ≡ stocked full.now left.now) }
 {
     let full = resources(alloc, full)?;
     let left = resources(alloc, left)?;
-    MemStore::new(alloc, full, left, Vec::new(alloc))
+    WorldStore::new(alloc, full, left)
 }
 
-/// What the store lists. No call of a world's store fails, so memory alone can be wanting.
-pub fn shelf_of(store: &mut MemStore) -> Result<Shelf, AllocError>
-    ensures shelf { IfOk result (λ shelf. shelf ≡ shelf_of store.old.stored) }
-    ensures same { store.new.stored ≡ store.old.stored }
+/// What the store lists.
+pub fn shelf_of(store: &mut WorldStore) -> Result<Shelf, AllocError>
+    ensures shelf { IfOk result (λ shelf. shelf ≡ shelf_of store.old) }
+    ensures same { store.new ≡ store.old }
 {
     match store.list() {
         Ok(shelf) => Ok(shelf),
-        Err(_) => Err(AllocError),
+        Err(StoreRefused::Memory) => Err(AllocError),
+        Err(StoreRefused::Failed) => unreachable!(),
     }
 }
 
 /// The whole resources with their lengths, by rising id.
-pub fn lengths(alloc: Global, store: &mut MemStore) -> Result<Resources, AllocError>
-    ensures lengths { IfOk result (λ lengths. lengths ≡ lengths_of store.old.stored.full) }
-    ensures same { store.new.stored ≡ store.old.stored }
+pub fn lengths(alloc: Global, store: &mut WorldStore) -> Result<Resources, AllocError>
+    ensures lengths { IfOk result (λ lengths. lengths ≡ lengths_of store.old.full) }
+    ensures same { store.new ≡ store.old }
 {
     let shelf = shelf_of(store)?;
     let mut lengths = Resources::new(alloc);

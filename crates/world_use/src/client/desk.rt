@@ -1,13 +1,13 @@
 //! Both ends of a world, and the frames between them.
 ghost use Rattle.std.specs.Prelude.{◌≡◌, ◌≤◌, IfOk, OnOk};
+ghost use Rattle.link_laws.specs.transfers_fit.Fits.{AreSmall};
 ghost use Rattle.link_world.specs.server.ServerSide.{ServerRests};
 ghost use Rattle.link_world.specs.client.Asking.{IsAsked};
 ghost use Rattle.link_world.specs.client.ClientSide.{Attends, ClientRests};
 
-use link_io::MemStore;
 use link_script::{Command, Loss, Stock};
 use link_world::client::{ClientEnd, Under};
-use link_world::server::{ServerEnd, Stopped, Wires, store_of};
+use link_world::server::{ServerEnd, Stopped, Wires, WorldStore, store_of};
 use std::alloc::Global;
 use std::test::Fail;
 use transfer_base::Tuning;
@@ -31,12 +31,16 @@ pub struct Pair {
 }
 
 /// A store without a resource.
-pub fn empty_store(alloc: Global) -> Result<MemStore, Fail> {
+pub fn empty_store(alloc: Global) -> Result<WorldStore, Fail>
+    ensures { IfOk result (λ store. AreSmall store.full) }
+{
     Ok(store_of(alloc, &[], &[])?)
 }
 
 /// A store with resource 7, of 1,000 bytes.
-pub fn filled_store(alloc: Global) -> Result<MemStore, Fail> {
+pub fn filled_store(alloc: Global) -> Result<WorldStore, Fail>
+    ensures { IfOk result (λ store. AreSmall store.full) }
+{
     let stock = Stock {
         id: 7,
         len: 1_000,
@@ -48,12 +52,13 @@ pub fn filled_store(alloc: Global) -> Result<MemStore, Fail> {
 /// Both ends over these stores, where this command has started at the client.
 pub fn begin(
     alloc: Global,
-    client: MemStore,
-    server: MemStore,
+    client: WorldStore,
+    server: WorldStore,
     losses: &[(u32, Loss)],
     command: &Command,
 ) -> Result<Pair, Fail>
-    requires { IsAsked command.now }
+    requires asked { IsAsked command.now }
+    requires small { AreSmall client.full }
     ensures rest { IfOk result (λ pair. ClientRests pair.client) }
     ensures attends { IfOk result (λ pair. Attends pair.client pair.under 0) }
     ensures server { IfOk result (λ pair. ServerRests pair.server) }

@@ -1,16 +1,31 @@
 //! A script's text is run.
+ghost use Rattle.std.specs.Prelude.{◌<◌, ◌^◌, length};
 
-use link_script::text::{print_report, read_script};
+use link_script::text::read_script;
 use link_world::{World, WorldRefused};
 use std::alloc::{AllocError, Global};
 use std::process::Abort;
 
+// No script here is longer.
+const TEXT_LIMIT: usize = 1_048_576;
+
 /// What is told of the run of a script's text.
 pub fn told(alloc: Global, text: &str) -> Result<String, AllocError> {
+    let text = text.as_bytes();
+    if text.len() < TEXT_LIMIT {
+        told_of(alloc, text)
+    } else {
+        String::from_str(alloc, "long text")
+    }
+}
+
+fn told_of(alloc: Global, text: &[u8]) -> Result<String, AllocError>
+    requires { length text.now < 2 ^ 20 }
+{
     let mut told = String::new(alloc);
-    match read_script(alloc, text.as_bytes())? {
+    match read_script(alloc, text)? {
         Ok(script) => match World::new(alloc, script)?.run() {
-            Ok(outcome) => print_report(alloc, &outcome.report, &mut told)?,
+            Ok(outcome) => return Ok(outcome.text),
             Err(WorldRefused::Frames) => told.push_str("limit frames")?,
             Err(WorldRefused::Journal) => told.push_str("limit journal")?,
             Err(WorldRefused::Memory) => told.push_str("memory")?,

@@ -1,5 +1,7 @@
 //! Transfers of one resource that a script has more than once: each is told of its own session, with the bytes of its own time.
 
+ghost use Rattle.std.specs.Prelude.{◌<◌, ◌^◌, length};
+
 use super::desk::tells;
 use link_io::MemStore;
 use link_script::text::read_script;
@@ -9,6 +11,9 @@ use rpc_journal::{EntryKind, Journal};
 use std::alloc::{AllocError, Global};
 use std::process::Abort;
 use std::test::Fail;
+
+// No script here is longer.
+const TEXT_LIMIT: usize = 1_048_576;
 
 /// The bytes of ten from the seeds 1 and 2.
 const OF_SEED_1: &[u8] = &[108, 130, 165, 98, 203, 128, 141, 16, 214, 50];
@@ -35,7 +40,18 @@ fn nothing(alloc: Global) -> Kept {
 
 // What stands behind the run of a script's text; nothing, where it has none.
 fn left_by(alloc: Global, text: &str) -> Result<Kept, AllocError> {
-    match read_script(alloc, text.as_bytes())? {
+    let text = text.as_bytes();
+    if text.len() < TEXT_LIMIT {
+        left_of(alloc, text)
+    } else {
+        Ok(nothing(alloc))
+    }
+}
+
+fn left_of(alloc: Global, text: &[u8]) -> Result<Kept, AllocError>
+    requires { length text.now < 2 ^ 20 }
+{
+    match read_script(alloc, text)? {
         Ok(script) => match World::new(alloc, script)?.run() {
             Ok(outcome) => found_in(alloc, &outcome),
             Err(_) => Ok(nothing(alloc)),

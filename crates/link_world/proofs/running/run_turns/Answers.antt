@@ -1,6 +1,7 @@
 use Rattle.std.proofs.Common.{◌*◌, refl}
 use Rattle.link_laws.specs.declared.world.limits.TheConstants.{TURN_OF_TIME}
 use Rattle.link_world.specs.Running.{setup_by}
+use Rattle.link_world.proofs.FitLemmas.{starting_fits}
 use Rattle.link_world.proofs.RunLemmas.{can_turn, ends_with, goes_on, past_frames}
 use Rattle.link_world.proofs.StopLemmas.{fewer_told, past_journal, stopped_so}
 use Rattle.link_world.proofs.running.run_turns.Goals as goal
@@ -14,8 +15,11 @@ returns-then-course-ge-MAX_DELIVERIES-clause-frames c = λ is.
 
 pub make_turn-requires-clause-can : goal.make_turn-requires-clause-can
 make_turn-requires-clause-can c =
-    can_turn c.args.commands.now c.turns.client c.turns.course (TURN_OF_TIME * c.turns.course.times) c.in-Some.turn c.requires.commands c.in-Some.ensures.next
-    c.turns.invariant.stands.attends c.turns.invariant.unended
+    let k = setup_by c.args.server.now c.args.client.now c.args.wires.now c.args.tuning in
+    let comes = c.turns.invariant.comes in
+    can_turn k c.args.commands.now comes.now c.next_turn.new.wires c.turns.client c.turns.course (TURN_OF_TIME * c.turns.course.times) c.in-Some.turn c.requires.commands
+    c.in-Some.ensures.next (c.in-Some.ensures.turn k comes.now comes.shows.wires comes.shows.course) c.turns.invariant.stands.attends c.turns.invariant.unended
+    (starting_fits k c.args.commands.now c.requires.small c.requires.commands c.requires.few c.turns.server c.turns.client c.turns.wires c.turns.course comes)
 
 pub turns-smaller : goal.turns-smaller
 turns-smaller c =

@@ -11,6 +11,7 @@ use Rattle.link_laws.specs.world.Starts.{request}
 use Rattle.link_world.proofs.server.RestLemmas.{entered_is}
 use Rattle.link_world.specs.client.Asking.{ClientAdds}
 use Rattle.link_world.proofs.client.AskLemmas.{adds_one, invoke_full, invoked_there}
+use Rattle.link_world.proofs.RoomLemmas.{invoked_unfull}
 use Rattle.link_world.proofs.client.asking.open.Goals as goal
 
 pub returns-in-Ok-clause-there : goal.returns-in-Ok-clause-there
@@ -29,7 +30,8 @@ returns-in-Ok-clause-adds c =
     c.in-Some.ensures.1 ∙ ap (λ n. n + 1) (c.count.ensures ∙ ap (λ (t : Table). call_count (past t)) c.calls.ensures.table) in
     subst (λ n. ClientAdds old.serving (adding old.serving.table.entries run_seat (Invoke (request (record { channel = 1; service = c.args.service; method = c.args.method; call = n }) c.args.payload) empty_memo)) c.invoke.new.self.serving) id
     (adds_one old c.invoke.new.self (Invoke (request (record { channel = 1; service = c.args.service; method = c.args.method; call = c.in-Some.id }) c.args.payload) empty_memo)
-    c.in-Ok.ensures.aside c.in-Ok.ensures.did.adds c.requires.orderly (λ k. refl) (λ k. refl) (λ k. refl) refl refl refl)
+    c.in-Ok.ensures.aside c.in-Ok.ensures.did.adds c.requires.orderly
+    (invoked_unfull old.serving.table.setting old.serving.table.entries (record { channel = 1; service = c.args.service; method = c.args.method; call = c.in-Some.id }) c.in-Ok.ensures.did.unrefused) (λ k. refl) (λ k. refl) (λ k. refl) refl refl refl)
 
 pub returns-in-Err-default-JournalFull-clause-full : goal.returns-in-Err-default-JournalFull-clause-full
 returns-in-Err-default-JournalFull-clause-full c = λ same.

@@ -16,7 +16,7 @@ use Rattle.link_world.proofs.client.StopLemmas.{packet_stops, work_stops}
 use Rattle.link_world.proofs.client.working.feed_all.Goals as goal
 
 pub settle-requires-clause-kept : goal.settle-requires-clause-kept
-settle-requires-clause-kept g c =
+settle-requires-clause-kept c =
     let old = c.frames.client.serving in
     let mid = c.feed.new.self.serving in
     let was : c.len-count.result ≡ length old.table.entries =
@@ -27,7 +27,7 @@ settle-requires-clause-kept g c =
     fed_kept old mid c.frames.items.items c.frames.events.items packet c.frames.invariant.kept
 
 pub frames-preserved-in_ok-settle : goal.frames-preserved-in_ok-settle
-frames-preserved-in_ok-settle g c =
+frames-preserved-in_ok-settle c =
     let old = c.frames.client.serving in
     let mid = c.feed.new.self.serving in
     let new = c.settle.new.client.serving in
@@ -54,7 +54,7 @@ frames-preserved-in_ok-settle g c =
     }
 
 pub frames-preserved : goal.frames-preserved
-frames-preserved g c =
+frames-preserved c =
     let old = c.frames.client.serving in
     let mid = c.feed.new.self.serving in
     let count = c.in_ok-done.field-0 in
@@ -77,7 +77,7 @@ frames-preserved g c =
     }
 
 pub returns-in_err-done-clause-full : goal.returns-in_err-done-clause-full
-returns-in_err-done-clause-full g c =
+returns-in_err-done-clause-full c =
     let old = c.frames.client.serving in
     let mid = c.feed.new.self.serving in
     let part = c.in_err-done.ensures.refused_fed in
@@ -90,7 +90,7 @@ returns-in_err-done-clause-full g c =
     stood.packets c.requires.rest.accepts c.frames.invariant.takes mid fed.packets refuses.0 refuses.1)
 
 pub returns-in_err-settle-clause-full : goal.returns-in_err-settle-clause-full
-returns-in_err-settle-clause-full g c =
+returns-in_err-settle-clause-full c =
     let old = c.frames.client.serving in
     let mid = c.feed.new.self.serving in
     let count = c.in_ok-done.field-0 in

@@ -1,4 +1,4 @@
-use Rattle.std.proofs.Common.{ℕ, ◌-◌, ◌≤◌, ◌<◌, List, ◌++◌, length, take, Option, IfSome}
+use Rattle.std.proofs.Common.{ℕ, ◌-◌, ◌≤◌, ◌<◌, List, ◌++◌, length, take, Option, IfSome, Some}
 use Rattle.link_io.specs.Stored.{Stored}
 use Rattle.rpc_ids.specs.declared.method.Role.TheVariants.{Client as client_role}
 use Rattle.rpc_journal.specs.Calls.{call_count}
@@ -12,7 +12,7 @@ use Rattle.link_world.specs.client.Working.{IsKept, TakesMore}
 use Rattle.link_world.proofs.client.working.feed_all.Given as goal
 
 abbrev pub invariant-frames : goal.invariant-frames
-invariant-frames g l = record {
+invariant-frames l = record {
   within : l.done ≤ length l.frame;
   rest : IsResting l.client.serving;
   kept : IsKept l.client.serving l.items.items l.events.items;
@@ -20,9 +20,9 @@ invariant-frames g l = record {
   there : IfSome (call_seen l.under) (λ c. c < call_count (deeds l.client.serving));
   past : last_poll l.under ≤ l.now;
   out : GoesOut client_role l.fn.items.items l.fn.wires l.items.items l.wires;
-  holds : (st : Option Stored) → Holds l.fn.items.items st (g.S.Store.holds l.fn.store) → Holds l.items.items st (g.S.Store.holds l.store);
+  holds : (st : Option Stored) → Holds l.fn.items.items st (Some l.fn.store) → Holds l.items.items st (Some l.store);
   fed : (bytes : List ℕ) → WasFed client_role l.fn.client bytes → WasFed client_role l.client (bytes ++ take l.done l.frame);
 }
 
 abbrev pub decreases-frames : goal.decreases-frames
-decreases-frames g l = length l.frame - l.done
+decreases-frames l = length l.frame - l.done

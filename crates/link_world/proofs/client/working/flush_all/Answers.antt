@@ -8,7 +8,7 @@ use Rattle.link_world.proofs.client.PassLemmas.{flushes_more, flushes_none}
 use Rattle.link_world.proofs.client.working.flush_all.Goals as goal
 
 pub items-init : goal.items-init
-items-init g c = record {
+items-init c = record {
   so = flushes_none c.args.client.now.serving c.requires.orderly;
   items = c.requires.items;
   out = goes_out_none client_role c.args.items.now.items c.args.wires.now;
@@ -17,11 +17,11 @@ items-init g c = record {
 }
 
 pub items-smaller : goal.items-smaller
-items-smaller g c =
+items-smaller c =
     (flush_steps c.items.client.serving c.next_out.new.self.serving c.in-Some.item c.items.invariant.so.passes.orderly c.in-Some.ensures.step).fewer
 
 pub items-preserved : goal.items-preserved
-items-preserved g c =
+items-preserved c =
     let step = flush_steps c.items.client.serving c.next_out.new.self.serving c.in-Some.item c.items.invariant.so.passes.orderly c.in-Some.ensures.step in
     record {
       so = flushes_more c.args.client.now.serving c.items.client.serving c.next_out.new.self.serving c.in-Some.item c.items.invariant.so c.in-Some.ensures.step;

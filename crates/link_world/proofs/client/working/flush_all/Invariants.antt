@@ -1,4 +1,4 @@
-use Rattle.std.proofs.Common.{◌≡◌, ℕ, List, Option}
+use Rattle.std.proofs.Common.{◌≡◌, ℕ, List, Option, Some}
 use Rattle.link_io.specs.Stored.{Stored}
 use Rattle.rpc_ids.specs.declared.method.Role.TheVariants.{Client as client_role}
 use Rattle.rpc_schedule.specs.Kept.{Holds}
@@ -10,13 +10,13 @@ use Rattle.link_world.proofs.client.PassLemmas.{FlushesSo}
 use Rattle.link_world.proofs.client.working.flush_all.Given as goal
 
 abbrev pub invariant-items : goal.invariant-items
-invariant-items g l = record {
+invariant-items l = record {
   so : FlushesSo l.fn.client.serving l.client.serving;
   items : l.items.items ≡ items_flushed (deeds l.client.serving);
   out : GoesOut client_role l.fn.items.items l.fn.wires l.items.items l.wires;
-  holds : (st : Option Stored) → Holds l.fn.items.items st (g.S.Store.holds l.fn.store) → Holds l.items.items st (g.S.Store.holds l.store);
+  holds : (st : Option Stored) → Holds l.fn.items.items st (Some l.fn.store) → Holds l.items.items st (Some l.store);
   fed : (bytes : List ℕ) → WasFed client_role l.fn.client bytes → WasFed client_role l.client bytes;
 }
 
 abbrev pub decreases-items : goal.decreases-items
-decreases-items g l = items_waiting (deeds l.client.serving)
+decreases-items l = items_waiting (deeds l.client.serving)

@@ -3,7 +3,7 @@ use Rattle.link_world.proofs.client.SettleLemmas.{kept_then, rest_is, settled}
 use Rattle.link_world.proofs.client.working.settle.Goals as goal
 
 pub returns-clause-settled : goal.returns-clause-settled
-returns-clause-settled g c =
+returns-clause-settled c =
     let before = c.args.events.now.items in
     let after = c.run_all.new.events.items in
     let value = c.as_slice.ensures.value in
@@ -15,7 +15,7 @@ returns-clause-settled g c =
     says c.in_ok-flush_all.ensures.flushes c.in-Ok-speak.ensures.under
 
 pub returns-clause-kept : goal.returns-clause-kept
-returns-clause-kept g c =
+returns-clause-kept c =
     let before = c.args.events.now.items in
     kept_then c.args.now c.args.client.now.serving c.run_all.new.client.serving before c.run_all.new.events.items c.in-Ok.ensures.ran c.args.items.now.items c.flush_all.new.items.items c.requires.kept
     (take (length c.as_slice.result.now - c.len-from.result) (drop c.len-from.result c.as_slice.result.now)) c.speak.new.client.serving c.flush_all.new.client.serving _ c.in-Ok-speak.ensures.says c.in_ok-flush_all.ensures.flushes c.in_ok-flush_all.ensures.items

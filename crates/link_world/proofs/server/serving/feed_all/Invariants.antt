@@ -1,4 +1,4 @@
-use Rattle.std.proofs.Common.{◌≡◌, ℕ, ◌-◌, ◌≤◌, List, ◌++◌, length, take, Option}
+use Rattle.std.proofs.Common.{◌≡◌, ℕ, ◌-◌, ◌≤◌, List, ◌++◌, length, take, Option, Some}
 use Rattle.link_io.specs.Stored.{Stored}
 use Rattle.rpc_ids.specs.declared.method.Role.TheVariants.{Server as server_role}
 use Rattle.rpc_schedule.specs.Kept.{Holds}
@@ -15,7 +15,7 @@ invariant-frames g l = record {
   takes : TakesMore g.T.Serves.rule (g.T.Serves.seen l.fn.server) (g.T.Serves.seen l.server);
   items : l.items.items ≡ items_flushed (deeds (g.T.Serves.seen l.server));
   out : GoesOut server_role l.fn.items.items l.fn.wires l.items.items l.wires;
-  holds : (st : Option Stored) → Holds l.fn.items.items st (g.S.Store.holds l.fn.store) → Holds l.items.items st (g.S.Store.holds l.store);
+  holds : (st : Option Stored) → Holds l.fn.items.items st (Some l.fn.store) → Holds l.items.items st (Some l.store);
   fed : (s : List ℕ) → g.T.Serves.stands l.fn.server s → g.T.Serves.stands l.server (s ++ take l.done l.frame);
 }
 

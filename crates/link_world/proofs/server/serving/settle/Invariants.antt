@@ -1,4 +1,4 @@
-use Rattle.std.proofs.Common.{◌≡◌, ℕ, ◌-◌, List, length, Option}
+use Rattle.std.proofs.Common.{◌≡◌, ℕ, ◌-◌, List, length, Option, Some}
 use Rattle.rpc_journal.specs.declared.entry.TheConstants.{MAX_ENTRIES}
 use Rattle.link_io.specs.Stored.{Stored}
 use Rattle.rpc_ids.specs.declared.method.Role.TheVariants.{Server as server_role}
@@ -14,7 +14,7 @@ invariant-rounds g l = record {
   on : RunsAndFlushes g.T.Serves.rule (g.T.Serves.seen l.fn.server) (g.T.Serves.seen l.server);
   items : l.items.items ≡ items_flushed (deeds (g.T.Serves.seen l.server));
   out : GoesOut server_role l.fn.items.items l.fn.wires l.items.items l.wires;
-  holds : (st : Option Stored) → Holds l.fn.items.items st (g.S.Store.holds l.fn.store) → Holds l.items.items st (g.S.Store.holds l.store);
+  holds : (st : Option Stored) → Holds l.fn.items.items st (Some l.fn.store) → Holds l.items.items st (Some l.store);
   fed : (s : List ℕ) → g.T.Serves.stands l.fn.server s → g.T.Serves.stands l.server s;
 }
 

@@ -1,8 +1,14 @@
-use Rattle.std.proofs.Common.{ap, subst, ◌∙◌}
+use Rattle.std.proofs.Common.{◌<◌, ◌^◌, List, length, ap, subst, sym, ◌∙◌}
 use Rattle.std.specs.Prelude.{IfOk}
+use Rattle.std.specs.List.{AllByRecursion}
+use Rattle.link_script.specs.declared.command.Command.{Command}
+use Rattle.link_script.specs.Script.{IsCommand}
 use Rattle.demo_services.specs.DemoRule.{demo_rule}
 use Rattle.rpc_journal.specs.Lawful.{IsLegal}
 use Rattle.rpc_schedule.proofs.StreamLemmas.{handed_on}
+use Rattle.link_laws.specs.transfers_fit.Fits.{BeginsSmall}
+use Rattle.link_laws.specs.transfers_fit.Scripts.{IsScript}
+use Rattle.link_laws.proofs.transfers_fit.OfScripts.{begins_small}
 use Rattle.link_laws.specs.world.Limits.{IsPastJournal}
 use Rattle.link_laws.specs.world.Setup.{quiet_rule, setup_of}
 use Rattle.link_world.specs.declared.outcome.WorldRefused.TheVariants.{Journal}
@@ -37,14 +43,17 @@ runs c =
     (subst (λ set. IfOk c.end.result (λ outcome. IsLegal demo_rule set outcome.server.entries)) (setting ∙ ap (λ script. (setup_of script).server) c.self.view_is) c.end.ensures.server)
     (subst (λ set. IfOk c.end.result (λ outcome. IsLegal quiet_rule set outcome.client.entries)) shows.client.setting c.end.ensures.client)
 
+fits : (c : goal.After-drop-script-7) → IsScript c.args.self
+fits c = subst IsScript c.self.view_is c.self.invariant.fits
+
 pub returns-clause-bytes : goal.returns-clause-bytes
-returns-clause-bytes c = λ is calm. all_mean c.args.self c.end.result is calm (runs c)
+returns-clause-bytes c = λ calm. all_mean c.args.self c.end.result (fits c) calm (runs c)
 
 pub returns-clause-sound : goal.returns-clause-sound
-returns-clause-sound c = λ is calm. all_sound c.args.self c.end.result is calm (runs c)
+returns-clause-sound c = λ calm. all_sound c.args.self c.end.result (fits c) calm (runs c)
 
 pub returns-clause-sound_bytes : goal.returns-clause-sound_bytes
-returns-clause-sound_bytes c = λ is. all_mean_soundly c.args.self c.end.result is (runs c)
+returns-clause-sound_bytes c = all_mean_soundly c.args.self c.end.result (fits c) (runs c)
 
 pub returns-clause-lossless : goal.returns-clause-lossless
 returns-clause-lossless c = λ is. all_end_well c.args.self c.end.result is (runs c)
@@ -72,3 +81,14 @@ returns-clause-journal c = λ is.
     subst (λ script. IsPastJournal (setup_of script) script.commands) c.self.view_is
     (end_stopped i.script i.tuning i.server i.client i.wires c.self.invariant t.server t.client t.wires t.course ends
     (c.end.ensures.journal is k i.script.commands ends.comes.now ends.comes.shows))
+
+pub run_turns-requires-clause-commands : goal.run_turns-requires-clause-commands
+run_turns-requires-clause-commands c = subst (AllByRecursion IsCommand) (sym c.as_slice.ensures) c.self.invariant.fits.commands
+
+pub run_turns-requires-clause-few : goal.run_turns-requires-clause-few
+run_turns-requires-clause-few c = subst (λ (commands : List Command). length commands < 2 ^ 32) (sym c.as_slice.ensures) c.self.invariant.fits.few
+
+pub run_turns-requires-clause-small : goal.run_turns-requires-clause-small
+run_turns-requires-clause-small c =
+    let i = c.self.inside in
+    subst BeginsSmall (sym (setup_is i.script i.tuning i.server i.client i.wires c.self.invariant)) (begins_small i.script c.self.invariant.fits)

@@ -16,17 +16,17 @@ use Rattle.link_world.proofs.client.client_end.ClientEnd.cancel.Goals as goal
 
 pub work_alone-requires : goal.work_alone-requires
 work_alone-requires c =
-    let before : ClientState = record { end = c.self.inside.client; stored = c.self.inside.store.stored; items = c.self.inside.items.items; events = c.self.inside.events.items } in
+    let before : ClientState = record { end = c.self.inside.client; stored = c.self.inside.store; items = c.self.inside.items.items; events = c.self.inside.events.items } in
     let rest : ClientRests before = subst ClientRests (sym c.self.view_is) c.requires.rest in
     let is = cancelled_is quiet_rule c.self.inside.client c.cancel.new.self c.args.call c.cancel.result c.cancel.ensures.did c.cancel.ensures.aside c.calls-legal.ensures.legal
     (subst (λ (s : ClientState). end_of (deeds s.end.serving) c.args.call ≡ None) (sym c.self.view_is) c.requires.open) in
     subst (λ s. IsKept s c.self.inside.items.items c.self.inside.events.items) (sym is)
     (entered_kept c.self.inside.client.serving c.self.inside.items.items c.self.inside.events.items run_seat (Cancel c.args.call) (kept_by before rest)
-    (cancel_opens c.self.inside.client.serving.table.setting (deeds c.self.inside.client.serving) c.args.call) (λ k. refl) (λ k. refl) (λ k. refl) refl refl)
+    (cancel_opens c.self.inside.client.serving.table.setting (deeds c.self.inside.client.serving) c.args.call) (λ k. refl) (λ k. refl) (λ k. refl) refl refl refl)
 
 pub returns-clause-settles : goal.returns-clause-settles
 returns-clause-settles c =
-    let before : ClientState = record { end = c.self.inside.client; stored = c.self.inside.store.stored; items = c.self.inside.items.items; events = c.self.inside.events.items } in
+    let before : ClientState = record { end = c.self.inside.client; stored = c.self.inside.store; items = c.self.inside.items.items; events = c.self.inside.events.items } in
     let rest : ClientRests before = subst ClientRests (sym c.self.view_is) c.requires.rest in
     let is = cancelled_is quiet_rule c.self.inside.client c.cancel.new.self c.args.call c.cancel.result c.cancel.ensures.did c.cancel.ensures.aside c.calls-legal.ensures.legal
     (subst (λ (s : ClientState). end_of (deeds s.end.serving) c.args.call ≡ None) (sym c.self.view_is) c.requires.open) in
@@ -39,7 +39,7 @@ returns-clause-settles c =
 
 pub returns-clause-full : goal.returns-clause-full
 returns-clause-full c =
-    let before : ClientState = record { end = c.self.inside.client; stored = c.self.inside.store.stored; items = c.self.inside.items.items; events = c.self.inside.events.items } in
+    let before : ClientState = record { end = c.self.inside.client; stored = c.self.inside.store; items = c.self.inside.items.items; events = c.self.inside.events.items } in
     let rest : ClientRests before = subst ClientRests (sym c.self.view_is) c.requires.rest in
     let is = cancelled_is quiet_rule c.self.inside.client c.cancel.new.self c.args.call c.cancel.result c.cancel.ensures.did c.cancel.ensures.aside c.calls-legal.ensures.legal
     (subst (λ (s : ClientState). end_of (deeds s.end.serving) c.args.call ≡ None) (sym c.self.view_is) c.requires.open) in

@@ -6,7 +6,7 @@ use Rattle.link_world.proofs.client.client_end.ClientEnd.start.Goals as goal
 
 pub work-requires-clause-kept : goal.work-requires-clause-kept
 work-requires-clause-kept c =
-    let before : ClientState = record { end = c.self.inside.client; stored = c.self.inside.store.stored; items = c.self.inside.items.items; events = c.self.inside.events.items } in
+    let before : ClientState = record { end = c.self.inside.client; stored = c.self.inside.store; items = c.self.inside.items.items; events = c.self.inside.events.items } in
     let rest : ClientRests before = subst ClientRests (sym c.self.view_is) c.requires.rest in
     c.in-Ok.ensures.adds.kept c.self.inside.items.items c.self.inside.events.items (kept_by before rest)
 
