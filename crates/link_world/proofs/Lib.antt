@@ -16,3 +16,4 @@ pub mod NewLemmas
 pub mod BoundsLemmas
 pub mod ScriptLemmas
 pub mod PromiseLemmas
+mod RepeatRowProofs

@@ -6,5 +6,6 @@ pub mod Running
 pub mod Over
 pub mod Starting
 pub mod Outcomes
+pub mod RepeatRows
 pub mod server
 pub mod client
