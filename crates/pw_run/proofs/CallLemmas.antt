@@ -1,6 +1,5 @@
 -- The words of a call tell one opening.
-use Rattle.std.proofs.Common.{◌≡◌, ℕ, ◌<◌, ◌≤◌, true, false, List, [], ◌∷◌, length, drop, codes, Option, Some, None, IfNone, unwrap_or, refl, ap, ap₂, sym, ◌∙◌, subst, inl, inr, arith, get_or}
-use Rattle.std.specs.Fmt.{decimal}
+use Rattle.std.proofs.Common.{◌≡◌, ℕ, ◌<◌, ◌≤◌, false, List, [], ◌∷◌, length, drop, codes, Option, Some, None, IfNone, unwrap_or, refl, ap, ap₂, sym, ◌∙◌, subst, inr, arith, get_or}
 use Rattle.std.proofs.lemmas.Bool.{le-ltb}
 use Rattle.std.proofs.lemmas.Fmt.{decimal_injective}
 use Rattle.rpc_ids.specs.declared.method.Kind.{Kind}
@@ -76,8 +75,7 @@ opening_same a b service method kind payload =
 
 pub call_tells : (words : List (List ℕ)) (c : CallWords) (opening : Opening) (limit : Option ℕ) → words ≡ words_of c → CanCall c → IsCall words opening limit → TellsOpening c opening × (limit ≡ c.limit)
 call_tells words c opening limit are can is =
-    let same : words_of c ≡ codes "call" ∷ is.0 ∷ opening.service ∷ opening.method ∷ kind_name opening.kind ∷ is.1 ∷ limit_words limit = sym are ∙ is.2 in
-    (
+    let same : words_of c ≡ codes "call" ∷ is.0 ∷ opening.service ∷ opening.method ∷ kind_name opening.kind ∷ is.1 ∷ limit_words limit = sym are ∙ is.2 in (
       record {
         service = cc same;
         method = cc same;

@@ -1,5 +1,5 @@
 -- Which words tell a payload.
-use Rattle.std.proofs.Common.{◌≡◌, ◌≢◌, ℕ, ◌+◌, ◌*◌, ◌%◌, ◌==◌, ◌<◌, ◌≤◌, ◌&&◌, ◌||◌, not, Bool, true, false, List, [], ◌∷◌, length, codes, nat_le, nat_lt, refl, ap, sym, ◌∙◌, subst, arith}
+use Rattle.std.proofs.Common.{◌≡◌, ◌≢◌, ℕ, ◌*◌, ◌%◌, ◌==◌, ◌<◌, ◌≤◌, ◌&&◌, ◌||◌, not, Bool, true, false, List, [], ◌∷◌, length, codes, nat_le, nat_lt, refl, ap, sym, ◌∙◌, subst, arith}
 use Rattle.std.proofs.lemmas.Bool.{and_parts, and_from, eqb-true, eq-eqb, leb-true, le-leb, ltb-true, lt-ltb, false≢true, true≢false}
 use Rattle.std.proofs.lemmas.List.Sums.{AllPass-from_list_all, list_all-from_AllPass}
 use Rattle.std.specs.Char.{is_ascii_uppercase}
@@ -67,8 +67,7 @@ digits_tell text are =
     let read = decode_of-digits text (eqb-true (length text % 2) 0 first.1) (AllPass-from_list_all is_hex_digit text digits.0) in
     let ok = decode_of-ok text read.0 read.1 in
     let some : 0 < length text = ltb-true 0 (length text) rest.0 in
-    let short : length text ≤ 16000 = leb-true (length text) 16000 rest.1 in
-    (
+    let short : length text ≤ 16000 = leb-true (length text) 16000 rest.1 in (
       read.0,
       digits_spell text read.0 (lower_text text read.0 read.1 digits.1) (λ none. let n = ap length none in omega (arith, ok.2, n, some)) ok.3 (omega (arith, short, ok.2)),
     )

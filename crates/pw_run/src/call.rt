@@ -67,10 +67,7 @@ pub(crate) fn call<R: Threads + Wait + Sync, O: Sink, S: Store + Send, N: Linker
     )
 }
 
-#[tactic(auto, using(
-    crate::proofs::CallLemmas::not_long,
-    crate::proofs::CallLemmas::opening_same
-))]
+#[tactic(auto, using(crate::proofs::CallLemmas::not_long, crate::proofs::CallLemmas::opening_same))]
 // The opening that the words tell.
 fn opening_of(alloc: Global, words: CallWords<'_>) -> Result<Opening, AllocError>
     requires { CanCall words }

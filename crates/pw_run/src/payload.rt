@@ -8,12 +8,7 @@ use rpc_handlers::MAX_PAYLOAD;
 use std::alloc::{AllocError, Global};
 use text_fields::hex_bytes;
 
-#[tactic(auto, using(
-    crate::proofs::PayloadLemmas::dash_tells,
-    crate::proofs::PayloadLemmas::digits_tell,
-    crate::proofs::PayloadLemmas::other_digits,
-    crate::proofs::PayloadLemmas::tell_digits
-))]
+#[tactic(auto, using(crate::proofs::PayloadLemmas::dash_tells, crate::proofs::PayloadLemmas::digits_tell, crate::proofs::PayloadLemmas::other_digits, crate::proofs::PayloadLemmas::tell_digits))]
 /// Whether a word tells a payload.
 pub(crate) fn is_payload(word: &str) -> bool
     ensures some { result ≡ true → (bytes : List ℕ) × IsPayload word.now bytes }

@@ -30,13 +30,7 @@ use std::alloc::Global;
 use std::sync::Wait;
 use std::thread::Threads;
 
-#[tactic(auto, using(
-    crate::proofs::WordLemmas::not_both,
-    crate::proofs::WordLemmas::call_not_recorded,
-    crate::proofs::WordLemmas::call_not_live,
-    crate::proofs::CallLemmas::call_there,
-    crate::proofs::CallLemmas::call_links
-))]
+#[tactic(auto, using(crate::proofs::WordLemmas::not_both, crate::proofs::WordLemmas::call_not_recorded, crate::proofs::WordLemmas::call_not_live, crate::proofs::CallLemmas::call_there, crate::proofs::CallLemmas::call_links))]
 /// Runs the command that the words name, over a source, a sink, a store, a linker and a clock. The recorded commands are those of
 /// [`run_recorded`]; the others work on threads, and may wait. The gate stands at each run of a handler of theirs.
 ///

@@ -1,7 +1,6 @@
 //! The report of a call of any method.
 
 ghost use Rattle.std.specs.Prelude.{◌≡◌, ◌++◌, flat_map, IfOk, OnOk, string_bytes};
-ghost use Rattle.hex.specs.Hex.{encode_lower};
 ghost use Rattle.run_report.specs.CallReport.{call_report, called_line, end_line, message_line, payload_word};
 
 use crate::lines::add_why_line;

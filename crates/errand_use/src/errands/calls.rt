@@ -122,7 +122,15 @@ fn calls<R: Threads + Wait + Sync + Abort>(
 fn a_call_tells_its_messages_and_its_end(rt: HostRuntime) -> Result<(), AllocError> {
     let alloc = rt.alloc();
     for &(line, method, says, status, written) in CALLS {
-        calls(&rt, alloc, line, frames(alloc, method, says)?, status, written, 1)?;
+        calls(
+            &rt,
+            alloc,
+            line,
+            frames(alloc, method, says)?,
+            status,
+            written,
+            1,
+        )?;
     }
     Ok(())
 }

@@ -1,4 +1,4 @@
-use Rattle.std.proofs.Common.{rules, ◌≡◌, List, ℕ, Some, None, IfSome, IsSomeAnd, codes, sym, ◌∙◌, subst}
+use Rattle.std.proofs.Common.{rules, ◌≡◌, IfSome, IsSomeAnd, codes, sym, ◌∙◌, subst}
 use Rattle.hex.specs.Hex.{IsBytes, encode_lower}
 use Rattle.pw_run.specs.Payload.{IsPayload}
 use Rattle.pw_run.proofs.PayloadLemmas.{dash_only, none_read, one_payload, read_tells}

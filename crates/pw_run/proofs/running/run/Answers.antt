@@ -15,8 +15,7 @@ returns-in-Some-clause-words g c = (
 
 pub returns-in-Some-clause-called : goal.returns-in-Some-clause-called
 returns-in-Some-clause-called g c = λ opening limit is.
-    let tells = call_tells _ c.in-Some.words opening limit c.in-Some.ensures.some.0 c.in-Some.ensures.some.1 is in
-    (
+    let tells = call_tells _ c.in-Some.words opening limit c.in-Some.ensures.some.0 c.in-Some.ensures.some.1 is in (
       c.call.result,
       c.code.ensures,
       called_by opening limit c.in-Some.words.limit _ _ c.call.result tells.1 (c.call.ensures.did (g.I.Source.left c.args.input.now) opening tells.0),
