@@ -47,8 +47,7 @@ module _ (k : Setup) (commands : List Command) (small : BeginsSmall k) (all : Al
       let stands = turns_stand k small.client (length commands) comes.count (first_world commands) w comes.turns first_stands in
       let coming : w.coming ≡ command ∷ rest = started_coming w.to_server.frames w.to_client.frames w.under w.coming command rest is in
       let stored : client_store k w ≡ c.stored =
-      sym (comes.shows.client.stored ∙ ap (λ items. kept items k.client_store) (client_items k c w.client w.fed_client comes.shows.client)) in
-      (
+      sym (comes.shows.client.stored ∙ ap (λ items. kept items k.client_store) (client_items k c w.client w.fed_client comes.shows.client)) in (
         omega (arith, few, comes.shows.course.sessions, subst (λ l. w.sessions + length l ≤ length commands) coming stands.room),
         subst (λ st. AreSmall st.full) stored (stores_stay_small k commands comes.count w small all comes.turns).full,
       )

@@ -8,4 +8,5 @@ mod SettleLemmas
 mod ArriveLemmas
 mod StopLemmas
 mod EndLemmas
+mod IdleLemmas
 mod AskLemmas

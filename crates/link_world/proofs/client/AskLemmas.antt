@@ -28,7 +28,7 @@ use Rattle.rpc_handlers.specs.declared.event.Memo.{Memo}
 use Rattle.rpc_journal.specs.declared.answers.InvokeRefused.{InvokeRefused}
 use Rattle.rpc_journal.specs.declared.answers.InvokeRefused.TheVariants.{JournalFull, Live, Memory as NoMemory, NoChannel, NoMethod}
 use Rattle.rpc_journal.specs.declared.entry.EntryKind.TheVariants.{Invoke, Say}
-use Rattle.rpc_journal.specs.Items.{input_ended, is_end_in, is_flush}
+use Rattle.rpc_journal.specs.Items.{input_ended, is_end_in, is_flush, items_waiting}
 use Rattle.rpc_journal.specs.Kinds.{is_empty, or_else}
 use Rattle.rpc_journal.specs.Refusals.{invoke_refusal, is_full, refused_where}
 use Rattle.rpc_journal.specs.Rows.{channels_in, method_named}
@@ -50,6 +50,8 @@ use Rattle.link_world.specs.declared.client.under.Under.{Under}
 use Rattle.link_world.specs.client.ClientSide.{ClientState, ClientWorks}
 use Rattle.link_world.specs.client.Underway.{task_seen, under_of}
 use Rattle.link_world.proofs.RoomLemmas.{within_adding}
+use Rattle.link_world.proofs.client.IdleLemmas.{few_more}
+use Rattle.rpc_schedule.proofs.EntryLemmas.{length-push}
 
 nothing_dropped : {A : Type 0} (n : ℕ) → drop {A = A} n [] ≡ []
 nothing_dropped zero = refl
@@ -115,9 +117,9 @@ grows set h seat kind =
 
 pub adds_one : (old new : EndState) (kind : EntryKind) → KeepsAside old new → new.serving.table.entries ≡ adding old.serving.table.entries run_seat kind → IsOrderly old.serving
     → is_full old.serving.table.entries ≡ false → ((k : ℕ) → is_start_of k kind ≡ false) → ((k : ℕ) → is_finish_of k kind ≡ false) → ((k : ℕ) → is_replace_of k kind ≡ false)
-    → is_flush kind ≡ false → takes_room kind ≡ false → is_end_in kind ≡ false
+    → is_flush kind ≡ false → takes_room kind ≡ false → is_end_in kind ≡ false → length (effect_of old.serving.table.setting (deeds old.serving) kind).says ≤ 1
     → ClientAdds old.serving (adding old.serving.table.entries run_seat kind) new.serving
-adds_one old new kind aside adds orderly free start finish replace flush room ends =
+adds_one old new kind aside adds orderly free start finish replace flush room ends one =
     subst (ClientAdds old.serving (adding old.serving.table.entries run_seat kind)) (sym (entered_is old new run_seat kind aside adds))
     (let set = old.serving.table.setting in
     let h = old.serving.table.entries in
@@ -129,6 +131,7 @@ adds_one old new kind aside adds orderly free start finish replace flush room en
       refused = refl;
       input = enter.input ∙ ap (λ b. b || input_ended (deeds old.serving)) ends;
       calls = grows set h run_seat kind;
+      waiting = omega (arith, few_more old.serving run_seat kind 1 flush one, length-push h (entry_by run_seat kind));
       kept = λ items events k. record {
         orderly = enter.orderly;
         room = within_adding h run_seat kind k.room free;
@@ -147,6 +150,7 @@ adds_none s orderly = record {
   refused = refl;
   input = refl;
   calls = omega arith;
+  waiting = omega arith;
   kept = λ items events k. k;
 }
 
@@ -159,6 +163,7 @@ adds_then a b c first more one two = record {
   refused = two.refused ∙ one.refused;
   input = two.input ∙ one.input;
   calls = omega (arith, one.calls, two.calls);
+  waiting = omega (arith, one.waiting, two.waiting);
   kept = λ items events k. two.kept items events (one.kept items events k);
 }
   where
@@ -316,3 +321,17 @@ stops_by_work k w command now mid begins begun b setting at stops =
     (subst (λ m. ClientStops client_setting m (all_added (starts k w command).adds w.client) (task_under (Some (starts k w command).under))) (sym at)
     (subst (λ u. ClientStops client_setting now (all_added (starts k w command).adds w.client) (task_under (Some u))) b.under
     (subst (λ h. ClientStops client_setting now h (task_under (Some (under_of begins)))) b.added stops)))
+
+-- So few entries were added, and so few items wait then.
+
+added_length : (kinds : List EntryKind) (h : List Entry) → length (all_added kinds h) ≡ length h + length kinds
+added_length [] h = omega arith
+added_length (kind ∷ kinds) h = omega (arith, added_length kinds (adding h run_seat kind), length-push h (entry_by run_seat kind))
+
+pub few_added : (old new : Serving) (kinds : List EntryKind) → ClientAdds old (all_added kinds old.table.entries) new
+    → items_waiting (deeds new) ≤ items_waiting (deeds old) + length kinds
+few_added old new kinds adds = omega (arith, adds.waiting, ap length adds.added, added_length kinds old.table.entries)
+
+pub messages_length : (c : ℕ) (bytes : List ℕ) → length (message_kinds c bytes) ≡ length bytes
+messages_length c [] = refl
+messages_length c (x ∷ bytes) = ap suc (messages_length c bytes)

@@ -1,5 +1,5 @@
 -- A command starts at the client.
-use Rattle.std.specs.Prelude.{◌≡◌, ℕ, ◌≤◌, List, [], ◌∷◌, codes, map, Option, Some}
+use Rattle.std.specs.Prelude.{◌≡◌, ℕ, ◌+◌, ◌≤◌, List, [], ◌∷◌, codes, length, map, Option, Some}
 use Rattle.link_script.specs.declared.command.Command.{Command}
 use Rattle.link_script.specs.declared.command.Command.TheVariants.{Close}
 use Rattle.link_script.specs.Script.{IsCommand}
@@ -11,7 +11,7 @@ use Rattle.rpc_journal.specs.declared.entry.EntryKind.{EntryKind}
 use Rattle.rpc_journal.specs.declared.entry.EntryKind.TheVariants.{Say}
 use Rattle.rpc_journal.specs.declared.item.Item.{Item}
 use Rattle.rpc_journal.specs.Calls.{call_count}
-use Rattle.rpc_journal.specs.Items.{input_ended}
+use Rattle.rpc_journal.specs.Items.{input_ended, items_waiting}
 use Rattle.rpc_schedule.specs.Serving.{Serving, deeds}
 use Rattle.rpc_schedule.specs.Settling.{IsOrderly}
 use Rattle.transfer_base.specs.declared.tuning.Tuning.{Tuning}
@@ -56,7 +56,7 @@ pub record Begins (k : Setup) (w : World) (command : Command) (after : List Entr
   pub under : under_of way ≡ (starts k w command).under
   pub sessions : begun ≡ (starts k w command).sessions
 
--- entries of the owner were added, and these stand there then
+-- entries of the owner were added, and these stand there then; each has put one item at most behind those that wait
 pub record ClientAdds (old : Serving) (entries : List Entry) (new : Serving) : Type 0 where
   pub added : new.table.entries ≡ entries
   pub orderly : IsOrderly new
@@ -64,6 +64,7 @@ pub record ClientAdds (old : Serving) (entries : List Entry) (new : Serving) : T
   pub refused : new.refused ≡ old.refused
   pub input : input_ended (deeds new) ≡ input_ended (deeds old)
   pub calls : call_count (deeds old) ≤ call_count (deeds new)
+  pub waiting : items_waiting (deeds new) + length old.table.entries ≤ items_waiting (deeds old) + length new.table.entries
   pub kept : (items : List Item) (events : List (ℕ × Event)) → IsKept old items events → IsKept new items events
 
 -- what a transfer adds, and its call, by the live calls of its method

@@ -7,6 +7,7 @@ ghost use Rattle.rpc_ids.specs.declared.method.Role.TheVariants.{Client as clien
 ghost use Rattle.rpc_journal.specs.declared.entry.EntryKind.TheVariants.{Done, Say};
 ghost use Rattle.rpc_journal.specs.Calls.{call_count};
 ghost use Rattle.rpc_journal.specs.History.{adding};
+ghost use Rattle.rpc_journal.specs.Items.{items_waiting};
 ghost use Rattle.rpc_schedule.specs.Schedule.{run_seat};
 ghost use Rattle.rpc_schedule.specs.Serving.{deeds};
 ghost use Rattle.rpc_schedule.specs.Settling.{IsOrderly};
@@ -46,6 +47,7 @@ pub(crate) fn ask_call(
     ensures call { IfOk result (λ c. c ≡ call_count (deeds client.old.serving)) }
     ensures there { IfOk result (λ c. c < call_count (deeds client.new.serving)) }
     ensures adds { OnOk result (ClientAdds client.old.serving (adding client.old.serving.table.entries run_seat (opens_with demo_id (method_id plain) payload (deeds client.old.serving))) client.new.serving) }
+    ensures few { OnOk result (items_waiting (deeds client.new.serving) ≤ items_waiting (deeds client.old.serving) + 1) }
     ensures full { IfErr result (λ why. why ≡ Stopped.Journal → is_full client.old.serving.table.entries ≡ true) }
     ensures fed { (bytes : List ℕ) → WasFed client_role client.old bytes → WasFed client_role client.new bytes }
 {
@@ -64,6 +66,7 @@ pub(crate) fn ask_stream(
     ensures call { IfOk result (λ c. c ≡ call_count (deeds client.old.serving)) }
     ensures there { IfOk result (λ c. c < call_count (deeds client.new.serving)) }
     ensures adds { IfOk result (λ c. ClientAdds client.old.serving (all_added (opens_with demo_id (method_id plain) [] (deeds client.old.serving) ∷ (message_kinds c bytes.now ++ Done c ∷ [])) client.old.serving.table.entries) client.new.serving) }
+    ensures few { OnOk result (items_waiting (deeds client.new.serving) ≤ items_waiting (deeds client.old.serving) + (length bytes.now + 2)) }
     ensures full { IfErr result (λ why. why ≡ Stopped.Journal → adding_stops (opens_with demo_id (method_id plain) [] (deeds client.old.serving) ∷ (message_kinds (call_count (deeds client.old.serving)) bytes.now ++ Done (call_count (deeds client.old.serving)) ∷ [])) client.old.serving.table.entries ≡ true) }
     ensures fed { (bytes : List ℕ) → WasFed client_role client.old bytes → WasFed client_role client.new bytes }
 {
@@ -94,6 +97,7 @@ pub(crate) fn transfer_call(
     ensures call { IfOk result (λ c. c ≡ call_by (live_transfers method (deeds client.old.serving)) (call_count (deeds client.old.serving))) }
     ensures there { IfOk result (λ c. c < call_count (deeds client.new.serving)) }
     ensures adds { OnOk result (ClientAdds client.old.serving (all_added (adds_by (live_transfers method (deeds client.old.serving)) (opens_with transfer_id method [] (deeds client.old.serving))) client.old.serving.table.entries) client.new.serving) }
+    ensures few { OnOk result (items_waiting (deeds client.new.serving) ≤ items_waiting (deeds client.old.serving) + 1) }
     ensures full { IfErr result (λ why. why ≡ Stopped.Journal → adding_stops (adds_by (live_transfers method (deeds client.old.serving)) (opens_with transfer_id method [] (deeds client.old.serving))) client.old.serving.table.entries ≡ true) }
     ensures fed { (bytes : List ℕ) → WasFed client_role client.old bytes → WasFed client_role client.new bytes }
 {
@@ -119,6 +123,7 @@ fn open(
     ensures call { IfOk result (λ c. c ≡ call_count (deeds client.old.serving)) }
     ensures there { IfOk result (λ c. c < call_count (deeds client.new.serving)) }
     ensures adds { OnOk result (ClientAdds client.old.serving (adding client.old.serving.table.entries run_seat (opens_with service method payload (deeds client.old.serving))) client.new.serving) }
+    ensures few { OnOk result (items_waiting (deeds client.new.serving) ≤ items_waiting (deeds client.old.serving) + 1) }
     ensures full { IfErr result (λ why. why ≡ Stopped.Journal → is_full client.old.serving.table.entries ≡ true) }
     ensures fed { (bytes : List ℕ) → WasFed client_role client.old bytes → WasFed client_role client.new bytes }
 {

@@ -4,7 +4,7 @@ ghost use Rattle.rpc_ids.specs.declared.method.Role.TheVariants.{Client as clien
 ghost use Rattle.rpc_journal.specs.declared.entry.EntryKind.TheVariants.{Cancel, EndIn};
 ghost use Rattle.rpc_journal.specs.Calls.{call_count, end_of};
 ghost use Rattle.rpc_journal.specs.History.{adding};
-ghost use Rattle.rpc_journal.specs.Items.{items_flushed};
+ghost use Rattle.rpc_journal.specs.Items.{items_flushed, items_waiting};
 ghost use Rattle.rpc_journal.specs.Lawful.{IsLegal};
 ghost use Rattle.rpc_schedule.specs.Schedule.{input_seat, run_seat};
 ghost use Rattle.rpc_schedule.specs.Serving.{deeds};
@@ -210,7 +210,8 @@ impl ClientEnd {
 
     // Does its work while no task speaks.
     fn work_alone(&mut self, now: u64, wires: &mut Wires) -> Result<(), Stopped>
-        requires { IsKept self.old.end.serving self.old.items self.old.events }
+        requires few { items_waiting (deeds self.old.end.serving) < 65536 }
+        requires kept { IsKept self.old.end.serving self.old.items self.old.events }
         ensures kept { OnOk result (IsKept self.new.end.serving self.new.items self.new.events) }
         ensures settled { OnOk result (Settled now self.old.end.serving None self.new.end.serving None) }
         ensures fed { OnOk result ((fed : List ℕ) → WasFed client_role self.old.end fed → WasFed client_role self.new.end fed) }
@@ -227,6 +228,7 @@ impl ClientEnd {
         under: &mut Option<Under>,
         wires: &mut Wires,
     ) -> Result<(), Stopped>
+        requires few { items_waiting (deeds self.old.end.serving) < 65536 }
         requires kept { IsKept self.old.end.serving self.old.items self.old.events }
         requires attends { Attends self.old under.old now }
         ensures kept { OnOk result (IsKept self.new.end.serving self.new.items self.new.events) }

@@ -4,6 +4,7 @@ ghost use Rattle.link_io.specs.Resources.{found};
 ghost use Rattle.link_script.specs.declared.command.Command.TheVariants.{Read, Write};
 ghost use Rattle.rpc_ids.specs.declared.method.Role.TheVariants.{Client as client_role};
 ghost use Rattle.rpc_journal.specs.Calls.{call_count};
+ghost use Rattle.rpc_journal.specs.Items.{items_waiting};
 ghost use Rattle.rpc_schedule.specs.Serving.{deeds};
 ghost use Rattle.rpc_schedule.specs.Settling.{IsOrderly};
 ghost use Rattle.rpc_schedule.specs.ends.EndState.{WasFed};
@@ -48,6 +49,7 @@ pub(crate) fn begin(
     ensures adds { OnOk result (ClientAdds client.old.serving client.new.serving.table.entries client.new.serving) }
     ensures there { IfOk result (λ way. IfSome (call_seen (Some way)) (λ c. c < call_count (deeds client.new.serving))) }
     ensures unpolled { IfOk result (λ way. last_poll (Some way) ≡ 0) }
+    ensures few { OnOk result (items_waiting (deeds client.new.serving) ≤ items_waiting (deeds client.old.serving) + 8002) }
     ensures full { IfErr result (λ why. why ≡ Stopped.Journal → (k : Setup) (w : World) (at : ℕ) → IsClientOf k w (record { end = client.old; stored = store.now; items = []; events = [] }) sessions.old tuning at → adding_stops (starts k w (command.now)).adds w.client ≡ true) }
     ensures fed { OnOk result ((bytes : List ℕ) → WasFed client_role client.old bytes → WasFed client_role client.new bytes) }
 {
@@ -107,6 +109,7 @@ fn begin_read(
     ensures adds { OnOk result (ClientAdds client.old.serving client.new.serving.table.entries client.new.serving) }
     ensures there { IfOk result (λ way. IfSome (call_seen (Some way)) (λ c. c < call_count (deeds client.new.serving))) }
     ensures unpolled { IfOk result (λ way. last_poll (Some way) ≡ 0) }
+    ensures few { OnOk result (items_waiting (deeds client.new.serving) ≤ items_waiting (deeds client.old.serving) + 1) }
     ensures full { IfErr result (λ why. why ≡ Stopped.Journal → (k : Setup) (w : World) (at : ℕ) → IsClientOf k w (record { end = client.old; stored = store.now; items = []; events = [] }) sessions.old tuning at → adding_stops (starts k w (Read resource offset)).adds w.client ≡ true) }
     ensures fed { OnOk result ((bytes : List ℕ) → WasFed client_role client.old bytes → WasFed client_role client.new bytes) }
 {
@@ -141,6 +144,7 @@ fn begin_write(
     ensures adds { OnOk result (ClientAdds client.old.serving client.new.serving.table.entries client.new.serving) }
     ensures there { IfOk result (λ way. IfSome (call_seen (Some way)) (λ c. c < call_count (deeds client.new.serving))) }
     ensures unpolled { IfOk result (λ way. last_poll (Some way) ≡ 0) }
+    ensures few { OnOk result (items_waiting (deeds client.new.serving) ≤ items_waiting (deeds client.old.serving) + 1) }
     ensures full { IfErr result (λ why. why ≡ Stopped.Journal → (k : Setup) (w : World) (at : ℕ) → IsClientOf k w (record { end = client.old; stored = store.now; items = []; events = [] }) sessions.old tuning at → adding_stops (starts k w (Write resource offset)).adds w.client ≡ true) }
     ensures fed { OnOk result ((bytes : List ℕ) → WasFed client_role client.old bytes → WasFed client_role client.new bytes) }
 {

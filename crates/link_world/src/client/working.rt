@@ -4,7 +4,7 @@ ghost use Rattle.link_io.specs.Stored.{Stored};
 ghost use Rattle.rpc_handlers.specs.Limits.{is_long_out};
 ghost use Rattle.rpc_ids.specs.declared.method.Role.TheVariants.{Client as client_role};
 ghost use Rattle.rpc_journal.specs.Calls.{call_count};
-ghost use Rattle.rpc_journal.specs.Items.{items_flushed};
+ghost use Rattle.rpc_journal.specs.Items.{items_flushed, items_waiting};
 ghost use Rattle.rpc_journal.specs.Refusals.{is_full};
 ghost use Rattle.rpc_schedule.specs.Kept.{Holds};
 ghost use Rattle.rpc_schedule.specs.Serving.{deeds};
@@ -77,6 +77,7 @@ pub(crate) fn settle(
     now: u64,
     wires: &mut Wires,
 ) -> Result<(), Stopped>
+    requires few { items_waiting (deeds client.old.serving) < 65536 }
     requires kept { IsKept client.old.serving items.old.items events.old.items }
     requires there { IfSome (call_seen under.old) (λ c. c < call_count (deeds client.old.serving)) }
     requires past { last_poll under.old ≤ now }
@@ -93,9 +94,8 @@ pub(crate) fn settle(
         Ok(()) => {}
         Err(refused) => return Err(Stopped::from(refused)),
     }
-    if !client.idle() {
-        return Err(Stopped::Memory);
-    }
+    // Its journal is legal and so few items wait that each call with an event is ready: none has one now.
+    let _legal = client.calls();
     match speak(client, &events.as_slice()[from..], under, now) {
         Ok(()) => {}
         Err(stopped) => return Err(stopped),

@@ -54,7 +54,11 @@ impl Model for ServerEnd {
 
 impl ServerEnd {
     /// A server without a call, whose transfers are of what the store lists now.
-    pub fn new(alloc: Global, mut store: WorldStore, tuning: Tuning) -> Result<ServerEnd, AllocError>
+    pub fn new(
+        alloc: Global,
+        mut store: WorldStore,
+        tuning: Tuning,
+    ) -> Result<ServerEnd, AllocError>
         ensures setting { IfOk result (λ s. s.end.serving.table.setting ≡ server_setting store tuning.window tuning.chunk) }
         ensures rest { IfOk result ServerRests }
         ensures begins { IfOk result (λ s. (s.end.serving.table.entries ≡ []) × (s.stored ≡ store) × (s.items ≡ [])) }

@@ -11,6 +11,8 @@ use Rattle.link_laws.specs.world.Limits.{adding_stops}
 use Rattle.link_laws.specs.world.Starts.{all_added, opens_with}
 use Rattle.link_world.specs.client.Asking.{ClientAdds, message_kinds, method_id}
 use Rattle.link_world.proofs.client.AskLemmas.{adds_then, stops_after, stops_first}
+use Rattle.std.proofs.Common.{arith}
+use Rattle.link_world.proofs.client.AskLemmas.{few_added, messages_length}
 use Rattle.link_world.proofs.client.asking.ask_stream.Goals as goal
 
 pub returns-in-Ok-complete-clause-adds : goal.returns-in-Ok-complete-clause-adds
@@ -48,3 +50,13 @@ returns-in-Err-complete-clause-full c = λ is.
     ∙ ap (λ k. all_added (message_kinds k c.args.bytes.now) (adding old.table.entries run_seat opening)) c.in-Ok.ensures.call) in
     stops_after (opening ∷ message_kinds n c.args.bytes.now) (Done n ∷ []) old.table.entries
     (or_left (is_full (all_added (opening ∷ message_kinds n c.args.bytes.now) old.table.entries)) false (subst (λ h. is_full h ≡ true) said (c.in-Err-complete.ensures.full is)))
+
+pub returns-in-Ok-complete-clause-few : goal.returns-in-Ok-complete-clause-few
+returns-in-Ok-complete-clause-few c =
+    omega (
+      arith,
+      c.in-Ok.ensures.few,
+      messages_length c.in-Ok.call c.args.bytes.now,
+      few_added c.ask_call.new.client.serving c.send_all.new.client.serving (message_kinds c.in-Ok.call c.args.bytes.now) c.in-Ok-send_all.ensures.adds,
+      few_added c.send_all.new.client.serving c.complete.new.client.serving (Done c.in-Ok.call ∷ []) c.in-Ok-complete.ensures.adds,
+    )

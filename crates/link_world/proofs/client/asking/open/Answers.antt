@@ -12,6 +12,10 @@ use Rattle.link_world.proofs.server.RestLemmas.{entered_is}
 use Rattle.link_world.specs.client.Asking.{ClientAdds}
 use Rattle.link_world.proofs.client.AskLemmas.{adds_one, invoke_full, invoked_there}
 use Rattle.link_world.proofs.RoomLemmas.{invoked_unfull}
+use Rattle.link_world.proofs.client.IdleLemmas.{invoke_says}
+use Rattle.std.proofs.Common.{[], ◌∷◌}
+use Rattle.link_laws.specs.world.Starts.{opens_with}
+use Rattle.link_world.proofs.client.AskLemmas.{few_added}
 use Rattle.link_world.proofs.client.asking.open.Goals as goal
 
 pub returns-in-Ok-clause-there : goal.returns-in-Ok-clause-there
@@ -31,10 +35,16 @@ returns-in-Ok-clause-adds c =
     subst (λ n. ClientAdds old.serving (adding old.serving.table.entries run_seat (Invoke (request (record { channel = 1; service = c.args.service; method = c.args.method; call = n }) c.args.payload) empty_memo)) c.invoke.new.self.serving) id
     (adds_one old c.invoke.new.self (Invoke (request (record { channel = 1; service = c.args.service; method = c.args.method; call = c.in-Some.id }) c.args.payload) empty_memo)
     c.in-Ok.ensures.aside c.in-Ok.ensures.did.adds c.requires.orderly
-    (invoked_unfull old.serving.table.setting old.serving.table.entries (record { channel = 1; service = c.args.service; method = c.args.method; call = c.in-Some.id }) c.in-Ok.ensures.did.unrefused) (λ k. refl) (λ k. refl) (λ k. refl) refl refl refl)
+    (invoked_unfull old.serving.table.setting old.serving.table.entries (record { channel = 1; service = c.args.service; method = c.args.method; call = c.in-Some.id }) c.in-Ok.ensures.did.unrefused) (λ k. refl) (λ k. refl) (λ k. refl) refl refl refl (invoke_says old.serving.table.setting (deeds old.serving) (request (record { channel = 1; service = c.args.service; method = c.args.method; call = c.in-Some.id }) c.args.payload) empty_memo))
 
 pub returns-in-Err-default-JournalFull-clause-full : goal.returns-in-Err-default-JournalFull-clause-full
 returns-in-Err-default-JournalFull-clause-full c = λ same.
     invoke_full c.args.client.now.serving.table.setting c.args.client.now.serving.table.entries
     (record { channel = 1; service = c.args.service; method = c.args.method; call = c.in-Some.id }) c.in-Err-default-JournalFull.field-0-1
     c.in-Err-default-JournalFull.field-0-1-is c.in-Err-default-JournalFull.ensures.did.cause
+
+pub returns-in-Ok-clause-few : goal.returns-in-Ok-clause-few
+returns-in-Ok-clause-few c =
+    let old = c.args.client.now.serving in
+    let kind = opens_with c.args.service c.args.method c.args.payload (deeds old) in
+    few_added old c.invoke.new.self.serving (kind ∷ []) (returns-in-Ok-clause-adds c)

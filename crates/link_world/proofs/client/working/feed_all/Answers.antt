@@ -13,6 +13,7 @@ use Rattle.link_world.specs.client.Underway.{call_seen}
 use Rattle.link_world.specs.client.Working.{IsKept, TakesMore}
 use Rattle.link_world.proofs.client.ArriveLemmas.{fed_calls, fed_kept, fed_packet, fed_rests, fed_same, fed_takes, there_still}
 use Rattle.link_world.proofs.client.StopLemmas.{packet_stops, work_stops}
+use Rattle.link_world.proofs.client.IdleLemmas.{few_fed}
 use Rattle.link_world.proofs.client.working.feed_all.Goals as goal
 
 pub settle-requires-clause-kept : goal.settle-requires-clause-kept
@@ -104,3 +105,13 @@ returns-in_err-settle-clause-full c =
     (c.in_ok-done.ensures.fed.fed _ (c.frames.invariant.fed bytes stood)) in
     work_stops c.args.now c.args.client.now.serving c.args.under.now old c.frames.under bytes c.args.frame.now (c.frames.done + count)
     stood.packets c.requires.rest.accepts c.frames.invariant.takes mid fed.packets c.frames.invariant.rest.accepts packet (c.in_err-settle.ensures.full journal))
+
+pub settle-requires-clause-few : goal.settle-requires-clause-few
+settle-requires-clause-few c =
+    let old = c.frames.client.serving in
+    let mid = c.feed.new.self.serving in
+    let was : c.len-count.result ≡ length old.table.entries =
+    c.len-count.ensures.len ∙ ap length (c.journal.ensures.entries ∙ ap (λ (t : Table). t.entries) c.calls.ensures.table) in
+    let is : c.len.result ≡ length mid.table.entries =
+    c.len.ensures.len ∙ ap length (c.journal-in-frames.ensures.entries ∙ ap (λ (t : Table). t.entries) c.calls-in-frames.ensures.table) in
+    few_fed old mid c.frames.invariant.rest (fed_packet old mid c.in_ok-done.field-0 c.in_ok-done.ensures.step (omega (arith, was, is, c.if-count-len.true)))

@@ -1,4 +1,4 @@
-use Rattle.std.proofs.Common.{◌≡◌, ◌∙◌, IfErr, None, ap, refl, sym, subst}
+use Rattle.std.proofs.Common.{◌≡◌, ◌∙◌, ◌<◌, IfErr, None, ap, refl, sym, subst}
 use Rattle.rpc_journal.specs.declared.entry.EntryKind.TheVariants.{Cancel}
 use Rattle.rpc_journal.specs.Calls.{end_of}
 use Rattle.rpc_journal.specs.History.{adding}
@@ -12,10 +12,12 @@ use Rattle.link_world.proofs.server.OutLemmas.{on_ok_one}
 use Rattle.link_world.specs.client.ClientSide.{ClientRests, ClientState}
 use Rattle.link_world.specs.client.Working.{IsKept}
 use Rattle.link_world.proofs.client.EndLemmas.{cancel_opens, cancelled_is, entered_kept, kept_by, settles_alone}
+use Rattle.rpc_journal.specs.Items.{items_waiting}
+use Rattle.link_world.proofs.client.IdleLemmas.{few_cancelled}
 use Rattle.link_world.proofs.client.client_end.ClientEnd.cancel.Goals as goal
 
-pub work_alone-requires : goal.work_alone-requires
-work_alone-requires c =
+pub work_alone-requires-clause-kept : goal.work_alone-requires-clause-kept
+work_alone-requires-clause-kept c =
     let before : ClientState = record { end = c.self.inside.client; stored = c.self.inside.store; items = c.self.inside.items.items; events = c.self.inside.events.items } in
     let rest : ClientRests before = subst ClientRests (sym c.self.view_is) c.requires.rest in
     let is = cancelled_is quiet_rule c.self.inside.client c.cancel.new.self c.args.call c.cancel.result c.cancel.ensures.did c.cancel.ensures.aside c.calls-legal.ensures.legal
@@ -46,3 +48,11 @@ returns-clause-full c =
     let entries : c.cancel.new.self.serving.table.entries ≡ adding c.args.self.now.end.serving.table.entries run_seat (Cancel c.args.call) =
     ap (λ (s : Serving). s.table.entries) is ∙ ap (λ (s : ClientState). adding s.end.serving.table.entries run_seat (Cancel c.args.call)) c.self.view_is in
     subst (λ h. IfErr c.work_alone.result (λ why. why ≡ Journal → ClientStops client_setting c.args.now h None)) entries c.work_alone.ensures.full
+
+pub work_alone-requires-clause-few : goal.work_alone-requires-clause-few
+work_alone-requires-clause-few c =
+    let before : ClientState = record { end = c.self.inside.client; stored = c.self.inside.store; items = c.self.inside.items.items; events = c.self.inside.events.items } in
+    let rest : ClientRests before = subst ClientRests (sym c.self.view_is) c.requires.rest in
+    let is = cancelled_is quiet_rule c.self.inside.client c.cancel.new.self c.args.call c.cancel.result c.cancel.ensures.did c.cancel.ensures.aside c.calls-legal.ensures.legal
+    (subst (λ (s : ClientState). end_of (deeds s.end.serving) c.args.call ≡ None) (sym c.self.view_is) c.requires.open) in
+    subst (λ (s : Serving). items_waiting (deeds s) < 65536) (sym is) (few_cancelled c.self.inside.client.serving run_seat c.args.call rest.resting)

@@ -2,6 +2,8 @@ use Rattle.std.proofs.Common.{◌∙◌, Some, ap, inl, inr, sym, subst}
 use Rattle.link_world.specs.client.ClientSide.{ClientRests, ClientState, ClientWorks}
 use Rattle.link_world.proofs.client.AskLemmas.{asks_by, stops_by_work}
 use Rattle.link_world.proofs.client.EndLemmas.{kept_by}
+use Rattle.std.proofs.Common.{◌<◌, arith}
+use Rattle.link_world.proofs.client.IdleLemmas.{few_at_rest}
 use Rattle.link_world.proofs.client.client_end.ClientEnd.start.Goals as goal
 
 pub work-requires-clause-kept : goal.work-requires-clause-kept
@@ -49,3 +51,9 @@ returns-in-Err-work-clause-full c = λ full k w is.
       moment = is.moment;
     }) in
     inr (stops_by_work k w c.args.command.now c.args.now c.begin-begun.new.client.serving.table.entries c.in-Ok.way c.begin-begun.new.sessions begins is.setting is.moment (c.in-Err-work.ensures.full full))
+
+pub work-requires-clause-few : goal.work-requires-clause-few
+work-requires-clause-few c =
+    let before : ClientState = record { end = c.self.inside.client; stored = c.self.inside.store; items = c.self.inside.items.items; events = c.self.inside.events.items } in
+    let rest : ClientRests before = subst ClientRests (sym c.self.view_is) c.requires.rest in
+    omega (arith, few_at_rest c.self.inside.client.serving rest.resting.over.none_waits, c.in-Ok.ensures.few)
