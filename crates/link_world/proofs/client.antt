@@ -9,4 +9,5 @@ mod ArriveLemmas
 mod StopLemmas
 mod EndLemmas
 mod IdleLemmas
+mod SpeakLemmas
 mod AskLemmas

@@ -1,5 +1,5 @@
 -- A command starts at the client.
-use Rattle.std.specs.Prelude.{◌≡◌, ℕ, ◌+◌, ◌≤◌, List, [], ◌∷◌, codes, length, map, Option, Some}
+use Rattle.std.specs.Prelude.{◌≡◌, ℕ, ◌+◌, ◌≤◌, List, [], ◌∷◌, codes, length, map, Bool, true, false, Option, Some}
 use Rattle.link_script.specs.declared.command.Command.{Command}
 use Rattle.link_script.specs.declared.command.Command.TheVariants.{Close}
 use Rattle.link_script.specs.Script.{IsCommand}
@@ -11,7 +11,10 @@ use Rattle.rpc_journal.specs.declared.entry.EntryKind.{EntryKind}
 use Rattle.rpc_journal.specs.declared.entry.EntryKind.TheVariants.{Say}
 use Rattle.rpc_journal.specs.declared.item.Item.{Item}
 use Rattle.rpc_journal.specs.Calls.{call_count}
+use Rattle.rpc_journal.specs.Effect.{Opening}
 use Rattle.rpc_journal.specs.Items.{input_ended, items_waiting}
+use Rattle.rpc_journal.specs.Kinds.{streams_up}
+use Rattle.link_laws.specs.one_run.Speaking.{IsSpeaking}
 use Rattle.rpc_schedule.specs.Serving.{Serving, deeds}
 use Rattle.rpc_schedule.specs.Settling.{IsOrderly}
 use Rattle.transfer_base.specs.declared.tuning.Tuning.{Tuning}
@@ -66,6 +69,18 @@ pub record ClientAdds (old : Serving) (entries : List Entry) (new : Serving) : T
   pub calls : call_count (deeds old) ≤ call_count (deeds new)
   pub waiting : items_waiting (deeds new) + length old.table.entries ≤ items_waiting (deeds old) + length new.table.entries
   pub kept : (items : List Item) (events : List (ℕ × Event)) → IsKept old items events → IsKept new items events
+
+-- the call has a stream of this client, which is open
+pub record CanSpeak (s : Serving) (c : ℕ) : Type 0 where
+  pub opening : Opening
+  pub speaks : IsSpeaking (deeds s) c opening
+  pub streams : streams_up opening.method.kind ≡ true
+
+-- the method has such a stream
+abbrev pub has_stream : Plain → Bool
+has_stream plain.Sum = true
+has_stream plain.Chat = true
+has_stream _ = false
 
 -- what a transfer adds, and its call, by the live calls of its method
 abbrev pub adds_by : List ℕ → EntryKind → List EntryKind

@@ -1,8 +1,10 @@
 //! What the client adds as a command starts.
-ghost use Rattle.std.specs.Prelude.{◌≡◌, ◌≢◌, ℕ, ◌+◌, ◌<◌, ◌≤◌, ◌&&◌, ◌==◌, is_none, true, false, List, [], ◌∷◌, ◌++◌, length, slice_get, IfErr, IfOk, IfSome, OnOk};
+ghost use Rattle.std.specs.Prelude.{◌≡◌, ◌≢◌, ℕ, ◌+◌, ◌<◌, ◌≤◌, ◌&&◌, ◌==◌, is_none, true, false, List, [], ◌∷◌, ◌++◌, length, slice_get, IfErr, IfOk, IfSome, OnOk, Some};
 ghost use Rattle.demo_services.specs.Methods.{demo_id, transfer_id};
 ghost use Rattle.rpc_handlers.specs.Limits.{is_long, is_long_out};
+ghost use Rattle.rpc_handlers.specs.HandlerRule.{empty_memo};
 ghost use Rattle.rpc_ids.specs.Names.{name_id};
+ghost use Rattle.rpc_ids.specs.declared.method.MethodRef.{MethodRef};
 ghost use Rattle.rpc_ids.specs.declared.method.Role.TheVariants.{Client as client_role};
 ghost use Rattle.rpc_journal.specs.declared.entry.EntryKind.TheVariants.{Done, Say};
 ghost use Rattle.rpc_journal.specs.Calls.{call_count};
@@ -13,10 +15,12 @@ ghost use Rattle.rpc_schedule.specs.Serving.{deeds};
 ghost use Rattle.rpc_schedule.specs.Settling.{IsOrderly};
 ghost use Rattle.rpc_schedule.specs.ends.EndState.{WasFed};
 ghost use Rattle.rpc_journal.specs.Refusals.{is_full};
+ghost use Rattle.rpc_journal.specs.Rows.{method_named};
 ghost use Rattle.link_laws.specs.world.Limits.{adding_stops};
 ghost use Rattle.link_laws.specs.world.Setup.{client_setting};
-ghost use Rattle.link_laws.specs.world.Starts.{all_added, live_transfers, opens_with};
-ghost use Rattle.link_world.specs.client.Asking.{ClientAdds, adds_by, call_by, message_kinds, method_id};
+ghost use Rattle.link_laws.specs.world.Starts.{all_added, live_transfers, next_name, opens_with, request};
+ghost use Rattle.link_laws.specs.one_run.Speaking.{IsSpeaking, opening_by};
+ghost use Rattle.link_world.specs.client.Asking.{CanSpeak, ClientAdds, adds_by, call_by, has_stream, message_kinds, method_id};
 
 use crate::client::quiet::Quiet;
 use crate::client::under::Plain;
@@ -48,6 +52,7 @@ pub(crate) fn ask_call(
     ensures there { IfOk result (λ c. c < call_count (deeds client.new.serving)) }
     ensures adds { OnOk result (ClientAdds client.old.serving (adding client.old.serving.table.entries run_seat (opens_with demo_id (method_id plain) payload (deeds client.old.serving))) client.new.serving) }
     ensures few { OnOk result (items_waiting (deeds client.new.serving) ≤ items_waiting (deeds client.old.serving) + 1) }
+    ensures speaks { IfOk result (λ c. has_stream plain ≡ true → CanSpeak client.new.serving c) }
     ensures full { IfErr result (λ why. why ≡ Stopped.Journal → is_full client.old.serving.table.entries ≡ true) }
     ensures fed { (bytes : List ℕ) → WasFed client_role client.old bytes → WasFed client_role client.new bytes }
 {
@@ -63,6 +68,7 @@ pub(crate) fn ask_stream(
 ) -> Result<u32, Stopped>
     requires setting { client.old.serving.table.setting ≡ client_setting }
     requires orderly { IsOrderly client.old.serving }
+    requires streams { has_stream plain ≡ true }
     ensures call { IfOk result (λ c. c ≡ call_count (deeds client.old.serving)) }
     ensures there { IfOk result (λ c. c < call_count (deeds client.new.serving)) }
     ensures adds { IfOk result (λ c. ClientAdds client.old.serving (all_added (opens_with demo_id (method_id plain) [] (deeds client.old.serving) ∷ (message_kinds c bytes.now ++ Done c ∷ [])) client.old.serving.table.entries) client.new.serving) }
@@ -124,6 +130,7 @@ fn open(
     ensures there { IfOk result (λ c. c < call_count (deeds client.new.serving)) }
     ensures adds { OnOk result (ClientAdds client.old.serving (adding client.old.serving.table.entries run_seat (opens_with service method payload (deeds client.old.serving))) client.new.serving) }
     ensures few { OnOk result (items_waiting (deeds client.new.serving) ≤ items_waiting (deeds client.old.serving) + 1) }
+    ensures speaks { IfOk result (λ c. (m : MethodRef) → method_named client.old.serving.table.setting (next_name service method (deeds client.old.serving)) ≡ Some m → IsSpeaking (deeds client.new.serving) c (opening_by (request (next_name service method (deeds client.old.serving)) payload) m empty_memo)) }
     ensures full { IfErr result (λ why. why ≡ Stopped.Journal → is_full client.old.serving.table.entries ≡ true) }
     ensures fed { (bytes : List ℕ) → WasFed client_role client.old bytes → WasFed client_role client.new bytes }
 {
@@ -151,8 +158,11 @@ fn send_all(
     call: u32,
     bytes: &[u8],
 ) -> Result<(), Stopped>
+    requires setting { client.old.serving.table.setting ≡ client_setting }
     requires orderly { IsOrderly client.old.serving }
     requires there { call < call_count (deeds client.old.serving) }
+    requires speaks { CanSpeak client.old.serving call }
+    ensures speaks { OnOk result (CanSpeak client.new.serving call) }
     ensures adds { OnOk result (ClientAdds client.old.serving (all_added (message_kinds call bytes.now) client.old.serving.table.entries) client.new.serving) }
     ensures full { IfErr result (λ why. why ≡ Stopped.Journal → adding_stops (message_kinds call bytes.now) client.old.serving.table.entries ≡ true) }
     ensures fed { (bytes : List ℕ) → WasFed client_role client.old bytes → WasFed client_role client.new bytes }
@@ -171,6 +181,9 @@ fn send(client: &mut Client<Quiet>, call: u32, message: Bytes) -> Result<(), Sto
     requires orderly { IsOrderly client.old.serving }
     requires there { call < call_count (deeds client.old.serving) }
     requires short { is_long message ≡ false }
+    requires setting { client.old.serving.table.setting ≡ client_setting }
+    requires speaks { CanSpeak client.old.serving call }
+    ensures speaks { OnOk result (CanSpeak client.new.serving call) }
     ensures adds { OnOk result (ClientAdds client.old.serving (adding client.old.serving.table.entries run_seat (Say call (Out.Say message))) client.new.serving) }
     ensures full { IfErr result (λ why. why ≡ Stopped.Journal → is_full client.old.serving.table.entries ≡ true) }
     ensures fed { (bytes : List ℕ) → WasFed client_role client.old bytes → WasFed client_role client.new bytes }
@@ -178,7 +191,8 @@ fn send(client: &mut Client<Quiet>, call: u32, message: Bytes) -> Result<(), Sto
     match client.say(call, Out::Say(message)) {
         Ok(()) => Ok(()),
         Err(SayRefused::JournalFull) => Err(Stopped::Journal),
-        Err(_) => Err(Stopped::Memory),
+        Err(SayRefused::Memory) => Err(Stopped::Memory),
+        Err(_) => unreachable!(),
     }
 }
 
@@ -187,6 +201,7 @@ fn complete(client: &mut Client<Quiet>, call: u32) -> Result<(), Stopped>
     requires setting { client.old.serving.table.setting ≡ client_setting }
     requires orderly { IsOrderly client.old.serving }
     requires there { call < call_count (deeds client.old.serving) }
+    requires speaks { CanSpeak client.old.serving call }
     ensures adds { OnOk result (ClientAdds client.old.serving (adding client.old.serving.table.entries run_seat (Done call)) client.new.serving) }
     ensures full { IfErr result (λ why. why ≡ Stopped.Journal → is_full client.old.serving.table.entries ≡ true) }
     ensures fed { (bytes : List ℕ) → WasFed client_role client.old bytes → WasFed client_role client.new bytes }
@@ -194,7 +209,8 @@ fn complete(client: &mut Client<Quiet>, call: u32) -> Result<(), Stopped>
     match client.done(call) {
         Ok(()) => Ok(()),
         Err(SayRefused::JournalFull) => Err(Stopped::Journal),
-        Err(_) => Err(Stopped::Memory),
+        Err(SayRefused::Memory) => Err(Stopped::Memory),
+        Err(_) => unreachable!(),
     }
 }
 

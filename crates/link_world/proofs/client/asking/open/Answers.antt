@@ -16,6 +16,13 @@ use Rattle.link_world.proofs.client.IdleLemmas.{invoke_says}
 use Rattle.std.proofs.Common.{[], ◌∷◌}
 use Rattle.link_laws.specs.world.Starts.{opens_with}
 use Rattle.link_world.proofs.client.AskLemmas.{few_added}
+use Rattle.std.proofs.Common.{List}
+use Rattle.rpc_journal.specs.declared.entry.Entry.{Entry}
+use Rattle.rpc_journal.specs.declared.setting.Setting.{Setting}
+use Rattle.rpc_journal.specs.History.{history}
+use Rattle.link_laws.specs.one_run.Speaking.{IsSpeaking, opening_by}
+use Rattle.link_laws.specs.world.Starts.{next_name}
+use Rattle.link_laws.proofs.one_run.Speaking.{opened_speaks}
 use Rattle.link_world.proofs.client.asking.open.Goals as goal
 
 pub returns-in-Ok-clause-there : goal.returns-in-Ok-clause-there
@@ -48,3 +55,17 @@ returns-in-Ok-clause-few c =
     let old = c.args.client.now.serving in
     let kind = opens_with c.args.service c.args.method c.args.payload (deeds old) in
     few_added old c.invoke.new.self.serving (kind ∷ []) (returns-in-Ok-clause-adds c)
+
+pub returns-in-Ok-clause-speaks : goal.returns-in-Ok-clause-speaks
+returns-in-Ok-clause-speaks c = λ m is.
+    let old = c.args.client.now.serving in
+    let new = c.invoke.new.self.serving in
+    let set = old.table.setting in
+    let h = old.table.entries in
+    let adds = returns-in-Ok-clause-adds c in
+    let p = request (next_name c.args.service c.args.method (deeds old)) c.args.payload in
+    let o = opening_by p m empty_memo in
+    subst (λ n. IsSpeaking (deeds new) n o) (sym c.in-Ok.ensures.did.answer)
+    (subst (λ (s : Setting). IsSpeaking (history s new.table.entries) (call_count (history set h)) o) (sym adds.setting)
+    (subst (λ (entries : List Entry). IsSpeaking (history set entries) (call_count (history set h)) o) (sym adds.added)
+    (opened_speaks set h run_seat p empty_memo m is refl)))

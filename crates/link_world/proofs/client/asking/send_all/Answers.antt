@@ -17,6 +17,7 @@ bytes-preserved c =
           (sym (kinds_more c.args.call bytes i c.bytes-test.true c.in_ok-copy_from_slice.field-0 c.in_ok-copy_from_slice.ensures))
           (adds_then c.args.client.now.serving c.bytes.client.serving c.send.new.client.serving (message_kinds c.args.call (take i bytes)) (Say c.args.call (Message c.in_ok-copy_from_slice.field-0) ∷ [])
           c.bytes.invariant.adds c.in-Ok.ensures.adds);
+      speaks = c.in-Ok.ensures.speaks;
       fed = λ fed was. c.send.ensures.fed fed (c.bytes.invariant.fed fed was);
     }
 
