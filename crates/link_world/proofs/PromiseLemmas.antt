@@ -75,7 +75,7 @@ losses_end_well script (Ok outcome) is r =
     record {
       run = r.run;
       holds = λ few drops. record {
-        well = λ spared number command there. lossy_runs_end_well script r.run.now number command is drops spared r.run.run few r.server r.client there;
+        well = λ number command spared there. lossy_runs_end_well script r.run.now number command is drops spared r.run.run few r.server r.client there;
         in_time = λ number command spared there. next_ends_in_time script r.run.now number command is drops spared r.run.run few r.server r.client there;
       };
     }

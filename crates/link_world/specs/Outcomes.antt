@@ -1,5 +1,5 @@
 -- What is told of the run of a script.
-use Rattle.std.specs.Prelude.{◌≡◌, ℕ, ◌+◌, List, slice_get, Some, string_bytes}
+use Rattle.std.specs.Prelude.{◌≡◌, ℕ, suc, ◌+◌, List, slice_get, Some, string_bytes}
 use Rattle.link_script.specs.declared.command.Command.{Command}
 use Rattle.link_script.specs.declared.script.Script.{Script}
 use Rattle.link_script.specs.text.Report.{report_text}
@@ -10,7 +10,7 @@ use Rattle.link_laws.specs.world.Turns.{Turned}
 use Rattle.link_laws.specs.world.World.{Setup, World, client_store, server_store}
 use Rattle.link_laws.specs.plain_calls.Ended.{EndsSoon, HasEnded}
 use Rattle.link_laws.specs.dropped_transfer.Dropped.{DropsChunks}
-use Rattle.link_laws.specs.dropped_transfer.Rounds.{AreSpared, AreSparedBefore}
+use Rattle.link_laws.specs.dropped_transfer.Rounds.{AreSparedBefore}
 use Rattle.link_laws.specs.dropped_scripts.Losses.{HasEndedInRun}
 use Rattle.link_laws.specs.one_run.InOrder.{HasAllArrived}
 use Rattle.link_laws.specs.lossless_scripts.Lossless.{EndsAs, chunks_of}
@@ -69,10 +69,10 @@ AllArrive k commands now = HasAllArrived k now
 
 -- over a link that drops chunks
 pub record EndsOverDrops (k : Setup) (commands : List Command) (now : World) : Type 0 where
-  -- WITH ONE CLEAN ROUND IN FOUR ALL STILL ENDS WELL: where of each transfer one of the first four rounds loses no chunk, or three chunks
-  -- are lost at most, each command has come to its line, and each transfer whose resource is there to a line with OK, at most three
-  -- turns of time after its start
-  pub well : AreSpared k commands now → (number : ℕ) (command : Command) → slice_get commands number ≡ Some command
+  -- WITH ONE CLEAN ROUND IN FOUR ALL STILL ENDS WELL: where of each transfer up to this command one of the first four rounds loses no chunk,
+  -- or three chunks are lost at most, it has come to its line, and a transfer whose resource is there to a line with OK, at most three turns
+  -- of time after its start
+  pub well : (number : ℕ) (command : Command) → AreSparedBefore (suc number) k commands now → slice_get commands number ≡ Some command
       → HasEnded k commands now number command (λ start end told. EndsSoon k start end command told)
   -- AND THE NEXT ENDS IN TIME, however many of its chunks are lost: with OK or DEADLINE_EXCEEDED
   pub in_time : (number : ℕ) (command : Command) → AreSparedBefore number k commands now → slice_get commands number ≡ Some command → HasEndedInRun k commands number command

@@ -1,5 +1,5 @@
 -- All commands of a script, one after another, over links that drop few frames.
-use Rattle.std.proofs.Common.{◌≡◌, ℕ, zero, suc, ◌+◌, ◌*◌, ◌<◌, ◌≤◌, ◌^◌, false, List, [], ◌∷◌, length, slice_get, Option, Some, None, refl, ap, sym, ◌∙◌, subst, arith, length-append}
+use Rattle.std.proofs.Common.{◌≡◌, ℕ, zero, suc, ◌+◌, ◌*◌, ◌<◌, ◌≤◌, ◌^◌, false, List, [], ◌∷◌, length, slice_get, Option, Some, None, refl, ap, sym, ◌∙◌, subst, arith, length-append, append_assoc, ◌++◌}
 use Rattle.std.specs.Prelude.{cond, count_by, is_some}
 use Rattle.std.proofs.lemmas.List.Sums.{sum_by-cons}
 use Rattle.std.proofs.lemmas.Bool.{and_left, true≢false}
@@ -24,6 +24,8 @@ use Rattle.history_laws.proofs.messages.Members.{all_join, all_weaken}
 use Rattle.rpc_journal.specs.Lawful.{IsLegal}
 use Rattle.demo_services.specs.DemoRule.{demo_rule}
 use Rattle.rpc_journal.proofs.PlaceLemmas.{some_same}
+use Rattle.link_laws.proofs.plain_calls.Spared.{get_seam}
+use Rattle.link_laws.proofs.dropped_scripts.Lines.{TellsMore, turns_tell_more}
 use Rattle.link_laws.proofs.dropped_transfer.InTime.{reads_end_over_drops, writes_end_over_drops}
 use Rattle.link_laws.specs.world.Reports.{carries_chunk}
 use Rattle.link_laws.specs.world.Setup.{setup_of, quiet_rule}
@@ -50,7 +52,7 @@ use Rattle.link_laws.specs.lossless_scripts.Scripts.{LeavesOpen, BeginsFewWrites
 use Rattle.link_laws.proofs.lossless_scripts.Begun.{due, none_coming, read_begins, start_counts, turns_due, write_begins}
 use Rattle.link_laws.proofs.lossless_scripts.Finishing.{one_more}
 use Rattle.link_laws.proofs.lossless_scripts.Starting.{IsSetup}
-use Rattle.link_laws.proofs.lossless_scripts.Walk.{IsOnWay, Leads, all_end, ended_now, none_left, runs_to_end, same_numbered, same_sessions, same_times, script_setup, turns_join}
+use Rattle.link_laws.proofs.lossless_scripts.Walk.{IsOnWay, Leads, ended_now, none_left, runs_to_end, same_numbered, same_sessions, same_times, script_setup, turns_join}
 use Rattle.link_laws.proofs.lossless_scripts.Walking.{first_is_clean, server_sizes}
 use Rattle.link_laws.specs.dropped_scripts.Losses.{FewLossesSpareEach, LossyRunsEndInTime, LossyRunsEndWell, EndsInTime, HasEndedInRun, NextEndsInTime}
 use Rattle.link_laws.proofs.dropped_scripts.Passing.{CommandPasses, IsBetween, read_passes, write_passes, read_in_time, write_in_time}
@@ -250,36 +252,64 @@ module _ (k : Setup) (setup : IsSetup k) (commands : List Command) (small : Begi
     leads_all : (command : Command) (rest : List Command) (w : World) → Stands (command ∷ rest) w → Leads k Stands EndsSo command rest w
     leads_all command rest w s = leads command rest w s (spared s.count w command rest s.way (kind_of (command ∷ rest) w s))
 
-    -- all commands end,
-    commands_end : Stands commands (first_world commands) → (number : ℕ) (command : Command) → slice_get commands number ≡ Some command → HasEnded k commands end number command (λ start mid told. EndsSoon k start mid command told)
-    commands_end s number command there =
-        subst (λ n. HasEnded k commands end n command (EndsSo command)) (omega arith)
-        ((all_end k commands end Stands on_way EndsSo leads_all commands (first_world commands) s).ended number command there)
-
-    -- and so long does it take
+    -- so long does it take
     ends_by : (cs : List Command) (w : World) → Stands cs w → end.times ≤ LOSSY_ROUNDS * length commands
     ends_by [] w s = (let times = s.times in omega (arith, times, ap (λ (v : World). v.times) (none_left k commands end Stands on_way w s)))
     ends_by (command ∷ rest) w s = (let p : Leads k Stands EndsSo command rest w = leads_all command rest w s in ends_by rest p.mid p.between)
 
-  -- THE COMMAND BEHIND THOSE THAT ARE SPARED ends in time
-  ends_behind : (i : ℕ) (cs : List Command) (w : World) → Stands cs w → (number : ℕ) (command : Command) → length w.lines + i ≡ number → AreSparedBefore number k commands end → slice_get cs i ≡ Some command
-      → HasEndedInRun k commands number command
-  ends_behind i [] w s number command is spared there = absurd cc
-  ends_behind zero (c ∷ rest) w s number command is spared there =
-      let same : c ≡ command = some_same c command there in
-      record {
-        start = w;
-        count = s.count;
-        way = s.way;
-        coming = rest;
-        before = omega (arith, is);
-        starts = kind_of (c ∷ rest) w s ∙ ap (λ d. kind_at_rest None (d ∷ rest)) same;
-        ends = subst (EndsInTime k w) same (in_time c rest w s);
-      }
-  ends_behind (suc i) (c ∷ rest) w s number command is spared there =
+  -- THE RUN COMES TO THE COMMAND BEHIND THOSE THAT ARE SPARED
+  record ComesTo (number : ℕ) (command : Command) : Type 0 where
+    rest : List Command
+    at : World
+    stands : Stands (command ∷ rest) at
+    before : length at.lines ≡ number
+
+  comes_to : (i : ℕ) (cs : List Command) (w : World) → Stands cs w → (number : ℕ) (command : Command) → length w.lines + i ≡ number → AreSparedBefore number k commands end → slice_get cs i ≡ Some command → ComesTo number command
+  comes_to i [] w s number command is spared there = absurd cc
+  comes_to zero (c ∷ rest) w s number command is spared there =
+      record { rest = rest; at = w; stands = subst (λ d. Stands (d ∷ rest) w) (some_same c command there) s; before = omega (arith, is) }
+  comes_to (suc i) (c ∷ rest) w s number command is spared there =
       let p : Leads k Stands EndsSo c rest w =
       leads c rest w s (λ begins. spared s.count w c rest s.way (kind_of (c ∷ rest) w s) begins (omega (arith, is))) in
-      ends_behind i rest p.mid p.between number command (omega (arith, is, ap length p.lines, length-append w.lines (p.told ∷ []))) spared there
+      comes_to i rest p.mid p.between number command (omega (arith, is, ap length p.lines, length-append w.lines (p.told ∷ []))) spared there
+
+  -- it ends in time,
+  ends_there : (number : ℕ) (command : Command) → ComesTo number command → HasEndedInRun k commands number command
+  ends_there number command c = record {
+    start = c.at;
+    count = c.stands.count;
+    way = c.stands.way;
+    coming = c.rest;
+    before = c.before;
+    starts = kind_of (command ∷ c.rest) c.at c.stands;
+    ends = in_time command c.rest c.at c.stands;
+  }
+
+  -- and well where it is spared too
+  ends_well_there : (number : ℕ) (command : Command) → ComesTo number command → AreSparedBefore (suc number) k commands end → HasEnded k commands end number command (λ start mid told. EndsSoon k start mid command told)
+  ends_well_there number command c spared =
+      let s : Stands (command ∷ c.rest) c.at = c.stands in
+      let kind : next_kind c.at ≡ kind_at_rest None (command ∷ c.rest) = kind_of (command ∷ c.rest) c.at s in
+      let p : Leads k Stands EndsSo command c.rest c.at = leads command c.rest c.at s (λ begins. spared s.count c.at command c.rest s.way kind begins (omega (arith, c.before))) in
+      let more : TellsMore p.mid end = turns_tell_more k p.between.run.count p.mid end p.between.run.turns in
+      record {
+        start = c.at;
+        end = p.mid;
+        count = s.count;
+        way = s.way;
+        coming = c.rest;
+        before = c.before;
+        starts = kind;
+        turns = p.turns;
+        goes = p.goes;
+        over = kind_of c.rest p.mid p.between;
+        told = p.told;
+        is_of = p.is_of;
+        line_is =
+            subst (λ n. slice_get end.lines n ≡ Some p.told) c.before
+            (ap (λ ls. slice_get ls (length c.at.lines)) (more.1 ∙ (ap (λ ls. ls ++ more.0) p.lines ∙ append_assoc c.at.lines (p.told ∷ []) more.0)) ∙ get_seam c.at.lines p.told more.0);
+        ends = p.ends;
+      }
 
 -- what is dropped is so in each world with these packets
 spared_same : (k : Setup) (session : ℕ) (start a b : World) → a.numbered ≡ b.numbered → IsSpared k session start a → IsSpared k session start b
@@ -328,19 +358,32 @@ module _ (s : Script) (o : IsOpenScript s) (now : World) (drops : DropsChunks (s
     none_later = tt;
   }
 
+  -- so it is before the end of the run
+  spared_until : (number : ℕ) → AreSparedBefore number script s.commands now → AreSparedBefore number script s.commands run.before
+  spared_until number spared count start c rest way kind begins before = spared_same script (start.sessions + 1) start now run.before quiet (spared count start c rest way kind begins before)
+
+  abbrev Comes : ℕ → Command → Type 0
+  Comes number command = ComesTo script setup s.commands (begins_small s o.script) o.script.commands (server_sizes s o) o.script.few run.before drops_before number command
+
+  comes_there : (number : ℕ) (command : Command) → AreSparedBefore number script s.commands now → slice_get s.commands number ≡ Some command → Comes number command
+  comes_there number command spared there =
+      comes_to script setup s.commands (begins_small s o.script) o.script.commands (server_sizes s o) o.script.few run.before drops_before number s.commands (first_world s.commands) first_stands number command (omega arith)
+      (spared_until number spared) there
+
   next_ends : (number : ℕ) (command : Command) → AreSparedBefore number script s.commands now → slice_get s.commands number ≡ Some command → HasEndedInRun script s.commands number command
   next_ends number command spared there =
-      ends_behind script setup s.commands (begins_small s o.script) o.script.commands (server_sizes s o) o.script.few run.before drops_before number s.commands (first_world s.commands) first_stands number command (omega arith)
-      (λ count start c rest way kind begins before. spared_same script (start.sessions + 1) start now run.before quiet (spared count start c rest way kind begins before)) there
+      ends_there script setup s.commands (begins_small s o.script) o.script.commands (server_sizes s o) o.script.few run.before drops_before number command (comes_there number command spared there)
+
+  each_ends : (number : ℕ) (command : Command) → AreSparedBefore (suc number) script s.commands now → slice_get s.commands number ≡ Some command
+      → HasEnded script s.commands now number command (λ start mid told. EndsSoon script start mid command told)
+  each_ends number command spared there =
+      ended_now s o no_flips now run server client number command (λ start mid told. EndsSoon script start mid command told)
+      (ends_well_there script setup s.commands (begins_small s o.script) o.script.commands (server_sizes s o) o.script.few run.before drops_before number command
+      (comes_there number command (λ count start c rest way kind begins before. spared count start c rest way kind begins (omega (arith, before))) there) (spared_until (suc number) spared))
 
   module _ (spared : AreSpared script s.commands now) where
     spared_before : AreSpared script s.commands run.before
     spared_before count start c rest way kind begins = spared_same script (start.sessions + 1) start now run.before quiet (spared count start c rest way kind begins)
-
-    each_ends : (number : ℕ) (command : Command) → slice_get s.commands number ≡ Some command → HasEnded script s.commands now number command (λ start mid told. EndsSoon script start mid command told)
-    each_ends number command there =
-        ended_now s o no_flips now run server client number command (λ start mid told. EndsSoon script start mid command told)
-        (commands_end script setup s.commands (begins_small s o.script) o.script.commands (server_sizes s o) o.script.few run.before drops_before spared_before first_stands number command there)
 
     ends_in_time : now.times ≤ LOSSY_ROUNDS * length s.commands
     ends_in_time =
@@ -351,7 +394,7 @@ module _ (s : Script) (o : IsOpenScript s) (now : World) (drops : DropsChunks (s
         )
 
 pub lossy_runs_end_well : LossyRunsEndWell
-lossy_runs_end_well s now number command o drops spared run few server client there = each_ends s o now drops run few server client spared number command there
+lossy_runs_end_well s now number command o drops spared run few server client there = each_ends s o now drops run few server client number command spared there
 
 pub lossy_runs_end_in_time : LossyRunsEndInTime
 lossy_runs_end_in_time s now o drops spared run few server client = ends_in_time s o now drops run few server client spared

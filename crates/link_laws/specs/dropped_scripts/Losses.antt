@@ -1,5 +1,5 @@
 -- Over a link that drops chunks each transfer ends well, where one of its first four rounds is clean.
-use Rattle.std.specs.Prelude.{◌≡◌, ℕ, ◌+◌, ◌*◌, ◌≤◌, min, List, length, slice_get, Some}
+use Rattle.std.specs.Prelude.{◌≡◌, ℕ, suc, ◌+◌, ◌*◌, ◌≤◌, min, List, length, slice_get, Some}
 use Rattle.link_io.specs.Resources.{first_of, found}
 use Rattle.link_io.specs.Stored.{shelf_of}
 use Rattle.link_script.specs.declared.command.Command.{Command}
@@ -24,15 +24,15 @@ use Rattle.link_laws.specs.dropped_transfer.InTime.{HasEndedInTime}
 use Rattle.link_laws.specs.dropped_transfer.Rounds.{AreSpared, AreSparedBefore}
 
 -- EACH COMMAND OF A SCRIPT THAT CLOSES NO CHANNEL COMES TO ITS LINE, in each run of it that begins few writes and in which nothing is
--- lost but chunks, none of them a confirmation of a read, and each transfer is spared; and each transfer to a line with OK, within three
--- turns of time
+-- lost but chunks, none of them a confirmation of a read, where each transfer up to it is spared; and each transfer to a line with OK,
+-- within three turns of time
 abbrev pub LossyRunsEndWell : Type 0
 LossyRunsEndWell =
-    (s : Script) (now : World) (number : ℕ) (command : Command) → IsOpenScript s → DropsChunks (setup_of s) now → AreSpared (setup_of s) s.commands now → Turned (setup_of s) s.commands now
+    (s : Script) (now : World) (number : ℕ) (command : Command) → IsOpenScript s → DropsChunks (setup_of s) now → AreSparedBefore (suc number) (setup_of s) s.commands now → Turned (setup_of s) s.commands now
     → BeginsFewWrites s.commands now → IsLegal demo_rule (setup_of s).server now.server → IsLegal quiet_rule (setup_of s).client now.client
     → slice_get s.commands number ≡ Some command → HasEnded (setup_of s) s.commands now number command (λ start end told. EndsSoon (setup_of s) start end command told)
 
--- AND SUCH A RUN TAKES at most three turns of time for each command
+-- AND A RUN IN WHICH EACH TRANSFER IS SPARED takes at most three turns of time for each command
 abbrev pub LossyRunsEndInTime : Type 0
 LossyRunsEndInTime =
     (s : Script) (now : World) → IsOpenScript s → DropsChunks (setup_of s) now → AreSpared (setup_of s) s.commands now → Turned (setup_of s) s.commands now

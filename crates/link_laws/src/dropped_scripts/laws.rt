@@ -2,14 +2,14 @@
 ghost use Rattle.link_laws.specs.dropped_scripts.Losses.{FewLossesSpareEach, LossyRunsEndInTime, LossyRunsEndWell, NextEndsInTime};
 
 /// Over a link that drops chunks, as many as it likes but for the confirmation of a read, each command of a script that closes no
-/// channel comes to its line, within three turns of time, where each transfer is spared: one of its first four rounds loses none of
-/// its chunks, or it loses three at most. A read whose resource the server has, from an offset in it, and a write whose resource the
+/// channel comes to its line, within three turns of time, where each transfer up to it is spared: one of its first four rounds loses
+/// none of its chunks, or it loses three at most. A read whose resource the server has, from an offset in it, and a write whose resource the
 /// client has end with OK.
 pub fn lossy_runs_end_well()
     ensures { LossyRunsEndWell }
 {}
 
-/// Such a run takes at most three turns of time for each command.
+/// A run in which each transfer is spared takes at most three turns of time for each command.
 pub fn lossy_runs_end_in_time()
     ensures { LossyRunsEndInTime }
 {}
