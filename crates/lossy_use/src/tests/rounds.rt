@@ -59,6 +59,25 @@ const START_LOST: &[Row] = &[
     },
 ];
 
+/// As many turns of time as a transfer of one chunk can take: a read ten, a write twelve with OK and fourteen else.
+const MOST_TURNS: &[Row] = &[
+    Row {
+        script: "chunk 8\nserver 7 7 1\ndrop 2\ndrop 3\ndrop 4\ndrop 8\ndrop 9\ndrop 10\ndrop 13\ndrop 14\ndrop 15\ndrop 16\nread 7 0\n",
+        status: Status::Okay,
+        length: 7,
+    },
+    Row {
+        script: "chunk 8\nclient 7 7 1\ndrop 2\ndrop 3\ndrop 4\ndrop 7\ndrop 8\ndrop 9\ndrop 12\ndrop 13\ndrop 14\ndrop 17\ndrop 18\ndrop 19\nwrite 7 0\n",
+        status: Status::Okay,
+        length: 7,
+    },
+    Row {
+        script: "chunk 8\nclient 7 7 1\ndrop 2\ndrop 3\ndrop 4\ndrop 7\ndrop 8\ndrop 9\ndrop 12\ndrop 13\ndrop 14\ndrop 17\ndrop 18\ndrop 19\ndrop 20\nwrite 7 0\n",
+        status: Status::DeadlineExceeded,
+        length: 7,
+    },
+];
+
 /// What no promise holds for. The REQUEST and a read's confirmation aren't sent again. Where frames are kept back, a round without a
 /// drop may end nothing, and then three drops are too many. A write that was told DEADLINE_EXCEEDED may have been stored.
 const NOT_PROMISED: &[Row] = &[
@@ -129,6 +148,14 @@ fn ends_so(rt: &impl Abort, alloc: Global, row: &Row) -> Result<(), AllocError> 
 #[test]
 fn three_lossy_rounds_are_survived_and_four_are_not(rt: HostRuntime) -> Result<(), Fail> {
     for row in START_LOST {
+        ends_so(&rt, rt.alloc(), row)?;
+    }
+    Ok(())
+}
+
+#[test]
+fn each_ends_though_it_takes_the_most_turns(rt: HostRuntime) -> Result<(), Fail> {
+    for row in MOST_TURNS {
         ends_so(&rt, rt.alloc(), row)?;
     }
     Ok(())
