@@ -9,5 +9,6 @@ mod ArriveLemmas
 mod StopLemmas
 mod EndLemmas
 mod IdleLemmas
+mod ShortLemmas
 mod SpeakLemmas
 mod AskLemmas

@@ -1,5 +1,6 @@
 //! What the client does with what comes to it, until it is idle.
 ghost use Rattle.std.specs.Prelude.{◌≡◌, ℕ, ◌<◌, ◌≤◌, true, false, List, ◌++◌, Option, Some, None, IfSome, IfErr, OnOk};
+ghost use Rattle.std.specs.List.{AllByRecursion};
 ghost use Rattle.link_io.specs.Stored.{Stored};
 ghost use Rattle.rpc_handlers.specs.Limits.{is_long_out};
 ghost use Rattle.rpc_ids.specs.declared.method.Role.TheVariants.{Client as client_role};
@@ -26,7 +27,7 @@ use crate::client::under::Under;
 use crate::server::{Stopped, Wires, WorldStore, take_out};
 use rpc_calls::SayRefused;
 use rpc_client::{Client, work_until_idle};
-use rpc_handlers::{Event, MAX_PAYLOAD, Out};
+use rpc_handlers::{Event, Out};
 use rpc_ids::Role;
 use rpc_journal::{Item, StartRefused};
 use std::alloc::AllocError;
@@ -157,6 +158,7 @@ fn speak(
 fn say_all(client: &mut Client<Quiet>, call: u32, outs: &[Out]) -> Result<(), Stopped>
     requires orderly { IsOrderly client.old.serving }
     requires there { call < call_count (deeds client.old.serving) }
+    requires short { AllByRecursion (λ out. is_long_out out ≡ false) outs.now }
     ensures says { OnOk result (ClientSays client.old.serving (all_said_in client.old.serving.table.setting call outs.now client.old.serving.table.entries) client.new.serving) }
     ensures full { IfErr result (λ why. why ≡ Stopped.Journal → saying_stops client.old.serving.table.setting call outs.now client.old.serving.table.entries ≡ true) }
     ensures fed { (bytes : List ℕ) → WasFed client_role client.old bytes → WasFed client_role client.new bytes }
@@ -174,13 +176,11 @@ fn say_all(client: &mut Client<Quiet>, call: u32, outs: &[Out]) -> Result<(), St
 fn say(client: &mut Client<Quiet>, call: u32, out: Out) -> Result<(), Stopped>
     requires orderly { IsOrderly client.old.serving }
     requires there { call < call_count (deeds client.old.serving) }
+    requires short { is_long_out out ≡ false }
     ensures says { OnOk result (ClientSays client.old.serving (said_in client.old.serving.table.setting call client.old.serving.table.entries out) client.new.serving) }
     ensures full { IfErr result (λ why. why ≡ Stopped.Journal → is_full client.old.serving.table.entries ≡ true) }
     ensures fed { (bytes : List ℕ) → WasFed client_role client.old bytes → WasFed client_role client.new bytes }
 {
-    if is_long(&out) {
-        return Err(Stopped::Memory);
-    }
     match client.say(call, out) {
         Ok(()) => Ok(()),
         Err(refused) => match stop_of(refused) {
@@ -198,16 +198,6 @@ fn stop_of(refused: SayRefused) -> Option<Stopped>
         SayRefused::JournalFull => Some(Stopped::Journal),
         SayRefused::Memory => Some(Stopped::Memory),
         SayRefused::Closed(_) | SayRefused::NoStream | SayRefused::Completed => None,
-    }
-}
-
-// Whether a message is longer than a call takes it.
-fn is_long(out: &Out) -> bool
-    ensures { result ≡ is_long_out out.now }
-{
-    match out {
-        Out::Say(payload) => payload.len() > MAX_PAYLOAD,
-        Out::Begin { .. } | Out::Append { .. } | Out::Commit { .. } | Out::Leave { .. } => false,
     }
 }
 
