@@ -1,5 +1,5 @@
 //! The driver takes what goes out, and makes it.
-ghost use Rattle.std.specs.Prelude.{◌≡◌, ◌≢◌, ◌≤◌, ◌⊎◌, ◌∷◌, [], List, Ok, true, false, if◌then◌else◌, IfErr, OnErr, OnOk};
+ghost use Rattle.std.specs.Prelude.{◌≡◌, ◌≢◌, ◌≤◌, ◌⊎◌, ◌∷◌, [], List, Ok, true, false, if◌then◌else◌, IfErr, IfOk, OnErr, OnOk};
 ghost use Rattle.std.specs.Io.KnownBytes.{Appends};
 ghost use Rattle.link_io.specs.Causes.{Rose};
 ghost use Rattle.link_io.specs.Device.{AppendsSome};
@@ -23,7 +23,7 @@ use rpc_frames::write_frame;
 use rpc_journal::{Act, Item};
 use rpc_packet::Packet;
 use rpc_schedule::make_action;
-use std::alloc::Global;
+use std::alloc::{AllocError, Global};
 use std::sync::Wait;
 
 /// Flushes the next item and makes it. False where none waits. Behind the end of the output a packet is let go.
@@ -103,12 +103,20 @@ fn send<O: Sink>(alloc: Global, packet: &Packet, finished: bool, output: &mut O)
     if finished {
         return Ok(());
     }
-    let mut frame = Vec::new(alloc);
-    if write_frame(alloc, packet, &mut frame).is_err() {
+    let Ok(frame) = frame_of(alloc, packet) else {
         return Err(Why::Memory);
-    }
+    };
     match write_whole(output, &frame) {
         Ok(()) => Ok(()),
         Err(_) => Err(Why::Sink),
     }
+}
+
+// The frame of a packet.
+fn frame_of(alloc: Global, packet: &Packet) -> Result<Vec<u8>, AllocError>
+    ensures { IfOk result (λ frame. frame.items ≡ frame_of_packet (message_of packet.now)) }
+{
+    let mut frame = Vec::new(alloc);
+    write_frame(alloc, packet, &mut frame)?;
+    Ok(frame)
 }
