@@ -14,7 +14,7 @@ use Rattle.task_core.specs.Tasks.{StandsFor, Tasks}
 use Rattle.task_core.specs.Visit.{Visit}
 use Rattle.live_client.specs.asks.Events.{first_end, messages_in}
 use Rattle.live_client.specs.asks.Tasks.{Given, TaskRan, WantedIf, given_at, mails}
-use Rattle.live_client.specs.asks.Telling.{IsAll, Tells, waiting}
+use Rattle.live_client.specs.asks.Telling.{HasCome, Progress, Tells, gone_on, said_all, unknown, waiting}
 use Rattle.live_client.specs.asks.Calling.{Called, EndsBy, has_enough}
 use Rattle.live_client.specs.declared.asks.call.CallErrand.{CallErrand}
 use Rattle.transfer_client.specs.Read.{Download}
@@ -49,6 +49,7 @@ module _ (method : MethodRef) {T : Type 0} (polls : T → Visit → T → Type 0
         alone = so.alone;
         turns = so.turns;
         between = so.between;
+        prompt = so.prompt;
         whole = wanted_so short (is_halted (live_setting method) h) so.log calm so.whole;
         mail = so.mail;
         said = so.said ∙ append_assoc told.outs told.lost still;
@@ -56,9 +57,10 @@ module _ (method : MethodRef) {T : Type 0} (polls : T → Visit → T → Type 0
         result = so.result ∙ sym same;
       }
 
-  none_waits : (all : Bool) → all ≡ true → IsAll all tasks → waiting tasks ≡ []
-  none_waits true is none = ap (map (λ (said : ℕ × Out). said.1)) none
-  none_waits false is none = absurd (false≢true is)
+  none_waits : (far : Progress) (log : List (Step T)) → far ≡ said_all → HasCome far tasks log → waiting tasks ≡ []
+  none_waits said_all log is so = ap (map (λ (said : ℕ × Out). said.1)) so.1
+  none_waits gone_on log is so = absurd (cc is)
+  none_waits unknown log is so = absurd (cc is)
 
   pub transfer_ran : (is_halted (live_setting method) h ≡ false → short ≡ false) → (now : T) → ((log : List (Step T)) → StandsFor tasks log → task_of log 0 ≡ Some now) → (ended : Option Status) → ended ≡ told.ended → (Ran : List Given → T → Type 0)
       → ((outs : List Given) → TaskRan polls task start end (is_halted (live_setting method) h) (events_run (live_setting method) h 0) outs now ended → Ran outs now) → TransferRan method Ran h
@@ -67,7 +69,7 @@ module _ (method : MethodRef) {T : Type 0} (polls : T → Visit → T → Type 0
     unsaid = told.lost ++ still;
     said = told.said;
     all_said = λ calm.
-        ap (λ lost. lost ++ still) (told.none_lost calm) ∙ ap (map (given_at (mails (events_run (live_setting method) h 0)))) (none_waits told.all (told.all_said calm) told.heard.all_said);
+        ap (λ lost. lost ++ still) (told.none_lost calm) ∙ ap (map (given_at (mails (events_run (live_setting method) h 0)))) (none_waits told.all told.heard.told.log (told.all_said calm) told.heard.come);
     now = now;
     ran = so (told.outs ++ (told.lost ++ still)) (task_ran whole now is_now ended same);
   }

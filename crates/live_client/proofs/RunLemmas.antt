@@ -38,6 +38,7 @@ use Rattle.live_client.specs.Histories.{cancels}
 use Rattle.live_client.specs.Feeding.{HasRead, Reader, is_readers}
 use Rattle.live_client.specs.Opening.{Opens}
 use Rattle.live_client.specs.Ran.{HasRun}
+use Rattle.live_client.specs.asks.Telling.{Progress, said_all, unknown}
 use Rattle.live_client.specs.Silent.{silent_rule}
 use Rattle.live_client.proofs.TalkLemmas.{Did}
 use Rattle.live_client.proofs.WholeLive.{Ends, ends_of, stops_of}
@@ -75,24 +76,24 @@ module _ (watches : Bool) (r : Lock) (name : CallName) (payload : List ℕ) (c :
   }
 
   -- how the driver ends
-  module _ (did now : Bool → ℕ → ℕ → Did) (cuts : Bool) (start upto : ℕ) (w w' : Option (List ℕ)) (d d' : Option Stored) (f f' g g' : ℕ) (q : Seat) (fresh : did true start start None [] [] None) where
+  module _ (did now : Progress → ℕ → ℕ → Did) (cuts : Bool) (start upto : ℕ) (w w' : Option (List ℕ)) (d d' : Option Stored) (f f' g g' : ℕ) (q : Seat) (fresh : did unknown start start None [] [] None) where
     pub driver_ended : {A E : Type 0} (result : Result A E) → Drove watches did now cuts r c (is_ok result) start upto w w' d d' f f' g g' p q
         → OnOk result (is_settled (history r.base q.view.known.seen) ≡ true) → OnErr result (is_halted r.base q.view.known.seen ≡ true)
         → DriverEnded watches opening (λ all. now all start upto) r c w w' d d' f f' g g' q
     driver_ended (Ok a) drove settled halted =
-        let so = drove.works refl opening true start w d f g (le_refl start) (works_first (did true start start) w d f g fresh) in
+        let so = drove.works refl opening unknown start w d f g (le_refl start) (works_first (did unknown start start) w d f g fresh) in
         record {
-          worked = works_ended watches opening r c w d f g true (λ all. now all start upto) true true true so.items w' d' f' g' q so.talks so.made so.causes;
+          worked = works_ended watches opening r c w d f g said_all (λ all. now all start upto) true true true so.items w' d' f' g' q so.talks so.made so.causes;
           cause = inl (so, settled);
         }
     driver_ended (Err e) drove settled halted =
         record {
-          worked = drove.worked refl opening true start w d f g (le_refl start) (works_first (did true start start) w d f g fresh);
+          worked = drove.worked refl opening unknown start w d f g (le_refl start) (works_first (did unknown start start) w d f g fresh);
           cause = inr halted;
         }
 
     pub driver_uncut : (ok : Bool) → Drove watches did now cuts r c ok start upto w w' d d' f f' g g' p q → cuts ≡ false
-    driver_uncut ok drove = drove.uncut opening true start w d f g (le_refl start) (works_first (did true start start) w d f g fresh)
+    driver_uncut ok drove = drove.uncut opening unknown start w d f g (le_refl start) (works_first (did unknown start start) w d f g fresh)
 
 -- both passes are back
 pub both_idle : (r : Lock) (p0 p1 q0 q1 : Seat) → AreAll r (IsNew r) (p0 ∷ p1 ∷ []) → IsSame p0 q0 → q0.view.holds ≡ false → IsSame p1 q1 → q1.view.holds ≡ false → AreAll r (IsIdle r) (q0 ∷ q1 ∷ [])
@@ -107,7 +108,7 @@ both_idle r p0 p1 q0 q1 all same0 idle0 same1 idle1 = all_back r (p0 ∷ p1 ∷ 
 module _ (method : MethodRef) where
   -- what a run of a live client did, once both passes are back
   pub run_ends : (r : Lock) → r.base ≡ (live_setting method) → (watches : Bool) (payload : List ℕ) (c : ℕ) (p q0 q1 : Seat) → Opens r (live_name method) payload c p
-      → (did now : Bool → ℕ → ℕ → Did) (cuts : Bool) (start upto : ℕ) (left left' w w' : Option (List ℕ)) (d d' : Option Stored) (f f' g g' : ℕ) (ending : Option Ending) (read : ℕ) (listener : Listening) → did true start start None [] [] None
+      → (did now : Progress → ℕ → ℕ → Did) (cuts : Bool) (start upto : ℕ) (left left' w w' : Option (List ℕ)) (d d' : Option Stored) (f f' g g' : ℕ) (ending : Option Ending) (read : ℕ) (listener : Listening) → did unknown start start None [] [] None
       → Reader is_readers r q0 → HasRead r.base left left' ending read listener q0 → {A E : Type 0} (result : Result A E) → Drove watches did now cuts r c (is_ok result) start upto w w' d d' f f' g g' p q1
       → OnOk result (is_settled (history r.base q1.view.known.seen) ≡ true) → OnErr result (is_halted r.base q1.view.known.seen ≡ true)
       → (t : Table) → AllFit log_of seat_of base_of (q0 ∷ q1 ∷ []) t → t.setting ≡ r.base → IsLegal silent_rule t.setting t.entries
@@ -124,7 +125,7 @@ module _ (method : MethodRef) where
 
   -- what holds of a driver that ended well holds of a run that no halt ended
   pub run_well : (r : Lock) → r.base ≡ (live_setting method) → (watches : Bool) (payload : List ℕ) (c : ℕ) (p q0 q1 : Seat) → Opens r (live_name method) payload c p
-      → (did now : Bool → ℕ → ℕ → Did) (cuts : Bool) (start upto : ℕ) (left left' w w' : Option (List ℕ)) (d d' : Option Stored) (f f' g g' : ℕ) (ending : Option Ending) (read : ℕ) (listener : Listening) → did true start start None [] [] None
+      → (did now : Progress → ℕ → ℕ → Did) (cuts : Bool) (start upto : ℕ) (left left' w w' : Option (List ℕ)) (d d' : Option Stored) (f f' g g' : ℕ) (ending : Option Ending) (read : ℕ) (listener : Listening) → did unknown start start None [] [] None
       → Reader is_readers r q0 → HasRead r.base left left' ending read listener q0 → {A E X : Type 0} (result : Result A E) → Drove watches did now cuts r c (is_ok result) start upto w w' d d' f f' g g' p q1
       → OnOk result X → OnOk result (is_settled (history r.base q1.view.known.seen) ≡ true) → OnErr result (is_halted r.base q1.view.known.seen ≡ true)
       → (t : Table) → AllFit log_of seat_of base_of (q0 ∷ q1 ∷ []) t → t.setting ≡ r.base → IsLegal silent_rule t.setting t.entries
@@ -142,7 +143,7 @@ module _ (method : MethodRef) where
       }) halted) ∙ calm))
 
   -- with why it ended
-  pub has_run : (watches : Bool) (first : EntryKind) (did : Bool → Did) (left left' w w' : Option (List ℕ)) (d d' : Option Stored) (i i' f f' g g' : ℕ) (ending : Option Ending) (read : ℕ) (h : List Entry) (why : Why)
+  pub has_run : (watches : Bool) (first : EntryKind) (did : Progress → Did) (left left' w w' : Option (List ℕ)) (d d' : Option Stored) (i i' f f' g g' : ℕ) (ending : Option Ending) (read : ℕ) (h : List Entry) (why : Why)
       → (Ends method) watches first did left left' w w' d d' f f' g g' ending read h → why ≡ reason_of (halt_reason (history (live_setting method) h)) ending → (ending ≡ Some Failed → Rose i i')
       → HasRun method watches first left left' w w' d d' i i' f f' g g' why read h
   has_run watches first did left left' w w' d d' i i' f f' g g' ending read h why ends is fault = record {

@@ -1,5 +1,5 @@
 -- The driver's pass together with its errand.
-use Rattle.std.proofs.Common.{◌≡◌, ℕ, Bool, true, false, List, [], ◌∷◌, ◌++◌, Option, Some, is_some, refl, ap, sym, ◌∙◌, subst}
+use Rattle.std.proofs.Common.{◌≡◌, ℕ, Bool, true, false, List, [], ◌∷◌, ◌++◌, Option, Some, is_some, Result, Ok, Err, OnOk, refl, ap, sym, ◌∙◌, subst}
 use Rattle.std.proofs.lemmas.Bool.{false≢true}
 use Rattle.std.proofs.lemmas.List.{append-nil}
 use Rattle.rpc_ids.specs.declared.status.Status.{Status}
@@ -12,6 +12,7 @@ use Rattle.rpc_shared.specs.session.Crew.{Lock, Seat}
 use Rattle.live_client.specs.Driving.{Calm, Cuts, Drives, EndsRun, Speaks, Talks, is_flushing, is_running, is_saying}
 use Rattle.live_client.specs.Histories.{is_cancel}
 use Rattle.live_client.specs.asks.Tasks.{Given, given_at, mails}
+use Rattle.live_client.specs.asks.Telling.{Progress, said_all, unknown, when_over}
 use Rattle.live_client.proofs.StepsOf.{cut_on}
 
 pub run_uncancelled : (kind : EntryKind) → is_running kind ≡ true → is_cancel kind ≡ false
@@ -28,6 +29,25 @@ flush_uncancelled _ is = refl
 
 abbrev pub Did : Type 1
 Did = Option Status → List Event → List Given → Option Status → Type 0
+
+-- what an errand has heard, where it had ended and where that isn't known
+pub hears_far : (did : Did) (far : Progress → Did) (uncut : Type 0) (event : Event)
+    → ((cut : Option Status) (events : List Event) (outs : List Given) (ended : Option Status) → did cut events outs ended
+    → (next : Option Status) × far unknown cut (events ++ event ∷ []) outs next × (is_some ended ≡ true → (next ≡ ended) × uncut × far said_all cut (events ++ event ∷ []) outs next))
+    → (over : Bool) (cut : Option Status) (events : List Event) (outs : List Given) (ended : Option Status) → (over ≡ true → is_some ended ≡ true) → did cut events outs ended
+    → (next : Option Status) × far (when_over over) cut (events ++ event ∷ []) outs next × (is_some ended ≡ true → (next ≡ ended) × uncut)
+hears_far did far uncut event heard true cut events outs ended is so = let next = heard cut events outs ended so in (next.0, (next.2 (is refl)).2, λ ends. ((next.2 ends).0, (next.2 ends).1))
+hears_far did far uncut event heard false cut events outs ended is so = let next = heard cut events outs ended so in (next.0, next.1, λ ends. ((next.2 ends).0, (next.2 ends).1))
+
+pub far_weaker : (far : Progress → Did) → ((cut : Option Status) (events : List Event) (outs : List Given) (ended : Option Status) → far said_all cut events outs ended → far unknown cut events outs ended)
+    → (over : Bool) (cut : Option Status) (events : List Event) (outs : List Given) (ended : Option Status) → far said_all cut events outs ended → far (when_over over) cut events outs ended
+far_weaker far weaker true cut events outs ended so = so
+far_weaker far weaker false cut events outs ended so = weaker cut events outs ended so
+
+-- where a run of an event can only answer that it was heard
+pub not_heard : {E : Type 0} (result : Result Bool E) → OnOk result (result ≡ Ok true) → result ≡ Ok false → ⊥
+not_heard (Ok b) heard is = absurd (cc (heard, is))
+not_heard (Err e) heard is = absurd (cc is)
 
 module _ (watches : Bool) (opening : EntryKind) (r : Lock) (c : ℕ) (did now : Did) (items : List Item) where
   -- a step that runs nothing to its end and says nothing
@@ -84,12 +104,12 @@ module _ (watches : Bool) (opening : EntryKind) (r : Lock) (c : ℕ) (did now : 
   }
 
   -- the errand hears an event, whose run ends
-  module _ (uncut : Type 0) (event : Event) (p q : Seat) (ends : EndsRun r c event p q)
-      (hears : (cut : Option Status) (events : List Event) (outs : List Given) (ended : Option Status) → did cut events outs ended
+  module _ (uncut : Type 0) (over : Bool) (event : Event) (p q : Seat) (ends : EndsRun r c event p q)
+      (hears : (cut : Option Status) (events : List Event) (outs : List Given) (ended : Option Status) → (over ≡ true → is_some ended ≡ true) → did cut events outs ended
       → (next : Option Status) × now cut (events ++ event ∷ []) outs next × (is_some ended ≡ true → (next ≡ ended) × uncut)) where
-    pub talks_heard : (whole over : Bool) → Talks watches opening did r c whole over items p → Talks watches opening now r c whole over items q
-    talks_heard whole over t =
-        let next = hears t.cut t.events (t.outs ++ t.lost) t.ended t.heard in
+    pub talks_heard : (whole : Bool) → Talks watches opening did r c whole over items p → Talks watches opening now r c whole over items q
+    talks_heard whole t =
+        let next = hears t.cut t.events (t.outs ++ t.lost) t.ended t.is_over t.heard in
         record {
           cut = t.cut;
           events = t.events ++ event ∷ [];
@@ -103,8 +123,8 @@ module _ (watches : Bool) (opening : EntryKind) (r : Lock) (c : ℕ) (did now : 
           is_over = λ is. ap is_some (next.2 (t.is_over is)).0 ∙ t.is_over is;
         }
 
-    pub over_uncut : (whole : Bool) → Talks watches opening did r c whole true items p → uncut
-    over_uncut whole t = ((hears t.cut t.events (t.outs ++ t.lost) t.ended t.heard).2 (t.is_over refl)).1
+    pub over_uncut : (whole : Bool) → over ≡ true → Talks watches opening did r c whole over items p → uncut
+    over_uncut whole is t = ((hears t.cut t.events (t.outs ++ t.lost) t.ended t.is_over t.heard).2 (t.is_over is)).1
 
   -- what the errand gives is said or refused
   module _ (out : Out) (p q : Seat) (silent : watches ≡ false)

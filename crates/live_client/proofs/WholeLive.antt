@@ -43,6 +43,7 @@ use Rattle.live_client.specs.Driving.{DriverEnded, HasWorked, Talks, Works}
 use Rattle.live_client.specs.Feeding.{Fed, HasRead, Reader, is_readers}
 use Rattle.live_client.specs.Histories.{AreSaid, events_run, says_of}
 use Rattle.live_client.specs.Live.{Begins, Explains, IsHistoryOf}
+use Rattle.live_client.specs.asks.Telling.{Progress, said_all}
 use Rattle.live_client.specs.Silent.{silent_rule}
 use Rattle.live_client.specs.Told.{HasTold}
 use Rattle.live_client.proofs.TalkLemmas.{Did}
@@ -52,7 +53,7 @@ use Rattle.live_client.proofs.WholeReplies.{late_items}
 -- a table that knows this method alone
 module _ (method : MethodRef) where
   -- all that the threads of a live client did, once its table is closed
-  pub record Whole (watches : Bool) (opening : EntryKind) (did : Bool → Did) (r : Lock) (c : ℕ) (left_old left_new w0 w : Option (List ℕ)) (d0 d : Option Stored) (f0 f g0 g : ℕ) (ending : Option Ending) (read : ℕ) (listener : Listening) (q0 q1 : Seat) (t : Table) : Type 0 where
+  pub record Whole (watches : Bool) (opening : EntryKind) (did : Progress → Did) (r : Lock) (c : ℕ) (left_old left_new w0 w : Option (List ℕ)) (d0 d : Option Stored) (f0 f g0 g : ℕ) (ending : Option Ending) (read : ℕ) (listener : Listening) (q0 q1 : Seat) (t : Table) : Type 0 where
     pub reader : Reader is_readers r q0
     pub has_read : HasRead r.base left_old left_new ending read listener q0
     pub ended : DriverEnded watches opening did r c w0 w d0 d f0 f g0 g q1
@@ -60,7 +61,7 @@ module _ (method : MethodRef) where
     pub legal : IsLegal silent_rule r.base t.entries
 
   -- what it did
-  pub record Ends (watches : Bool) (opening : EntryKind) (did : Bool → Did) (left_old left_new w0 w : Option (List ℕ)) (d0 d : Option Stored) (f0 f g0 g : ℕ) (ending : Option Ending) (read : ℕ) (h : List Entry) : Type 0 where
+  pub record Ends (watches : Bool) (opening : EntryKind) (did : Progress → Did) (left_old left_new w0 w : Option (List ℕ)) (d0 d : Option Stored) (f0 f g0 g : ℕ) (ending : Option Ending) (read : ℕ) (h : List Entry) : Type 0 where
     pub begins : Begins method left_old left_new w0 w d0 d read h
     pub explains : is_halted (live_setting method) h ≡ false → Explains method left_old left_new w0 w d0 d read h
     pub told : HasTold method did h
@@ -112,7 +113,7 @@ module _ (method : MethodRef) where
 
   -- ---- the clauses
 
-  module _ (table : TableId) (count : ℕ) (watches : Bool) (packet : Packet) (memo : Memo) (did : Bool → Did) (c : ℕ) (left_old left_new w0 w : Option (List ℕ)) (d0 d : Option Stored) (f0 f g0 g : ℕ) (ending : Option Ending) (read : ℕ) (listener : Listening) (q0 q1 : Seat) (t : Table)
+  module _ (table : TableId) (count : ℕ) (watches : Bool) (packet : Packet) (memo : Memo) (did : Progress → Did) (c : ℕ) (left_old left_new w0 w : Option (List ℕ)) (d0 d : Option Stored) (f0 f g0 g : ℕ) (ending : Option Ending) (read : ℕ) (listener : Listening) (q0 q1 : Seat) (t : Table)
       (s : Whole watches (Invoke packet memo) did ((live_lock method) table count) c left_old left_new w0 w d0 d f0 f g0 g ending read listener q0 q1 t) where
     abbrev h : List Entry
     h = t.entries
@@ -178,14 +179,14 @@ module _ (method : MethodRef) where
         no_halt : {A : Type 0} → is_halted (live_setting method) h ≡ true → A
         no_halt halted = absurd (true≢false (sym halted ∙ calm))
 
-        at : (Works watches (Invoke packet memo) (did true) ((live_lock method) table count) c true true w0 w d0 d f0 f g0 g q1 × (is_settled (history (live_setting method) q1.view.known.seen) ≡ true)) ⊎ (is_halted (live_setting method) q1.view.known.seen ≡ true)
+        at : (Works watches (Invoke packet memo) (did said_all) ((live_lock method) table count) c true true w0 w d0 d f0 f g0 g q1 × (is_settled (history (live_setting method) q1.view.known.seen) ≡ true)) ⊎ (is_halted (live_setting method) q1.view.known.seen ≡ true)
             → Fed listener q0 s.has_read.bytes ⊎ (is_halted (live_setting method) q0.view.known.seen ≡ true) → Explains method left_old left_new w0 w d0 d read h
         at (inr halted) fed = no_halt (driver_stops halted)
         at (inl ended) (inr halted) = no_halt (reader_stops halted)
         at (inl ended) (inl fed) =
             let k = ended.0.talks in
             let items = ended.0.items in
-            let x = closed_with (did true) true true items k in
+            let x = closed_with (did said_all) true true items k in
             let settled : is_settled (history (live_setting method) h) ≡ true =
             subst (λ es. is_settled (history (live_setting method) es) ≡ true) ((settled_whole method) table count watches packet memo c k.events k.outs items q0 q1 t x ended.1 calm) ended.1 in
             let all : items ≡ items_sent (history (live_setting method) h) = (settled_items method) table count watches packet memo c k.events k.outs items q0 q1 t x settled in
@@ -206,8 +207,8 @@ module _ (method : MethodRef) where
 
     -- ---- the errand
 
-    told_by : (all whole over : Bool) (items : List Item) → (k : Talks watches (Invoke packet memo) (did all) ((live_lock method) table count) c whole over items q1)
-        → (is_halted (live_setting method) h ≡ false → k.lost ≡ []) → (is_halted (live_setting method) h ≡ false → all ≡ true) → (is_halted (live_setting method) h ≡ false → is_some k.ended ≡ true) → HasTold method did h
+    told_by : (all : Progress) (whole over : Bool) (items : List Item) → (k : Talks watches (Invoke packet memo) (did all) ((live_lock method) table count) c whole over items q1)
+        → (is_halted (live_setting method) h ≡ false → k.lost ≡ []) → (is_halted (live_setting method) h ≡ false → all ≡ said_all) → (is_halted (live_setting method) h ≡ false → is_some k.ended ≡ true) → HasTold method did h
     told_by all whole over items k none_lost all_said is_over =
         let x = closed_with (did all) whole over items k in
         let events : k.events ≡ events_run (live_setting method) h 0 = sym ((events_are method) table count watches packet memo c k.events k.outs items q0 q1 t x) ∙ ap (events_run (live_setting method) h) zero_is in
@@ -228,8 +229,8 @@ module _ (method : MethodRef) where
     told : HasTold method did h
     told = at s.ended.cause
       where
-        at : (Works watches (Invoke packet memo) (did true) ((live_lock method) table count) c true true w0 w d0 d f0 f g0 g q1 × (is_settled (history (live_setting method) q1.view.known.seen) ≡ true)) ⊎ (is_halted (live_setting method) q1.view.known.seen ≡ true) → HasTold method did h
-        at (inl ended) = let k = ended.0.talks in told_by true true true ended.0.items k (λ calm. k.none_lost refl) (λ calm. refl) (λ calm. k.is_over refl)
+        at : (Works watches (Invoke packet memo) (did said_all) ((live_lock method) table count) c true true w0 w d0 d f0 f g0 g q1 × (is_settled (history (live_setting method) q1.view.known.seen) ≡ true)) ⊎ (is_halted (live_setting method) q1.view.known.seen ≡ true) → HasTold method did h
+        at (inl ended) = let k = ended.0.talks in told_by said_all true true ended.0.items k (λ calm. k.none_lost refl) (λ calm. refl) (λ calm. k.is_over refl)
         at (inr halted) =
             told_by worked.all false false made worked.talks (λ calm. absurd (true≢false (sym (driver_stops halted) ∙ calm))) (λ calm. absurd (true≢false (sym (driver_stops halted) ∙ calm)))
             (λ calm. absurd (true≢false (sym (driver_stops halted) ∙ calm)))
@@ -309,7 +310,7 @@ module _ (method : MethodRef) where
   lock_is : (r : Lock) → r.base ≡ (live_setting method) → r ≡ (live_lock method) r.table r.count
   lock_is r is = ap (λ base. record { table = r.table; base = base; count = r.count }) is
 
-  pub ends_of : (r : Lock) → r.base ≡ (live_setting method) → (watches : Bool) (packet : Packet) (memo : Memo) (did : Bool → Did) (c : ℕ) (left_old left_new w0 w : Option (List ℕ)) (d0 d : Option Stored) (f0 f g0 g : ℕ) (ending : Option Ending) (read : ℕ) (listener : Listening) (q0 q1 : Seat) (t : Table)
+  pub ends_of : (r : Lock) → r.base ≡ (live_setting method) → (watches : Bool) (packet : Packet) (memo : Memo) (did : Progress → Did) (c : ℕ) (left_old left_new w0 w : Option (List ℕ)) (d0 d : Option Stored) (f0 f g0 g : ℕ) (ending : Option Ending) (read : ℕ) (listener : Listening) (q0 q1 : Seat) (t : Table)
       → Whole watches (Invoke packet memo) did r c left_old left_new w0 w d0 d f0 f g0 g ending read listener q0 q1 t
       → Ends watches (Invoke packet memo) did left_old left_new w0 w d0 d f0 f g0 g ending read t.entries
   ends_of r is watches packet memo did c left_old left_new w0 w d0 d f0 f g0 g ending read listener q0 q1 t s =
@@ -317,7 +318,7 @@ module _ (method : MethodRef) where
       (subst (λ lock. Whole watches (Invoke packet memo) did lock c left_old left_new w0 w d0 d f0 f g0 g ending read listener q0 q1 t) (lock_is r is) s)
 
   -- a halt that the driver has seen is in the whole history
-  pub stops_of : (r : Lock) → r.base ≡ (live_setting method) → (watches : Bool) (packet : Packet) (memo : Memo) (did : Bool → Did) (c : ℕ) (left_old left_new w0 w : Option (List ℕ)) (d0 d : Option Stored) (f0 f g0 g : ℕ) (ending : Option Ending) (read : ℕ) (listener : Listening) (q0 q1 : Seat) (t : Table)
+  pub stops_of : (r : Lock) → r.base ≡ (live_setting method) → (watches : Bool) (packet : Packet) (memo : Memo) (did : Progress → Did) (c : ℕ) (left_old left_new w0 w : Option (List ℕ)) (d0 d : Option Stored) (f0 f g0 g : ℕ) (ending : Option Ending) (read : ℕ) (listener : Listening) (q0 q1 : Seat) (t : Table)
       → Whole watches (Invoke packet memo) did r c left_old left_new w0 w d0 d f0 f g0 g ending read listener q0 q1 t
       → is_halted r.base q1.view.known.seen ≡ true → is_halted (live_setting method) t.entries ≡ true
   stops_of r is watches packet memo did c left_old left_new w0 w d0 d f0 f g0 g ending read listener q0 q1 t s halted =

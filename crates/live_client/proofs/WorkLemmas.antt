@@ -35,6 +35,7 @@ use Rattle.rpc_shared.proofs.session.PassLemmas.{of_weaker}
 use Rattle.rpc_shared.proofs.session.WriterLemmas.{holds_more, wire-append}
 use Rattle.live_client.specs.Histories.{cancels}
 use Rattle.live_client.specs.asks.Tasks.{Given}
+use Rattle.live_client.specs.asks.Telling.{Progress}
 use Rattle.live_client.specs.Silent.{silent_rule}
 use Rattle.live_client.specs.Driving.{Calm, Drives, FlushFails, Flushed, FlushesMore, HasCauses, HasCut, HasWorked, IsCalmed, IsClosing, IsWritten, Made, Rests, Talks, Works, is_closing, is_cutting, is_flushing, is_running, is_saying, is_talking}
 use Rattle.live_client.proofs.StepsOf.{cut_on, halts_split}
@@ -233,7 +234,7 @@ module _ (watches : Bool) (opening : EntryKind) (r : Lock) (c : ℕ) (w0 : Optio
     written_on false items first number shown which = which
 
     -- it fails
-    pub works_failed : (all : Bool) (dids : Bool → Did) (finished : Bool) → dids all ≡ did → FlushFails r c w w' d d' p q → Works watches opening (dids all) r c over finished w0 w d0 d f0 f g0 g p
+    pub works_failed : (all : Progress) (dids : Progress → Did) (finished : Bool) → dids all ≡ did → FlushFails r c w w' d d' p q → Works watches opening (dids all) r c over finished w0 w d0 d f0 f g0 g p
         → HasWorked watches opening dids r c w0 w' d0 d' f0 f' g0 g' q
     works_failed all dids finished same fails so = record {
       items = so.items;
@@ -252,7 +253,7 @@ module _ (watches : Bool) (opening : EntryKind) (r : Lock) (c : ℕ) (w0 : Optio
     }
 
   -- it ends, and may not have said all
-  pub works_ended : (all : Bool) (dids : Bool → Did) (whole over finished : Bool) (items : List Item) (w : Option (List ℕ)) (d : Option Stored) (f g : ℕ) (p : Seat)
+  pub works_ended : (all : Progress) (dids : Progress → Did) (whole over finished : Bool) (items : List Item) (w : Option (List ℕ)) (d : Option Stored) (f g : ℕ) (p : Seat)
       → Talks watches opening (dids all) r c whole over items p → Made r c finished w0 w d0 d items p → HasCauses f0 f g0 g p → HasWorked watches opening dids r c w0 w d0 d f0 f g0 g p
   works_ended all dids whole over finished items w d f g p talks made causes = record {
     items = items;
@@ -271,7 +272,7 @@ module _ (watches : Bool) (opening : EntryKind) (r : Lock) (c : ℕ) (w0 : Optio
   }
 
   -- the output is told that nothing more comes, where the driver has stopped
-  pub worked_kept : (dids : Bool → Did) (w w' : Option (List ℕ)) (d : Option Stored) (f f' g : ℕ) (p : Seat) → Keeps w w' → f ≤ f' → HasWorked watches opening dids r c w0 w d0 d f0 f g0 g p
+  pub worked_kept : (dids : Progress → Did) (w w' : Option (List ℕ)) (d : Option Stored) (f f' g : ℕ) (p : Seat) → Keeps w w' → f ≤ f' → HasWorked watches opening dids r c w0 w d0 d f0 f g0 g p
       → HasWorked watches opening dids r c w0 w' d0 d f0 f' g0 g p
   worked_kept dids w w' d f f' g p kept later so = record {
     items = so.items;

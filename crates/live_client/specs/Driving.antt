@@ -33,6 +33,7 @@ use Rattle.rpc_shared.specs.session.Ring.{HaltsFor}
 use Rattle.rpc_shared.specs.session.Sessions.{is_halted, is_halting, wire}
 use Rattle.live_client.specs.Histories.{AreSaidOver, cancels, says_of}
 use Rattle.live_client.specs.asks.Tasks.{Given, given_at, mails}
+use Rattle.live_client.specs.asks.Telling.{Progress, said_all}
 use Rattle.live_client.specs.Silent.{is_silent, silent_rule}
 
 -- what the driver adds behind the opening of the call
@@ -136,12 +137,12 @@ pub record Works (watches : Bool) (opening : EntryKind) (did : Option Status →
   pub causes : HasCauses f0 f g0 g p
 
 -- The driver ends. Where an item failed, the table is halted, and the link may have a part of its frame.
-pub record HasWorked (watches : Bool) (opening : EntryKind) (did : Bool → Option Status → List Event → List Given → Option Status → Type 0) (r : Lock) (c : ℕ) (w0 w : Option (List ℕ)) (d0 d : Option Stored) (f0 f g0 g : ℕ) (p : Seat) : Type 0 where
+pub record HasWorked (watches : Bool) (opening : EntryKind) (did : Progress → Option Status → List Event → List Given → Option Status → Type 0) (r : Lock) (c : ℕ) (w0 w : Option (List ℕ)) (d0 d : Option Stored) (f0 f g0 g : ℕ) (p : Seat) : Type 0 where
   pub items : List Item
   pub next : List Item
   pub first : List Item
   pub part : List ℕ
-  pub all : Bool
+  pub all : Progress
   pub finished : Bool
   pub talks : Talks watches opening (did all) r c false false (items ++ next) p
   pub which : IsWritten r c finished items first p
@@ -153,21 +154,21 @@ pub record HasWorked (watches : Bool) (opening : EntryKind) (did : Bool → Opti
 
 -- All that the driver does, from one state of its errand and its devices to another, where it ends well or is halted; and whether
 -- the errand still wants its call cancelled.
-pub record Drove (watches : Bool) (did now : Bool → ℕ → ℕ → Option Status → List Event → List Given → Option Status → Type 0) (cuts : Bool) (r : Lock) (c : ℕ) (ok : Bool) (last upto : ℕ) (w w' : Option (List ℕ)) (d d' : Option Stored) (f f' g g' : ℕ) (p q : Seat) : Type 0 where
-  pub works : ok ≡ true → (opening : EntryKind) (all : Bool) (start : ℕ) (w0 : Option (List ℕ)) (d0 : Option Stored) (f0 g0 : ℕ) → start ≤ last
+pub record Drove (watches : Bool) (did now : Progress → ℕ → ℕ → Option Status → List Event → List Given → Option Status → Type 0) (cuts : Bool) (r : Lock) (c : ℕ) (ok : Bool) (last upto : ℕ) (w w' : Option (List ℕ)) (d d' : Option Stored) (f f' g g' : ℕ) (p q : Seat) : Type 0 where
+  pub works : ok ≡ true → (opening : EntryKind) (all : Progress) (start : ℕ) (w0 : Option (List ℕ)) (d0 : Option Stored) (f0 g0 : ℕ) → start ≤ last
       → Works watches opening (did all start last) r c false false w0 w d0 d f0 f g0 g p
-      → Works watches opening (now true start upto) r c true true w0 w' d0 d' f0 f' g0 g' q
-  pub worked : ok ≡ false → (opening : EntryKind) (all : Bool) (start : ℕ) (w0 : Option (List ℕ)) (d0 : Option Stored) (f0 g0 : ℕ) → start ≤ last
+      → Works watches opening (now said_all start upto) r c true true w0 w' d0 d' f0 f' g0 g' q
+  pub worked : ok ≡ false → (opening : EntryKind) (all : Progress) (start : ℕ) (w0 : Option (List ℕ)) (d0 : Option Stored) (f0 g0 : ℕ) → start ≤ last
       → Works watches opening (did all start last) r c false false w0 w d0 d f0 f g0 g p
       → HasWorked watches opening (λ some. now some start upto) r c w0 w' d0 d' f0 f' g0 g' q
-  pub uncut : (opening : EntryKind) (all : Bool) (start : ℕ) (w0 : Option (List ℕ)) (d0 : Option Stored) (f0 g0 : ℕ) → start ≤ last
+  pub uncut : (opening : EntryKind) (all : Progress) (start : ℕ) (w0 : Option (List ℕ)) (d0 : Option Stored) (f0 g0 : ℕ) → start ≤ last
       → Works watches opening (did all start last) r c false false w0 w d0 d f0 f g0 g p → cuts ≡ false
 
 -- The driver has ended: well, with its call and all that it had to say; or at a halt.
-pub record DriverEnded (watches : Bool) (opening : EntryKind) (did : Bool → Option Status → List Event → List Given → Option Status → Type 0) (r : Lock) (c : ℕ) (w0 w : Option (List ℕ)) (d0 d : Option Stored) (f0 f g0 g : ℕ) (p : Seat) : Type 0 where
+pub record DriverEnded (watches : Bool) (opening : EntryKind) (did : Progress → Option Status → List Event → List Given → Option Status → Type 0) (r : Lock) (c : ℕ) (w0 w : Option (List ℕ)) (d0 d : Option Stored) (f0 f g0 g : ℕ) (p : Seat) : Type 0 where
   pub worked : HasWorked watches opening did r c w0 w d0 d f0 f g0 g p
   pub cause :
-      (Works watches opening (did true) r c true true w0 w d0 d f0 f g0 g p × (is_settled (history r.base p.view.known.seen) ≡ true))
+      (Works watches opening (did said_all) r c true true w0 w d0 d f0 f g0 g p × (is_settled (history r.base p.view.known.seen) ≡ true))
       ⊎ (is_halted r.base p.view.known.seen ≡ true)
 
 -- The driver has nothing to say, and behind this beginning of the history, with no item that waits, it added nothing.

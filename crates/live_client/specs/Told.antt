@@ -1,5 +1,5 @@
 -- What an errand was told and said, as the whole history tells it.
-use Rattle.std.specs.Prelude.{◌≡◌, Bool, true, false, List, [], ◌++◌, Option, Some, None, is_some}
+use Rattle.std.specs.Prelude.{◌≡◌, true, false, List, [], ◌++◌, Option, Some, None, is_some}
 use Rattle.rpc_ids.specs.declared.method.MethodRef.{MethodRef}
 use Rattle.rpc_ids.specs.declared.status.Status.{Status}
 use Rattle.rpc_handlers.specs.declared.event.Event.{Event}
@@ -9,6 +9,7 @@ use Rattle.rpc_journal.specs.History.{history}
 use Rattle.rpc_shared.specs.session.Sessions.{is_halted}
 use Rattle.live_client.specs.Ask.{live_setting}
 use Rattle.live_client.specs.asks.Tasks.{Given}
+use Rattle.live_client.specs.asks.Telling.{Progress, said_all}
 use Rattle.live_client.specs.Histories.{AreSaid, cancels, events_run, says_of}
 
 -- the call was cancelled, which answered this; or it wasn't
@@ -18,15 +19,15 @@ IsCutSo method h (Some status) = (cancels h ≡ true) × (end_of (history (live_
 
 -- It heard the events of the call's runs. What it gave out was said or refused, but for the last of it at a halt; without one it
 -- has said all, and has ended.
-pub record HasTold (method : MethodRef) (did : Bool → Option Status → List Event → List Given → Option Status → Type 0) (h : List Entry) : Type 0 where
+pub record HasTold (method : MethodRef) (did : Progress → Option Status → List Event → List Given → Option Status → Type 0) (h : List Entry) : Type 0 where
   pub cut : Option Status
   pub outs : List Given
   pub lost : List Given
   pub ended : Option Status
-  pub all : Bool
+  pub all : Progress
   pub is_cut : IsCutSo method h cut
   pub said : AreSaid (live_setting method) 0 h outs (says_of h)
   pub heard : did all cut (events_run (live_setting method) h 0) (outs ++ lost) ended
   pub none_lost : is_halted (live_setting method) h ≡ false → lost ≡ []
-  pub all_said : is_halted (live_setting method) h ≡ false → all ≡ true
+  pub all_said : is_halted (live_setting method) h ≡ false → all ≡ said_all
   pub is_over : is_halted (live_setting method) h ≡ false → is_some ended ≡ true

@@ -16,6 +16,7 @@ ghost use Rattle.rpc_shared.specs.session.Ring.{HaltsFor};
 ghost use Rattle.rpc_shared.specs.session.Sessions.{is_halted};
 ghost use Rattle.live_client.specs.Driving.{Calm, CanDrive, Drove, HasWorked, Rests, Talks, Works, is_flushing, is_running, is_saying, is_talking};
 ghost use Rattle.live_client.specs.Silent.{silent_rule};
+ghost use Rattle.live_client.specs.asks.Telling.{Progress, said_all, unknown};
 
 use crate::asks::Errand;
 use crate::driving::{cut_one, go_on, run_one, say_one};
@@ -41,7 +42,8 @@ fn listen<W: Errand, R: Wait>(
     requires ready { W.ready errand.old }
     requires uncut { W.cuts errand.old ≡ false }
     ensures adds { Adds silent_rule table.now is_talking pass.old pass.new }
-    ensures talks { (opening : EntryKind) (start upto : ℕ) (items : List Item) → Talks W.watches opening (W.did errand.old true start upto) table.now call true false items pass.old → Talks W.watches opening (W.did errand.new true start upto) table.now call true false items pass.new }
+    ensures talks { (opening : EntryKind) (start upto : ℕ) (items : List Item) → Talks W.watches opening (W.did errand.old said_all start upto) table.now call true false items pass.old → Talks W.watches opening (W.did errand.new unknown start upto) table.now call true false items pass.new }
+    ensures none { result ≡ Ok false → (opening : EntryKind) (start upto : ℕ) (items : List Item) → Talks W.watches opening (W.did errand.old said_all start upto) table.now call true false items pass.old → Talks W.watches opening (W.did errand.new said_all start upto) table.now call true false items pass.new }
     ensures halted { OnErr result (is_halted table.now.base pass.new.view.known.seen ≡ true) }
     ensures uncut { W.cuts errand.new ≡ false }
     ensures ready { W.ready errand.new }
@@ -76,9 +78,9 @@ fn speak<W: Errand, C: Clock, R: Wait>(
     requires whole { W.short errand.old ≡ false }
     requires uncut { W.cuts errand.old ≡ false }
     ensures adds { Adds silent_rule table.now is_saying pass.old pass.new }
-    ensures talks { OnOk result ((opening : EntryKind) (all : Bool) (start : ℕ) (items : List Item) → start ≤ C.last clock.old → Talks W.watches opening (W.did errand.old all start (C.last clock.old)) table.now call true false items pass.old → Talks W.watches opening (W.did errand.new false start (C.last clock.new)) table.now call true false items pass.new) }
-    ensures none { result ≡ Ok false → (opening : EntryKind) (all : Bool) (start : ℕ) (items : List Item) → start ≤ C.last clock.old → Talks W.watches opening (W.did errand.old all start (C.last clock.old)) table.now call true false items pass.old → Talks W.watches opening (W.did errand.new true start (C.last clock.new)) table.now call true false items pass.new }
-    ensures stopped { OnErr result ((opening : EntryKind) (all : Bool) (start : ℕ) (items : List Item) → start ≤ C.last clock.old → Talks W.watches opening (W.did errand.old all start (C.last clock.old)) table.now call true false items pass.old → Talks W.watches opening (W.did errand.new false start (C.last clock.new)) table.now call false false items pass.new) }
+    ensures talks { OnOk result ((opening : EntryKind) (far : Progress) (start : ℕ) (items : List Item) → start ≤ C.last clock.old → Talks W.watches opening (W.did errand.old far start (C.last clock.old)) table.now call true false items pass.old → Talks W.watches opening (W.did errand.new unknown start (C.last clock.new)) table.now call true false items pass.new) }
+    ensures none { result ≡ Ok false → (opening : EntryKind) (far : Progress) (start : ℕ) (items : List Item) → start ≤ C.last clock.old → Talks W.watches opening (W.did errand.old far start (C.last clock.old)) table.now call true false items pass.old → Talks W.watches opening (W.did errand.new said_all start (C.last clock.new)) table.now call true false items pass.new }
+    ensures stopped { OnErr result ((opening : EntryKind) (far : Progress) (start : ℕ) (items : List Item) → start ≤ C.last clock.old → Talks W.watches opening (W.did errand.old far start (C.last clock.old)) table.now call true false items pass.old → Talks W.watches opening (W.did errand.new unknown start (C.last clock.new)) table.now call false false items pass.new) }
     ensures halted { OnErr result (is_halted table.now.base pass.new.view.known.seen ≡ true) }
     ensures uncut { W.cuts errand.new ≡ false }
     ensures ready { W.ready errand.new }
@@ -111,9 +113,9 @@ fn talk<W: Errand, C: Clock, R: Wait>(
     requires whole { W.short errand.old ≡ false }
     requires uncut { W.cuts errand.old ≡ false }
     ensures adds { Adds silent_rule table.now is_talking pass.old pass.new }
-    ensures talks { OnOk result ((opening : EntryKind) (all : Bool) (start : ℕ) (items : List Item) → start ≤ C.last clock.old → Talks W.watches opening (W.did errand.old all start (C.last clock.old)) table.now call true false items pass.old → Talks W.watches opening (W.did errand.new false start (C.last clock.new)) table.now call true false items pass.new) }
-    ensures none { result ≡ Ok false → (opening : EntryKind) (all : Bool) (start : ℕ) (items : List Item) → start ≤ C.last clock.old → Talks W.watches opening (W.did errand.old all start (C.last clock.old)) table.now call true false items pass.old → Talks W.watches opening (W.did errand.new true start (C.last clock.new)) table.now call true false items pass.new }
-    ensures stopped { OnErr result ((opening : EntryKind) (all : Bool) (start : ℕ) (items : List Item) → start ≤ C.last clock.old → Talks W.watches opening (W.did errand.old all start (C.last clock.old)) table.now call true false items pass.old → (some : Bool) × Talks W.watches opening (W.did errand.new some start (C.last clock.new)) table.now call false false items pass.new) }
+    ensures talks { OnOk result ((opening : EntryKind) (far : Progress) (start : ℕ) (items : List Item) → start ≤ C.last clock.old → Talks W.watches opening (W.did errand.old far start (C.last clock.old)) table.now call true false items pass.old → Talks W.watches opening (W.did errand.new unknown start (C.last clock.new)) table.now call true false items pass.new) }
+    ensures none { result ≡ Ok false → (opening : EntryKind) (far : Progress) (start : ℕ) (items : List Item) → start ≤ C.last clock.old → Talks W.watches opening (W.did errand.old far start (C.last clock.old)) table.now call true false items pass.old → Talks W.watches opening (W.did errand.new said_all start (C.last clock.new)) table.now call true false items pass.new }
+    ensures stopped { OnErr result ((opening : EntryKind) (far : Progress) (start : ℕ) (items : List Item) → start ≤ C.last clock.old → Talks W.watches opening (W.did errand.old far start (C.last clock.old)) table.now call true false items pass.old → (some : Progress) × Talks W.watches opening (W.did errand.new some start (C.last clock.new)) table.now call false false items pass.new) }
     ensures halted { OnErr result (is_halted table.now.base pass.new.view.known.seen ≡ true) }
     ensures uncut { W.cuts errand.new ≡ false }
     ensures ready { W.ready errand.new }
@@ -152,15 +154,15 @@ fn round<W: Errand, O: Sink, S: Store, C: Clock, R: Wait>(
     requires open { O.finished output.old ≡ false }
     ensures can { CanDrive table.now call pass.new }
     ensures same { IsSame pass.old pass.new }
-    ensures works { OnOk result ((opening : EntryKind) (all : Bool) (start : ℕ) (w0 : Option (List ℕ)) (d0 : Option Stored) (f0 g0 : ℕ) → start ≤ C.last clock.old
-        → Works W.watches opening (W.did errand.old all start (C.last clock.old)) table.now call false false w0 (O.written output.old) d0 (S.holds store.old) f0 (O.faults output.old) g0 (S.faults store.old) pass.old
-        → Works W.watches opening (W.did errand.new false start (C.last clock.new)) table.now call false false w0 (O.written output.new) d0 (S.holds store.new) f0 (O.faults output.new) g0 (S.faults store.new) pass.new) }
-    ensures none { result ≡ Ok false → (opening : EntryKind) (all : Bool) (start : ℕ) (w0 : Option (List ℕ)) (d0 : Option Stored) (f0 g0 : ℕ) → start ≤ C.last clock.old
-        → Works W.watches opening (W.did errand.old all start (C.last clock.old)) table.now call false false w0 (O.written output.old) d0 (S.holds store.old) f0 (O.faults output.old) g0 (S.faults store.old) pass.old
-        → Works W.watches opening (W.did errand.new true start (C.last clock.new)) table.now call false false w0 (O.written output.new) d0 (S.holds store.new) f0 (O.faults output.new) g0 (S.faults store.new) pass.new }
+    ensures works { OnOk result ((opening : EntryKind) (far : Progress) (start : ℕ) (w0 : Option (List ℕ)) (d0 : Option Stored) (f0 g0 : ℕ) → start ≤ C.last clock.old
+        → Works W.watches opening (W.did errand.old far start (C.last clock.old)) table.now call false false w0 (O.written output.old) d0 (S.holds store.old) f0 (O.faults output.old) g0 (S.faults store.old) pass.old
+        → Works W.watches opening (W.did errand.new unknown start (C.last clock.new)) table.now call false false w0 (O.written output.new) d0 (S.holds store.new) f0 (O.faults output.new) g0 (S.faults store.new) pass.new) }
+    ensures none { result ≡ Ok false → (opening : EntryKind) (far : Progress) (start : ℕ) (w0 : Option (List ℕ)) (d0 : Option Stored) (f0 g0 : ℕ) → start ≤ C.last clock.old
+        → Works W.watches opening (W.did errand.old far start (C.last clock.old)) table.now call false false w0 (O.written output.old) d0 (S.holds store.old) f0 (O.faults output.old) g0 (S.faults store.old) pass.old
+        → Works W.watches opening (W.did errand.new said_all start (C.last clock.new)) table.now call false false w0 (O.written output.new) d0 (S.holds store.new) f0 (O.faults output.new) g0 (S.faults store.new) pass.new }
     ensures rests { result ≡ Ok false → Rests table.now pass.new }
-    ensures worked { OnErr result ((opening : EntryKind) (all : Bool) (start : ℕ) (w0 : Option (List ℕ)) (d0 : Option Stored) (f0 g0 : ℕ) → start ≤ C.last clock.old
-        → Works W.watches opening (W.did errand.old all start (C.last clock.old)) table.now call false false w0 (O.written output.old) d0 (S.holds store.old) f0 (O.faults output.old) g0 (S.faults store.old) pass.old
+    ensures worked { OnErr result ((opening : EntryKind) (far : Progress) (start : ℕ) (w0 : Option (List ℕ)) (d0 : Option Stored) (f0 g0 : ℕ) → start ≤ C.last clock.old
+        → Works W.watches opening (W.did errand.old far start (C.last clock.old)) table.now call false false w0 (O.written output.old) d0 (S.holds store.old) f0 (O.faults output.old) g0 (S.faults store.old) pass.old
         → HasWorked W.watches opening (λ some. W.did errand.new some start (C.last clock.new)) table.now call w0 (O.written output.new) d0 (S.holds store.new) f0 (O.faults output.new) g0 (S.faults store.new) pass.new) }
     ensures halted { OnErr result (is_halted table.now.base pass.new.view.known.seen ≡ true) }
     ensures uncut { W.cuts errand.new ≡ false }
@@ -231,12 +233,12 @@ fn converse<W: Errand, O: Sink, S: Store, C: Clock, R: Wait>(
     requires open { O.finished output.old ≡ false }
     ensures can { CanDrive table.now call pass.new }
     ensures same { IsSame pass.old pass.new }
-    ensures works { OnOk result ((opening : EntryKind) (all : Bool) (start : ℕ) (w0 : Option (List ℕ)) (d0 : Option Stored) (f0 g0 : ℕ) → start ≤ C.last clock.old
-        → Works W.watches opening (W.did errand.old all start (C.last clock.old)) table.now call false false w0 (O.written output.old) d0 (S.holds store.old) f0 (O.faults output.old) g0 (S.faults store.old) pass.old
-        → Works W.watches opening (W.did errand.new true start (C.last clock.new)) table.now call true false w0 (O.written output.new) d0 (S.holds store.new) f0 (O.faults output.new) g0 (S.faults store.new) pass.new) }
+    ensures works { OnOk result ((opening : EntryKind) (far : Progress) (start : ℕ) (w0 : Option (List ℕ)) (d0 : Option Stored) (f0 g0 : ℕ) → start ≤ C.last clock.old
+        → Works W.watches opening (W.did errand.old far start (C.last clock.old)) table.now call false false w0 (O.written output.old) d0 (S.holds store.old) f0 (O.faults output.old) g0 (S.faults store.old) pass.old
+        → Works W.watches opening (W.did errand.new said_all start (C.last clock.new)) table.now call true false w0 (O.written output.new) d0 (S.holds store.new) f0 (O.faults output.new) g0 (S.faults store.new) pass.new) }
     ensures rests { OnOk result (Rests table.now pass.new) }
-    ensures worked { OnErr result ((opening : EntryKind) (all : Bool) (start : ℕ) (w0 : Option (List ℕ)) (d0 : Option Stored) (f0 g0 : ℕ) → start ≤ C.last clock.old
-        → Works W.watches opening (W.did errand.old all start (C.last clock.old)) table.now call false false w0 (O.written output.old) d0 (S.holds store.old) f0 (O.faults output.old) g0 (S.faults store.old) pass.old
+    ensures worked { OnErr result ((opening : EntryKind) (far : Progress) (start : ℕ) (w0 : Option (List ℕ)) (d0 : Option Stored) (f0 g0 : ℕ) → start ≤ C.last clock.old
+        → Works W.watches opening (W.did errand.old far start (C.last clock.old)) table.now call false false w0 (O.written output.old) d0 (S.holds store.old) f0 (O.faults output.old) g0 (S.faults store.old) pass.old
         → HasWorked W.watches opening (λ some. W.did errand.new some start (C.last clock.new)) table.now call w0 (O.written output.new) d0 (S.holds store.new) f0 (O.faults output.new) g0 (S.faults store.new) pass.new) }
     ensures halted { OnErr result (is_halted table.now.base pass.new.view.known.seen ≡ true) }
     ensures uncut { W.cuts errand.new ≡ false }
@@ -320,13 +322,13 @@ fn wind<W: Errand, O: Sink, S: Store, R: Wait>(
     ensures can { CanDrive table.now call pass.new }
     ensures same { IsSame pass.old pass.new }
     ensures works { OnOk result ((opening : EntryKind) (start upto : ℕ) (w0 : Option (List ℕ)) (d0 : Option Stored) (f0 g0 : ℕ)
-        → Works W.watches opening (W.did errand.old true start upto) table.now call true true w0 (O.written output.old) d0 (S.holds store.old) f0 (O.faults output.old) g0 (S.faults store.old) pass.old
-        → Works W.watches opening (W.did errand.new true start upto) table.now call true true w0 (O.written output.new) d0 (S.holds store.new) f0 (O.faults output.new) g0 (S.faults store.new) pass.new) }
+        → Works W.watches opening (W.did errand.old said_all start upto) table.now call true true w0 (O.written output.old) d0 (S.holds store.old) f0 (O.faults output.old) g0 (S.faults store.old) pass.old
+        → Works W.watches opening (W.did errand.new said_all start upto) table.now call true true w0 (O.written output.new) d0 (S.holds store.new) f0 (O.faults output.new) g0 (S.faults store.new) pass.new) }
     ensures worked { OnErr result ((opening : EntryKind) (start upto : ℕ) (w0 : Option (List ℕ)) (d0 : Option Stored) (f0 g0 : ℕ)
-        → Works W.watches opening (W.did errand.old true start upto) table.now call true true w0 (O.written output.old) d0 (S.holds store.old) f0 (O.faults output.old) g0 (S.faults store.old) pass.old
+        → Works W.watches opening (W.did errand.old said_all start upto) table.now call true true w0 (O.written output.old) d0 (S.holds store.old) f0 (O.faults output.old) g0 (S.faults store.old) pass.old
         → HasWorked W.watches opening (λ some. W.did errand.new some start upto) table.now call w0 (O.written output.new) d0 (S.holds store.new) f0 (O.faults output.new) g0 (S.faults store.new) pass.new) }
     ensures uncut { (opening : EntryKind) (start upto : ℕ) (w0 : Option (List ℕ)) (d0 : Option Stored) (f0 g0 : ℕ)
-        → Works W.watches opening (W.did errand.old true start upto) table.now call true true w0 (O.written output.old) d0 (S.holds store.old) f0 (O.faults output.old) g0 (S.faults store.old) pass.old
+        → Works W.watches opening (W.did errand.old said_all start upto) table.now call true true w0 (O.written output.old) d0 (S.holds store.old) f0 (O.faults output.old) g0 (S.faults store.old) pass.old
         → W.cuts errand.old ≡ false → W.cuts errand.new ≡ false }
     ensures halted { OnErr result (is_halted table.now.base pass.new.view.known.seen ≡ true) }
     ensures ready { W.ready errand.new }
@@ -362,13 +364,13 @@ fn wind_up<W: Errand, O: Sink, S: Store, R: Wait>(
     ensures can { CanDrive table.now call pass.new }
     ensures same { IsSame pass.old pass.new }
     ensures works { OnOk result ((opening : EntryKind) (start upto : ℕ) (w0 : Option (List ℕ)) (d0 : Option Stored) (f0 g0 : ℕ)
-        → Works W.watches opening (W.did errand.old true start upto) table.now call true true w0 (O.written output.old) d0 (S.holds store.old) f0 (O.faults output.old) g0 (S.faults store.old) pass.old
-        → Works W.watches opening (W.did errand.new true start upto) table.now call true true w0 (O.written output.new) d0 (S.holds store.new) f0 (O.faults output.new) g0 (S.faults store.new) pass.new) }
+        → Works W.watches opening (W.did errand.old said_all start upto) table.now call true true w0 (O.written output.old) d0 (S.holds store.old) f0 (O.faults output.old) g0 (S.faults store.old) pass.old
+        → Works W.watches opening (W.did errand.new said_all start upto) table.now call true true w0 (O.written output.new) d0 (S.holds store.new) f0 (O.faults output.new) g0 (S.faults store.new) pass.new) }
     ensures worked { OnErr result ((opening : EntryKind) (start upto : ℕ) (w0 : Option (List ℕ)) (d0 : Option Stored) (f0 g0 : ℕ)
-        → Works W.watches opening (W.did errand.old true start upto) table.now call true true w0 (O.written output.old) d0 (S.holds store.old) f0 (O.faults output.old) g0 (S.faults store.old) pass.old
+        → Works W.watches opening (W.did errand.old said_all start upto) table.now call true true w0 (O.written output.old) d0 (S.holds store.old) f0 (O.faults output.old) g0 (S.faults store.old) pass.old
         → HasWorked W.watches opening (λ some. W.did errand.new some start upto) table.now call w0 (O.written output.new) d0 (S.holds store.new) f0 (O.faults output.new) g0 (S.faults store.new) pass.new) }
     ensures uncut { (opening : EntryKind) (start upto : ℕ) (w0 : Option (List ℕ)) (d0 : Option Stored) (f0 g0 : ℕ)
-        → Works W.watches opening (W.did errand.old true start upto) table.now call true true w0 (O.written output.old) d0 (S.holds store.old) f0 (O.faults output.old) g0 (S.faults store.old) pass.old
+        → Works W.watches opening (W.did errand.old said_all start upto) table.now call true true w0 (O.written output.old) d0 (S.holds store.old) f0 (O.faults output.old) g0 (S.faults store.old) pass.old
         → W.cuts errand.old ≡ false → W.cuts errand.new ≡ false }
     ensures settled { OnOk result (is_settled (history table.now.base pass.new.view.known.seen) ≡ true) }
     ensures halted { OnErr result (is_halted table.now.base pass.new.view.known.seen ≡ true) }
@@ -426,14 +428,14 @@ pub(crate) fn drive<W: Errand, O: Sink, S: Store, C: Clock, R: Wait>(
     requires open { O.finished output.old ≡ false }
     ensures can { CanDrive table.now call pass.new }
     ensures same { IsSame pass.old pass.new }
-    ensures works { OnOk result ((opening : EntryKind) (all : Bool) (start : ℕ) (w0 : Option (List ℕ)) (d0 : Option Stored) (f0 g0 : ℕ) → start ≤ C.last clock.old
-        → Works W.watches opening (W.did errand.old all start (C.last clock.old)) table.now call false false w0 (O.written output.old) d0 (S.holds store.old) f0 (O.faults output.old) g0 (S.faults store.old) pass.old
-        → Works W.watches opening (W.did errand.new true start (C.last clock.new)) table.now call true true w0 (O.written output.new) d0 (S.holds store.new) f0 (O.faults output.new) g0 (S.faults store.new) pass.new) }
-    ensures worked { OnErr result ((opening : EntryKind) (all : Bool) (start : ℕ) (w0 : Option (List ℕ)) (d0 : Option Stored) (f0 g0 : ℕ) → start ≤ C.last clock.old
-        → Works W.watches opening (W.did errand.old all start (C.last clock.old)) table.now call false false w0 (O.written output.old) d0 (S.holds store.old) f0 (O.faults output.old) g0 (S.faults store.old) pass.old
+    ensures works { OnOk result ((opening : EntryKind) (far : Progress) (start : ℕ) (w0 : Option (List ℕ)) (d0 : Option Stored) (f0 g0 : ℕ) → start ≤ C.last clock.old
+        → Works W.watches opening (W.did errand.old far start (C.last clock.old)) table.now call false false w0 (O.written output.old) d0 (S.holds store.old) f0 (O.faults output.old) g0 (S.faults store.old) pass.old
+        → Works W.watches opening (W.did errand.new said_all start (C.last clock.new)) table.now call true true w0 (O.written output.new) d0 (S.holds store.new) f0 (O.faults output.new) g0 (S.faults store.new) pass.new) }
+    ensures worked { OnErr result ((opening : EntryKind) (far : Progress) (start : ℕ) (w0 : Option (List ℕ)) (d0 : Option Stored) (f0 g0 : ℕ) → start ≤ C.last clock.old
+        → Works W.watches opening (W.did errand.old far start (C.last clock.old)) table.now call false false w0 (O.written output.old) d0 (S.holds store.old) f0 (O.faults output.old) g0 (S.faults store.old) pass.old
         → HasWorked W.watches opening (λ some. W.did errand.new some start (C.last clock.new)) table.now call w0 (O.written output.new) d0 (S.holds store.new) f0 (O.faults output.new) g0 (S.faults store.new) pass.new) }
-    ensures uncut { (opening : EntryKind) (all : Bool) (start : ℕ) (w0 : Option (List ℕ)) (d0 : Option Stored) (f0 g0 : ℕ) → start ≤ C.last clock.old
-        → Works W.watches opening (W.did errand.old all start (C.last clock.old)) table.now call false false w0 (O.written output.old) d0 (S.holds store.old) f0 (O.faults output.old) g0 (S.faults store.old) pass.old
+    ensures uncut { (opening : EntryKind) (far : Progress) (start : ℕ) (w0 : Option (List ℕ)) (d0 : Option Stored) (f0 g0 : ℕ) → start ≤ C.last clock.old
+        → Works W.watches opening (W.did errand.old far start (C.last clock.old)) table.now call false false w0 (O.written output.old) d0 (S.holds store.old) f0 (O.faults output.old) g0 (S.faults store.old) pass.old
         → W.cuts errand.new ≡ false }
     ensures settled { OnOk result (is_settled (history table.now.base pass.new.view.known.seen) ≡ true) }
     ensures halted { OnErr result (is_halted table.now.base pass.new.view.known.seen ≡ true) }

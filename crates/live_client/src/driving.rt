@@ -11,6 +11,7 @@ ghost use Rattle.task_core.specs.bells.Bells.{Tower};
 ghost use Rattle.live_client.specs.Driving.{CanDrive, Talks, is_cutting, is_running, is_saying};
 ghost use Rattle.live_client.specs.Silent.{silent_rule};
 ghost use Rattle.live_client.specs.asks.Tasks.{Given};
+ghost use Rattle.live_client.specs.asks.Telling.{Progress, gone_on, said_all, unknown, when_over};
 
 use crate::asks::Errand;
 use crate::halting::{Halted, Seat, Table, halt};
@@ -33,10 +34,11 @@ pub(crate) fn run_one<W: Errand, R: Wait>(
     requires can { CanDrive table.now call pass.old }
     requires ready { W.ready errand.old }
     ensures adds { Adds silent_rule table.now is_running pass.old pass.new }
-    ensures talks { (opening : EntryKind) (over : Bool) (start upto : ℕ) (items : List Item) → Talks W.watches opening (W.did errand.old true start upto) table.now call true over items pass.old → Talks W.watches opening (W.did errand.new true start upto) table.now call true over items pass.new }
+    ensures talks { (opening : EntryKind) (over : Bool) (start upto : ℕ) (items : List Item) → Talks W.watches opening (W.did errand.old said_all start upto) table.now call true over items pass.old → Talks W.watches opening (W.did errand.new (when_over over) start upto) table.now call true over items pass.new }
+    ensures none { result ≡ Ok false → (opening : EntryKind) (over : Bool) (start upto : ℕ) (items : List Item) → Talks W.watches opening (W.did errand.old said_all start upto) table.now call true over items pass.old → Talks W.watches opening (W.did errand.new said_all start upto) table.now call true over items pass.new }
     ensures halted { OnErr result (is_halted table.now.base pass.new.view.known.seen ≡ true) }
     ensures uncut { OnErr result (W.cuts errand.old ≡ false → W.cuts errand.new ≡ false) }
-    ensures over { (opening : EntryKind) (start upto : ℕ) (items : List Item) → Talks W.watches opening (W.did errand.old true start upto) table.now call true true items pass.old → W.cuts errand.old ≡ false → W.cuts errand.new ≡ false }
+    ensures over { (opening : EntryKind) (start upto : ℕ) (items : List Item) → Talks W.watches opening (W.did errand.old said_all start upto) table.now call true true items pass.old → W.cuts errand.old ≡ false → W.cuts errand.new ≡ false }
     ensures ready { W.ready errand.new }
     ensures origin { W.origin errand.new ≡ W.origin errand.old }
     ensures short { W.short errand.new ≡ W.short errand.old }
@@ -68,10 +70,11 @@ fn hear_one<W: Errand, R: Wait>(
     requires call { running.run.call ≡ call }
     requires listens { W.listens errand.old ≡ true }
     ensures adds { Adds silent_rule table.now is_running pass.old pass.new }
-    ensures talks { (opening : EntryKind) (over : Bool) (start upto : ℕ) (items : List Item) → Talks W.watches opening (W.did errand.old true start upto) table.now call true over items pass.old → Talks W.watches opening (W.did errand.new true start upto) table.now call true over items pass.new }
+    ensures talks { (opening : EntryKind) (over : Bool) (start upto : ℕ) (items : List Item) → Talks W.watches opening (W.did errand.old said_all start upto) table.now call true over items pass.old → Talks W.watches opening (W.did errand.new (when_over over) start upto) table.now call true over items pass.new }
+    ensures heard { OnOk result (result ≡ Ok true) }
     ensures halted { OnErr result (is_halted table.now.base pass.new.view.known.seen ≡ true) }
     ensures uncut { OnErr result (W.cuts errand.old ≡ false → W.cuts errand.new ≡ false) }
-    ensures over { (opening : EntryKind) (start upto : ℕ) (items : List Item) → Talks W.watches opening (W.did errand.old true start upto) table.now call true true items pass.old → W.cuts errand.old ≡ false → W.cuts errand.new ≡ false }
+    ensures over { (opening : EntryKind) (start upto : ℕ) (items : List Item) → Talks W.watches opening (W.did errand.old said_all start upto) table.now call true true items pass.old → W.cuts errand.old ≡ false → W.cuts errand.new ≡ false }
     ensures ready { W.ready errand.new }
     ensures origin { W.origin errand.new ≡ W.origin errand.old }
     ensures short { W.short errand.new ≡ W.short errand.old }
@@ -94,9 +97,9 @@ fn answer<W: Errand>(running: &mut Running<Silent>, errand: &mut W) -> Result<()
     requires listens { W.listens errand.old ≡ true }
     ensures run { (running.new.run ≡ running.old.run) × (running.new.gives ≡ running.old.gives) }
     ensures answered { OnOk result (running.new.answer ≡ Some running.new.gives) }
-    ensures heard { OnOk result ((start upto : ℕ) (cut : Option End) (events : List Heard) (outs : List Given) (ended : Option End) → W.did errand.old true start upto cut events outs ended
-        → (next : Option End) × W.did errand.new true start upto cut (events ++ running.old.run.event ∷ []) outs next × (is_some ended ≡ true → (next ≡ ended) × (W.cuts errand.new ≡ false))) }
-    ensures kept { OnErr result ((all : Bool) (start upto : ℕ) (cut : Option End) (events : List Heard) (outs : List Given) (ended : Option End) → W.did errand.old all start upto cut events outs ended → W.did errand.new all start upto cut events outs ended) }
+    ensures heard { OnOk result ((start upto : ℕ) (cut : Option End) (events : List Heard) (outs : List Given) (ended : Option End) → W.did errand.old said_all start upto cut events outs ended
+        → (next : Option End) × W.did errand.new unknown start upto cut (events ++ running.old.run.event ∷ []) outs next × (is_some ended ≡ true → (next ≡ ended) × (W.cuts errand.new ≡ false) × W.did errand.new said_all start upto cut (events ++ running.old.run.event ∷ []) outs next)) }
+    ensures kept { OnErr result ((far : Progress) (start upto : ℕ) (cut : Option End) (events : List Heard) (outs : List Given) (ended : Option End) → W.did errand.old far start upto cut events outs ended → W.did errand.new far start upto cut events outs ended) }
     ensures uncut { OnErr result (W.cuts errand.old ≡ false → W.cuts errand.new ≡ false) }
     ensures ready { W.ready errand.new }
     ensures origin { W.origin errand.new ≡ W.origin errand.old }
@@ -125,7 +128,7 @@ pub(crate) fn go_on<W: Errand, C: Clock, R: Wait>(
     requires past { W.moment errand.old ≤ C.last clock.old }
     requires whole { W.short errand.old ≡ false }
     ensures adds { Adds silent_rule table.now is_saying pass.old pass.new }
-    ensures talks { (opening : EntryKind) (all over : Bool) (start : ℕ) (items : List Item) → start ≤ C.last clock.old → Talks W.watches opening (W.did errand.old all start (C.last clock.old)) table.now call true over items pass.old → Talks W.watches opening (W.did errand.new false start (C.last clock.new)) table.now call true false items pass.new }
+    ensures talks { (opening : EntryKind) (far : Progress) (over : Bool) (start : ℕ) (items : List Item) → start ≤ C.last clock.old → Talks W.watches opening (W.did errand.old far start (C.last clock.old)) table.now call true over items pass.old → Talks W.watches opening (W.did errand.new gone_on start (C.last clock.new)) table.now call true false items pass.new }
     ensures halted { OnErr result (is_halted table.now.base pass.new.view.known.seen ≡ true) }
     ensures uncut { W.cuts errand.old ≡ false → W.cuts errand.new ≡ false }
     ensures ready { W.ready errand.new }
@@ -154,8 +157,8 @@ pub(crate) fn say_one<W: Errand, R: Wait>(
     requires can { CanDrive table.now call pass.old }
     requires ready { W.ready errand.old }
     ensures adds { Adds silent_rule table.now is_saying pass.old pass.new }
-    ensures talks { (opening : EntryKind) (all : Bool) (start upto : ℕ) (items : List Item) → Talks W.watches opening (W.did errand.old all start upto) table.now call true false items pass.old → Talks W.watches opening (W.did errand.new false start upto) table.now call (is_ok result) false items pass.new }
-    ensures none { result ≡ Ok false → (opening : EntryKind) (all : Bool) (start upto : ℕ) (items : List Item) → Talks W.watches opening (W.did errand.old all start upto) table.now call true false items pass.old → Talks W.watches opening (W.did errand.new true start upto) table.now call true false items pass.new }
+    ensures talks { (opening : EntryKind) (far : Progress) (start upto : ℕ) (items : List Item) → Talks W.watches opening (W.did errand.old far start upto) table.now call true false items pass.old → Talks W.watches opening (W.did errand.new unknown start upto) table.now call (is_ok result) false items pass.new }
+    ensures none { result ≡ Ok false → (opening : EntryKind) (start upto : ℕ) (items : List Item) → Talks W.watches opening (W.did errand.old gone_on start upto) table.now call true false items pass.old → Talks W.watches opening (W.did errand.new said_all start upto) table.now call true false items pass.new }
     ensures halted { OnErr result (is_halted table.now.base pass.new.view.known.seen ≡ true) }
     ensures uncut { W.cuts errand.new ≡ W.cuts errand.old }
     ensures ready { W.ready errand.new }
@@ -184,7 +187,7 @@ pub(crate) fn cut_one<W: Errand, R: Wait>(
     requires can { CanDrive table.now call pass.old }
     requires ready { W.ready errand.old }
     ensures adds { Adds silent_rule table.now is_cutting pass.old pass.new }
-    ensures talks { (opening : EntryKind) (all : Bool) (start upto : ℕ) (items : List Item) → Talks W.watches opening (W.did errand.old all start upto) table.now call true false items pass.old → Talks W.watches opening (W.did errand.new all start upto) table.now call true false items pass.new }
+    ensures talks { (opening : EntryKind) (far : Progress) (start upto : ℕ) (items : List Item) → Talks W.watches opening (W.did errand.old far start upto) table.now call true false items pass.old → Talks W.watches opening (W.did errand.new far start upto) table.now call true false items pass.new }
     ensures uncut { W.cuts errand.new ≡ false }
     ensures ready { W.ready errand.new }
     ensures origin { W.origin errand.new ≡ W.origin errand.old }

@@ -6,6 +6,7 @@ ghost use Rattle.rpc_shared.specs.session.Leaving.{HangsUp};
 ghost use Rattle.rpc_shared.specs.session.Sessions.{is_halted};
 ghost use Rattle.live_client.specs.Ask.{live_name, live_setting, opens};
 ghost use Rattle.live_client.specs.Ran.{HasRun};
+ghost use Rattle.live_client.specs.asks.Telling.{unknown};
 ghost use Rattle.live_client.specs.Told.{HasTold};
 ghost use Rattle.live_client.specs.Waking.{CanRing};
 
@@ -67,7 +68,7 @@ pub(crate) fn run_live<
     requires past { W.moment errand.old ≤ C.last clock.old }
     requires whole { W.short errand.old ≡ false }
     requires uncut { W.cuts errand.old ≡ false }
-    requires fresh { (start upto : ℕ) → W.did errand.old true start upto None [] [] None }
+    requires fresh { (start upto : ℕ) → W.did errand.old unknown start upto None [] [] None }
     ensures ran { IfOk result (λ run. HasRun method W.watches (opens method payload) (I.left link_in.old) (I.left link_in.new) (O.written link_out.old) (O.written link_out.new) (S.holds store.old) (S.holds store.new) (I.faults link_in.old) (I.faults link_in.new) (O.faults link_out.old) (O.faults link_out.new) (S.faults store.old) (S.faults store.new) run.why run.read run.journal.entries) }
     ensures told { IfOk result (λ run. HasTold method (λ all. W.did errand.new all (C.last clock.old) (C.last clock.new)) run.journal.entries) }
     ensures uncut { OnOk result (W.cuts errand.new ≡ false) }

@@ -69,7 +69,7 @@ module _ (w v : CallErrand) (cut : Option Status) (events : List Event) (outs : 
   ends_so None ends = (heard.ended ∙ (ap (λ o. or_else o (end_by event)) ends.0 ∙ sym (end_more events event)), ends_below)
   ends_so (Some s) ends = let l = listening w more in absurd (cc (ends.1, l.on))
 
-  pub hears : (next : Option Status) × Called v cut (events ++ event ∷ []) outs next × (is_some ended ≡ true → (next ≡ ended) × (has_enough v ≡ false))
+  pub hears : (next : Option Status) × Called v cut (events ++ event ∷ []) outs next × (is_some ended ≡ true → (next ≡ ended) × (has_enough v ≡ false) × Called v cut (events ++ event ∷ []) outs next)
   hears = (
     v.ended,
     record {

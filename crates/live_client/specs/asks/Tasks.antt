@@ -1,5 +1,5 @@
 -- A task that speaks through a call: what it was told, what it said, and how it ended.
-use Rattle.std.specs.Prelude.{◌≡◌, ℕ, ◌≤◌, Bool, true, false, List, [], ◌∷◌, ◌++◌, length, map, flat_map, Option, Some}
+use Rattle.std.specs.Prelude.{◌≡◌, ◌⊎◌, ℕ, ◌≤◌, Bool, true, false, List, [], ◌∷◌, ◌++◌, length, map, flat_map, Option, Some}
 use Rattle.rpc_ids.specs.declared.status.Status.{Status}
 use Rattle.rpc_handlers.specs.declared.answer.Out.{Out}
 use Rattle.rpc_handlers.specs.declared.event.Event.{Event}
@@ -8,7 +8,7 @@ use Rattle.task_core.specs.declared.mail.Mail.{Mail}
 use Rattle.task_core.specs.declared.mail.Mail.TheVariants.{Text, Closed}
 use Rattle.task_core.specs.Visit.{Visit}
 use Rattle.task_core.specs.Log.{Step, added, posted, woken, advanced, heard, polled, took, moment_of, task_of}
-use Rattle.task_core.specs.Due.{result_of}
+use Rattle.task_core.specs.Due.{is_due, result_of}
 use Rattle.task_core.specs.Runs.{Turn}
 
 -- the mail that an event of the call is to the task
@@ -85,6 +85,32 @@ module _ {T : Type 0} where
   IsAloneIn task (polled key visit short now ∷ log) = IsAloneIn task log
   IsAloneIn task (took ∷ log) = IsAloneIn task log
 
+  -- a poll stands behind the last mail
+  abbrev pub is_polled_since : List (Step T) → Bool
+  is_polled_since [] = false
+  is_polled_since (added key task ∷ log) = false
+  is_polled_since (posted key mail ∷ log) = false
+  is_polled_since (woken key ∷ log) = is_polled_since log
+  is_polled_since (advanced moment ∷ log) = is_polled_since log
+  is_polled_since (heard key total ∷ log) = is_polled_since log
+  is_polled_since (polled key visit short task ∷ log) = true
+  is_polled_since (took ∷ log) = is_polled_since log
+
+  -- the one task was polled behind its last mail, or isn't due
+  abbrev pub HasGoneOn : List (Step T) → Type 0
+  HasGoneOn log = (is_polled_since log ≡ true) ⊎ (is_due log 0 ≡ false)
+
+  -- it had gone on behind its mail whenever more came
+  abbrev pub IsPrompt : List (Step T) → Type 0
+  IsPrompt [] = Unit {0}
+  IsPrompt (added key task ∷ log) = IsPrompt log
+  IsPrompt (posted key mail ∷ log) = HasGoneOn log × IsPrompt log
+  IsPrompt (woken key ∷ log) = IsPrompt log
+  IsPrompt (advanced moment ∷ log) = IsPrompt log
+  IsPrompt (heard key total ∷ log) = IsPrompt log
+  IsPrompt (polled key visit short task ∷ log) = IsPrompt log
+  IsPrompt (took ∷ log) = IsPrompt log
+
   -- no poll found too little memory
   abbrev pub AreWhole : List (Step T) → Type 0
   AreWhole [] = Unit {0}
@@ -112,14 +138,15 @@ module _ {T : Type 0} where
   WantedIf false log = AreWhole log
   WantedIf true log = AreWholeBefore log
 
-  -- THE TASK'S ANSWER: polled between two moments, and given these events as its mail, it said these outs in order; `now` is the
-  -- task as its last poll left it, and `ended` how that ended it, if it did. No poll found too little memory, but for the last where
-  -- memory was wanting.
+  -- THE TASK'S ANSWER: polled between two moments, and given these events as its mail, each once it had gone on behind the one before,
+  -- it said these outs in order; `now` is the task as its last poll left it, and `ended` how that ended it, if it did. No poll found
+  -- too little memory, but for the last where memory was wanting.
   pub record TaskRan (polls : T → Visit → T → Type 0) (task : T) (from upto : ℕ) (wanted : Bool) (events : List Event) (outs : List Given) (now : T) (ended : Option Status) : Type 0 where
     pub log : List (Step T)
     pub alone : IsAloneIn task log
     pub turns : AreTurns polls log
     pub between : AreBetween from upto log
+    pub prompt : IsPrompt log
     pub whole : WantedIf wanted log
     pub mail : mail_in log ≡ flat_map mail_of events
     pub said : given_in log ≡ outs

@@ -77,7 +77,7 @@ impl Errand for CallErrand {
 
     ghost did = { λ w _ _ _. Called w };
 
-    ghost weaker = { λ _ _ _ _ _ _ _ so. so };
+    ghost weaker = { λ _ _ _ _ _ _ _ _ so. so };
 
     fn hear(&mut self, event: Event) -> Result<(), AllocError> {
         self.take(event)

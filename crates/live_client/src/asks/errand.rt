@@ -4,6 +4,7 @@ ghost use Rattle.rpc_handlers.specs.declared.event.Event.{Event as Heard};
 ghost use Rattle.rpc_ids.specs.declared.status.Status.{Status as End};
 ghost use Rattle.task_core.specs.bells.Bells.{Tower};
 ghost use Rattle.live_client.specs.asks.Tasks.{Given, given_at, mails};
+ghost use Rattle.live_client.specs.asks.Telling.{Progress, gone_on, said_all, unknown};
 
 use rpc_handlers::{Event, Out};
 use rpc_ids::Status;
@@ -40,20 +41,20 @@ pub trait Errand {
     ghost cuts: { Self → Bool };
 
     /// Between two moments it was told this answer of a cancel, heard these events, gave out what is said, each with the mail that had
-    /// come by then, and ended so, if it did; and whether that is all that it has to say.
-    ghost did: { Self → Bool → ℕ → ℕ → Option End → List Heard → List Given → Option End → Type 0 };
+    /// come by then, and ended so, if it did; and how far it has come.
+    ghost did: { Self → Progress → ℕ → ℕ → Option End → List Heard → List Given → Option End → Type 0 };
 
-    /// All that it has to say is some of it.
-    ghost weaker: { (x : Self) (start upto : ℕ) (cut : Option End) (events : List Heard) (outs : List Given) (ended : Option End) → did x true start upto cut events outs ended → did x false start upto cut events outs ended };
+    /// Of any of them less may be known.
+    ghost weaker: { (x : Self) (far : Progress) (start upto : ℕ) (cut : Option End) (events : List Heard) (outs : List Given) (ended : Option End) → did x far start upto cut events outs ended → did x unknown start upto cut events outs ended };
 
     /// An event of the call was run. Where it had said all, it has nothing to say before it goes on.
     fn hear(&mut self, event: Event) -> Result<(), AllocError>
         requires ready { ready self.old }
         requires listens { listens self.old ≡ true }
         ensures ready { ready self.new }
-        ensures heard { OnOk result ((start upto : ℕ) (cut : Option End) (events : List Heard) (outs : List Given) (ended : Option End) → did self.old true start upto cut events outs ended
-            → (next : Option End) × did self.new true start upto cut (events ++ event ∷ []) outs next × (is_some ended ≡ true → (next ≡ ended) × (cuts self.new ≡ false))) }
-        ensures kept { OnErr result ((all : Bool) (start upto : ℕ) (cut : Option End) (events : List Heard) (outs : List Given) (ended : Option End) → did self.old all start upto cut events outs ended → did self.new all start upto cut events outs ended) }
+        ensures heard { OnOk result ((start upto : ℕ) (cut : Option End) (events : List Heard) (outs : List Given) (ended : Option End) → did self.old said_all start upto cut events outs ended
+            → (next : Option End) × did self.new unknown start upto cut (events ++ event ∷ []) outs next × (is_some ended ≡ true → (next ≡ ended) × (cuts self.new ≡ false) × did self.new said_all start upto cut (events ++ event ∷ []) outs next)) }
+        ensures kept { OnErr result ((far : Progress) (start upto : ℕ) (cut : Option End) (events : List Heard) (outs : List Given) (ended : Option End) → did self.old far start upto cut events outs ended → did self.new far start upto cut events outs ended) }
         ensures uncut { OnErr result (cuts self.old ≡ false → cuts self.new ≡ false) }
         ensures moment { moment self.new ≡ moment self.old }
         ensures origin { origin self.new ≡ origin self.old }
@@ -67,8 +68,8 @@ pub trait Errand {
         requires later { moment self.old ≤ now }
         requires whole { short self.old ≡ false }
         ensures ready { ready self.new }
-        ensures did { (all : Bool) (start upto : ℕ) (cut : Option End) (events : List Heard) (outs : List Given) (ended : Option End) → start ≤ now → upto ≤ now → did self.old all start upto cut events outs ended
-            → (next : Option End) × did self.new false start now cut events outs next }
+        ensures did { (far : Progress) (start upto : ℕ) (cut : Option End) (events : List Heard) (outs : List Given) (ended : Option End) → start ≤ now → upto ≤ now → did self.old far start upto cut events outs ended
+            → (next : Option End) × did self.new gone_on start now cut events outs next }
         ensures moment { moment self.new ≡ now }
         ensures origin { origin self.new ≡ origin self.old }
         ensures whole { OnOk result (short self.new ≡ false) }
@@ -79,8 +80,9 @@ pub trait Errand {
     fn next_out(&mut self) -> Option<Out>
         requires ready { ready self.old }
         ensures ready { ready self.new }
-        ensures some { IfSome result (λ out. (all : Bool) (start upto : ℕ) (cut : Option End) (events : List Heard) (outs : List Given) (ended : Option End) → did self.old all start upto cut events outs ended → did self.new false start upto cut events (outs ++ given_at (mails events) out ∷ []) ended) }
-        ensures none { IfNone result ((all : Bool) (start upto : ℕ) (cut : Option End) (events : List Heard) (outs : List Given) (ended : Option End) → did self.old all start upto cut events outs ended → did self.new true start upto cut events outs ended) }
+        ensures some { IfSome result (λ out. (far : Progress) (start upto : ℕ) (cut : Option End) (events : List Heard) (outs : List Given) (ended : Option End) → did self.old far start upto cut events outs ended → did self.new unknown start upto cut events (outs ++ given_at (mails events) out ∷ []) ended) }
+        ensures none { IfNone result ((start upto : ℕ) (cut : Option End) (events : List Heard) (outs : List Given) (ended : Option End) → did self.old gone_on start upto cut events outs ended → did self.new said_all start upto cut events outs ended) }
+        ensures kept { IfNone result ((far : Progress) (start upto : ℕ) (cut : Option End) (events : List Heard) (outs : List Given) (ended : Option End) → did self.old far start upto cut events outs ended → did self.new unknown start upto cut events outs ended) }
         ensures speaks { IfSome result (λ _. watches ≡ false) }
         ensures moment { moment self.new ≡ moment self.old }
         ensures origin { origin self.new ≡ origin self.old }
@@ -100,7 +102,7 @@ pub trait Errand {
     /// The call was cancelled, which answered this status. An errand that doesn't cancel its call hears of none.
     fn cut(&mut self, status: Status)
         ensures ready { ready self.old → ready self.new }
-        ensures did { cuts self.old ≡ true → (all : Bool) (start upto : ℕ) (before : Option End) (events : List Heard) (outs : List Given) (ended : Option End) → did self.old all start upto before events outs ended → (next : Option End) × did self.new all start upto (Some status) events outs next }
+        ensures did { cuts self.old ≡ true → (far : Progress) (start upto : ℕ) (before : Option End) (events : List Heard) (outs : List Given) (ended : Option End) → did self.old far start upto before events outs ended → (next : Option End) × did self.new far start upto (Some status) events outs next }
         ensures uncut { cuts self.new ≡ false }
         ensures moment { moment self.new ≡ moment self.old }
         ensures origin { origin self.new ≡ origin self.old }
@@ -110,5 +112,5 @@ pub trait Errand {
     /// How it ended, if it did.
     fn end(&self) -> Option<Status>
         requires ready { ready self.now }
-        ensures told { (all : Bool) (start upto : ℕ) (cut : Option End) (events : List Heard) (outs : List Given) (ended : Option End) → did self.now all start upto cut events outs ended → result ≡ ended };
+        ensures told { (far : Progress) (start upto : ℕ) (cut : Option End) (events : List Heard) (outs : List Given) (ended : Option End) → did self.now far start upto cut events outs ended → result ≡ ended };
 }

@@ -3,7 +3,7 @@ ghost use Rattle.std.specs.Prelude.{◌≡◌, ℕ, List, [], None, Some, true, 
 ghost use Rattle.task_core.specs.Log.{Step, posted, task_of};
 ghost use Rattle.task_core.specs.Tasks.{AddsNothing, Keeps, StandsFor};
 ghost use Rattle.live_client.specs.asks.Tasks.{mail_of};
-ghost use Rattle.live_client.specs.asks.Telling.{AllAdd, HasWord, IsAlone, Tells, told_weaker};
+ghost use Rattle.live_client.specs.asks.Telling.{AllAdd, HasWord, IsAlone, Tells, told_weaker, unknown};
 
 use crate::asks::errand::Errand;
 use rpc_handlers::{Event, Out};
@@ -39,7 +39,7 @@ impl<T: Task + Drop> TaskErrand<T> {
         ensures moment { IfOk result (λ e. e.tasks.moment ≡ 0) }
         ensures there { IfOk result (λ e. IsAlone e.tasks) }
         ensures whole { IfOk result (λ e. e.short.value ≡ false) }
-        ensures told { IfOk result (λ e. (start upto : ℕ) → Tells T.polls task e.tasks ear false true start upto None [] [] None) }
+        ensures told { IfOk result (λ e. (start upto : ℕ) → Tells T.polls task e.tasks ear false unknown start upto None [] [] None) }
     {
         let first = Snapshot::of(&task);
         let short = Snapshot::of(&false);

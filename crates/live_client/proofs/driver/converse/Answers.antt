@@ -1,5 +1,6 @@
-use Rattle.std.proofs.Common.{◌≤◌, Ok, true, false, refl, ap, sym, ◌∙◌, arith, le_refl}
+use Rattle.std.proofs.Common.{◌≤◌, Ok, false, refl, ap, sym, ◌∙◌, arith, le_refl}
 use Rattle.turn_cell.proofs.Calls.{same_self, same_trans}
+use Rattle.live_client.specs.asks.Telling.{said_all, unknown}
 use Rattle.live_client.proofs.WorkLemmas.{works_over}
 use Rattle.live_client.proofs.driver.converse.Goals as goal
 
@@ -37,7 +38,7 @@ loop-preserved g c = record {
   works = λ opening all start w0 d0 f0 g0 early so.
       let mid = c.loop.invariant.works opening all start w0 d0 f0 g0 early so in
       let from : start ≤ g.C.Clock.last c.loop.clock = omega (arith, early, c.loop.invariant.later) in
-      (false, c.in-Ok-false.ensures.works opening mid.0 start w0 d0 f0 g0 from mid.1);
+      (unknown, c.in-Ok-false.ensures.works opening mid.0 start w0 d0 f0 g0 from mid.1);
 }
 
 pub loop-preserved-in-Ok-true : goal.loop-preserved-in-Ok-true
@@ -57,7 +58,7 @@ loop-preserved-in-Ok-true g c = record {
   works = λ opening all start w0 d0 f0 g0 early so.
       let mid = c.loop.invariant.works opening all start w0 d0 f0 g0 early so in
       let from : start ≤ g.C.Clock.last c.loop.clock = omega (arith, early, c.loop.invariant.later) in
-      (false, c.in-Ok-true.ensures.works opening mid.0 start w0 d0 f0 g0 from mid.1);
+      (unknown, c.in-Ok-true.ensures.works opening mid.0 start w0 d0 f0 g0 from mid.1);
 }
 
 pub returns-then-is_some-clause-works : goal.returns-then-is_some-clause-works
@@ -65,9 +66,9 @@ returns-then-is_some-clause-works g c = λ opening all start w0 d0 f0 g0 early s
     let mid = c.loop.invariant.works opening all start w0 d0 f0 g0 early so in
     let from : start ≤ g.C.Clock.last c.loop.clock = omega (arith, early, c.loop.invariant.later) in
     let last = g.C.Clock.last c.round.new.clock in
-    works_over g.W.Errand.watches opening (g.W.Errand.did c.round.new.errand true start last) c.args.table.now c.args.call false w0 (g.O.Sink.written c.round.new.output) d0 (g.S.Store.holds c.round.new.store)
+    works_over g.W.Errand.watches opening (g.W.Errand.did c.round.new.errand said_all start last) c.args.table.now c.args.call false w0 (g.O.Sink.written c.round.new.output) d0 (g.S.Store.holds c.round.new.store)
     f0 (g.O.Sink.faults c.round.new.output) g0 (g.S.Store.faults c.round.new.store) c.round.new.pass c.end.result (sym c.is_some.ensures ∙ c.if-is_some.true)
-    (λ cut events outs ended x. c.end.ensures.told true start last cut events outs ended x)
+    (λ cut events outs ended x. c.end.ensures.told said_all start last cut events outs ended x)
     (c.round.ensures.none (c.in-Ok-false.is ∙ ap Ok c.in-Ok-false.field-0-test) opening mid.0 start w0 d0 f0 g0 from mid.1)
 
 pub returns-in-Err-clause-worked : goal.returns-in-Err-clause-worked

@@ -1,5 +1,6 @@
 use Rattle.std.proofs.Common.{true, false, refl, sym, subst, inl, inr, arith, le_refl}
 use Rattle.turn_cell.proofs.Calls.{same_trans}
+use Rattle.live_client.specs.asks.Telling.{said_all}
 use Rattle.live_client.proofs.asks.TellLemmas.{on_err_map, on_ok_map}
 use Rattle.live_client.specs.Driving.{Works, is_flushing}
 use Rattle.live_client.proofs.StepsOf.{can_on}
@@ -24,7 +25,7 @@ returns-in-Ok-end_output-clause-works g c = on_ok_map c.wind_up.result (λ works
     let f = g.O.Sink.faults in
     let k = g.S.Store.faults in
     let m = c.converse.new.pass in
-    let did = g.W.Errand.did c.converse.new.errand true start last in
+    let did = g.W.Errand.did c.converse.new.errand said_all start last in
     let conv = c.in-Ok.ensures.works opening all start w0 d0 f0 g0 early so in
     let fin = subst (Works watches opening did r c.args.call true true w0 (written c.end_output.new.output) d0 (holds c.converse.new.store) f0 (f c.end_output.new.output) g0 (k c.converse.new.store)) (sym c.in-Ok-end_output.ensures.kept)
     (works_finished watches opening did r c.args.call true w0 (written c.converse.new.output) (written c.end_output.new.output) d0 (holds c.converse.new.store) f0 (f c.converse.new.output) (f c.end_output.new.output) g0 (k c.converse.new.store) m
@@ -41,7 +42,7 @@ returns-in-Ok-end_output-clause-worked g c = on_err_map c.wind_up.result (λ wor
     let f = g.O.Sink.faults in
     let k = g.S.Store.faults in
     let m = c.converse.new.pass in
-    let did = g.W.Errand.did c.converse.new.errand true start last in
+    let did = g.W.Errand.did c.converse.new.errand said_all start last in
     let conv = c.in-Ok.ensures.works opening all start w0 d0 f0 g0 early so in
     let fin = subst (Works watches opening did r c.args.call true true w0 (written c.end_output.new.output) d0 (holds c.converse.new.store) f0 (f c.end_output.new.output) g0 (k c.converse.new.store)) (sym c.in-Ok-end_output.ensures.kept)
     (works_finished watches opening did r c.args.call true w0 (written c.converse.new.output) (written c.end_output.new.output) d0 (holds c.converse.new.store) f0 (f c.converse.new.output) (f c.end_output.new.output) g0 (k c.converse.new.store) m
@@ -58,7 +59,7 @@ returns-in-Ok-end_output-clause-uncut g c = λ opening all start w0 d0 f0 g0 ear
     let f = g.O.Sink.faults in
     let k = g.S.Store.faults in
     let m = c.converse.new.pass in
-    let did = g.W.Errand.did c.converse.new.errand true start last in
+    let did = g.W.Errand.did c.converse.new.errand said_all start last in
     let conv = c.in-Ok.ensures.works opening all start w0 d0 f0 g0 early so in
     let fin = subst (Works watches opening did r c.args.call true true w0 (written c.end_output.new.output) d0 (holds c.converse.new.store) f0 (f c.end_output.new.output) g0 (k c.converse.new.store)) (sym c.in-Ok-end_output.ensures.kept)
     (works_finished watches opening did r c.args.call true w0 (written c.converse.new.output) (written c.end_output.new.output) d0 (holds c.converse.new.store) f0 (f c.converse.new.output) (f c.end_output.new.output) g0 (k c.converse.new.store) m
@@ -87,11 +88,11 @@ returns-in-Err-end_output-clause-worked g c = λ opening all start w0 d0 f0 g0 e
     let f = g.O.Sink.faults in
     let k = g.S.Store.faults in
     let m = c.converse.new.pass in
-    let did = g.W.Errand.did c.converse.new.errand true start last in
+    let did = g.W.Errand.did c.converse.new.errand said_all start last in
     let conv = c.in-Ok.ensures.works opening all start w0 d0 f0 g0 early so in
     works_failed watches opening r c.args.call w0 d0 f0 g0 did true (written c.converse.new.output) (written c.end_output.new.output) (holds c.converse.new.store) (holds c.converse.new.store)
     (f c.converse.new.output) (f c.end_output.new.output) (k c.converse.new.store) (k c.converse.new.store) m c.end_output.new.pass c.end_output.ensures.calm.adds (c.end_output.ensures.later, le_refl (k c.converse.new.store))
-    c.end_output.ensures.sink (λ halts. inl (c.end_output.ensures.store halts)) true (λ some. g.W.Errand.did c.converse.new.errand some start last) false refl
+    c.end_output.ensures.sink (λ halts. inl (c.end_output.ensures.store halts)) said_all (λ some. g.W.Errand.did c.converse.new.errand some start last) false refl
     (finish_fails r c.args.call (written c.converse.new.output) (written c.end_output.new.output) (holds c.converse.new.store) m c.end_output.new.pass c.end_output.ensures.calm c.end_output.ensures.bytes) conv
 
 pub returns-in-Err-end_output-clause-uncut : goal.returns-in-Err-end_output-clause-uncut

@@ -1,6 +1,7 @@
 use Rattle.std.proofs.Common.{◌≡◌, Ok, true, false, refl, ap, ◌∙◌}
 use Rattle.turn_cell.proofs.Calls.{same_trans}
 use Rattle.live_client.specs.Driving.{is_flushing, is_saying, is_talking}
+use Rattle.live_client.specs.asks.Telling.{said_all, unknown}
 use Rattle.live_client.proofs.FeedLemmas.{on_err_with, on_ok_with}
 use Rattle.live_client.proofs.StepsOf.{can_on}
 use Rattle.live_client.proofs.TalkLemmas.{say_uncancelled, talks_calm}
@@ -41,18 +42,18 @@ returns-in-Ok-flush_one-clause-works g c = on_ok_with _ c.stands.result (λ _. �
     let p = c.args.pass.now in
     let m = c.talk.new.pass in
     let did = g.W.Errand.did c.args.errand.now all start last in
-    let t = works_talks watches opening r c.args.call w0 d0 f0 g0 did (g.W.Errand.did c.talk.new.errand false start last') false false is_talking (written c.args.output.now) (holds c.args.store.now) (f c.args.output.now) (k c.args.store.now) p m talking_wants c.talk.ensures.adds
+    let t = works_talks watches opening r c.args.call w0 d0 f0 g0 did (g.W.Errand.did c.talk.new.errand unknown start last') false false is_talking (written c.args.output.now) (holds c.args.store.now) (f c.args.output.now) (k c.args.store.now) p m talking_wants c.talk.ensures.adds
     (λ items t. c.in-Ok.ensures.talks opening all start items early t) so in
     let n = c.flush_one.new.pass in
     let e = c.flush_one.ensures in
     let made = c.in-Ok-flush_one.ensures.made in
-    let fl = works_flush watches opening r c.args.call w0 d0 f0 g0 (g.W.Errand.did c.talk.new.errand false start last') false (written c.args.output.now) (written c.flush_one.new.output) (holds c.args.store.now) (holds c.flush_one.new.store)
+    let fl = works_flush watches opening r c.args.call w0 d0 f0 g0 (g.W.Errand.did c.talk.new.errand unknown start last') false (written c.args.output.now) (written c.flush_one.new.output) (holds c.args.store.now) (holds c.flush_one.new.store)
     (f c.args.output.now) (f c.flush_one.new.output) (k c.args.store.now) (k c.flush_one.new.store) m n e.adds e.later e.sink e.store made.0 made.1 made.2 t in
     let q = c.stands.new.pass in
     let calm = c.stands.ensures.calm in
-    let now = works_talks watches opening r c.args.call w0 d0 f0 g0 (g.W.Errand.did c.talk.new.errand false start last') (g.W.Errand.did c.talk.new.errand false start last') false false is_saying (written c.flush_one.new.output) (holds c.flush_one.new.store)
+    let now = works_talks watches opening r c.args.call w0 d0 f0 g0 (g.W.Errand.did c.talk.new.errand unknown start last') (g.W.Errand.did c.talk.new.errand unknown start last') false false is_saying (written c.flush_one.new.output) (holds c.flush_one.new.store)
     (f c.flush_one.new.output) (k c.flush_one.new.store) n q says_wants calm.adds
-    (λ items t. talks_calm watches opening r c.args.call (g.W.Errand.did c.talk.new.errand false start last') (g.W.Errand.did c.talk.new.errand false start last') items true false is_saying n q say_uncancelled calm (λ cut events outs ended x. x) t) fl in
+    (λ items t. talks_calm watches opening r c.args.call (g.W.Errand.did c.talk.new.errand unknown start last') (g.W.Errand.did c.talk.new.errand unknown start last') items true false is_saying n q say_uncancelled calm (λ cut events outs ended x. x) t) fl in
     now)
 
 quiet : (g : Over) (c : goal.After-stands g) → c.stands.result ≡ Ok false → (c.in-Ok.talked ≡ false) × (c.in-Ok-flush_one.flushed ≡ false)
@@ -72,18 +73,18 @@ returns-in-Ok-flush_one-clause-none g c = λ is opening all start w0 d0 f0 g0 ea
     let m = c.talk.new.pass in
     let did = g.W.Errand.did c.args.errand.now all start last in
     let idle = c.in-Ok.is ∙ ap Ok (quiet g c is).0 in
-    let t = works_talks watches opening r c.args.call w0 d0 f0 g0 did (g.W.Errand.did c.talk.new.errand true start last') false false is_talking (written c.args.output.now) (holds c.args.store.now) (f c.args.output.now) (k c.args.store.now) p m talking_wants c.talk.ensures.adds
+    let t = works_talks watches opening r c.args.call w0 d0 f0 g0 did (g.W.Errand.did c.talk.new.errand said_all start last') false false is_talking (written c.args.output.now) (holds c.args.store.now) (f c.args.output.now) (k c.args.store.now) p m talking_wants c.talk.ensures.adds
     (λ items t. c.talk.ensures.none idle opening all start items early t) so in
     let n = c.flush_one.new.pass in
     let e = c.flush_one.ensures in
     let made = c.in-Ok-flush_one.ensures.made in
-    let fl = works_flush watches opening r c.args.call w0 d0 f0 g0 (g.W.Errand.did c.talk.new.errand true start last') false (written c.args.output.now) (written c.flush_one.new.output) (holds c.args.store.now) (holds c.flush_one.new.store)
+    let fl = works_flush watches opening r c.args.call w0 d0 f0 g0 (g.W.Errand.did c.talk.new.errand said_all start last') false (written c.args.output.now) (written c.flush_one.new.output) (holds c.args.store.now) (holds c.flush_one.new.store)
     (f c.args.output.now) (f c.flush_one.new.output) (k c.args.store.now) (k c.flush_one.new.store) m n e.adds e.later e.sink e.store made.0 made.1 made.2 t in
     let q = c.stands.new.pass in
     let calm = c.stands.ensures.calm in
-    let now = works_talks watches opening r c.args.call w0 d0 f0 g0 (g.W.Errand.did c.talk.new.errand true start last') (g.W.Errand.did c.talk.new.errand true start last') false false is_saying (written c.flush_one.new.output) (holds c.flush_one.new.store)
+    let now = works_talks watches opening r c.args.call w0 d0 f0 g0 (g.W.Errand.did c.talk.new.errand said_all start last') (g.W.Errand.did c.talk.new.errand said_all start last') false false is_saying (written c.flush_one.new.output) (holds c.flush_one.new.store)
     (f c.flush_one.new.output) (k c.flush_one.new.store) n q says_wants calm.adds
-    (λ items t. talks_calm watches opening r c.args.call (g.W.Errand.did c.talk.new.errand true start last') (g.W.Errand.did c.talk.new.errand true start last') items true false is_saying n q say_uncancelled calm (λ cut events outs ended x. x) t) fl in
+    (λ items t. talks_calm watches opening r c.args.call (g.W.Errand.did c.talk.new.errand said_all start last') (g.W.Errand.did c.talk.new.errand said_all start last') items true false is_saying n q say_uncancelled calm (λ cut events outs ended x. x) t) fl in
     now
 
 pub returns-in-Ok-flush_one-clause-rests : goal.returns-in-Ok-flush_one-clause-rests
@@ -106,19 +107,19 @@ returns-in-Ok-flush_one-clause-worked g c = on_err_with _ c.stands.result (λ _.
     let p = c.args.pass.now in
     let m = c.talk.new.pass in
     let did = g.W.Errand.did c.args.errand.now all start last in
-    let t = works_talks watches opening r c.args.call w0 d0 f0 g0 did (g.W.Errand.did c.talk.new.errand false start last') false false is_talking (written c.args.output.now) (holds c.args.store.now) (f c.args.output.now) (k c.args.store.now) p m talking_wants c.talk.ensures.adds
+    let t = works_talks watches opening r c.args.call w0 d0 f0 g0 did (g.W.Errand.did c.talk.new.errand unknown start last') false false is_talking (written c.args.output.now) (holds c.args.store.now) (f c.args.output.now) (k c.args.store.now) p m talking_wants c.talk.ensures.adds
     (λ items t. c.in-Ok.ensures.talks opening all start items early t) so in
     let n = c.flush_one.new.pass in
     let e = c.flush_one.ensures in
     let made = c.in-Ok-flush_one.ensures.made in
-    let fl = works_flush watches opening r c.args.call w0 d0 f0 g0 (g.W.Errand.did c.talk.new.errand false start last') false (written c.args.output.now) (written c.flush_one.new.output) (holds c.args.store.now) (holds c.flush_one.new.store)
+    let fl = works_flush watches opening r c.args.call w0 d0 f0 g0 (g.W.Errand.did c.talk.new.errand unknown start last') false (written c.args.output.now) (written c.flush_one.new.output) (holds c.args.store.now) (holds c.flush_one.new.store)
     (f c.args.output.now) (f c.flush_one.new.output) (k c.args.store.now) (k c.flush_one.new.store) m n e.adds e.later e.sink e.store made.0 made.1 made.2 t in
     let q = c.stands.new.pass in
     let calm = c.stands.ensures.calm in
-    let now = works_talks watches opening r c.args.call w0 d0 f0 g0 (g.W.Errand.did c.talk.new.errand false start last') (g.W.Errand.did c.talk.new.errand false start last') false false is_saying (written c.flush_one.new.output) (holds c.flush_one.new.store)
+    let now = works_talks watches opening r c.args.call w0 d0 f0 g0 (g.W.Errand.did c.talk.new.errand unknown start last') (g.W.Errand.did c.talk.new.errand unknown start last') false false is_saying (written c.flush_one.new.output) (holds c.flush_one.new.store)
     (f c.flush_one.new.output) (k c.flush_one.new.store) n q says_wants calm.adds
-    (λ items t. talks_calm watches opening r c.args.call (g.W.Errand.did c.talk.new.errand false start last') (g.W.Errand.did c.talk.new.errand false start last') items true false is_saying n q say_uncancelled calm (λ cut events outs ended x. x) t) fl in
-    works_ended watches opening r c.args.call w0 d0 f0 g0 false (λ some. g.W.Errand.did c.talk.new.errand some start last') true false false now.items (written c.flush_one.new.output) (holds c.flush_one.new.store)
+    (λ items t. talks_calm watches opening r c.args.call (g.W.Errand.did c.talk.new.errand unknown start last') (g.W.Errand.did c.talk.new.errand unknown start last') items true false is_saying n q say_uncancelled calm (λ cut events outs ended x. x) t) fl in
+    works_ended watches opening r c.args.call w0 d0 f0 g0 unknown (λ some. g.W.Errand.did c.talk.new.errand some start last') true false false now.items (written c.flush_one.new.output) (holds c.flush_one.new.store)
     (f c.flush_one.new.output) (k c.flush_one.new.store) q now.talks now.made now.causes)
 
 pub returns-in-Err-flush_one-clause-can : goal.returns-in-Err-flush_one-clause-can
@@ -141,12 +142,12 @@ returns-in-Err-flush_one-clause-worked g c = λ opening all start w0 d0 f0 g0 ea
     let p = c.args.pass.now in
     let m = c.talk.new.pass in
     let did = g.W.Errand.did c.args.errand.now all start last in
-    let t = works_talks watches opening r c.args.call w0 d0 f0 g0 did (g.W.Errand.did c.talk.new.errand false start last') false false is_talking (written c.args.output.now) (holds c.args.store.now) (f c.args.output.now) (k c.args.store.now) p m talking_wants c.talk.ensures.adds
+    let t = works_talks watches opening r c.args.call w0 d0 f0 g0 did (g.W.Errand.did c.talk.new.errand unknown start last') false false is_talking (written c.args.output.now) (holds c.args.store.now) (f c.args.output.now) (k c.args.store.now) p m talking_wants c.talk.ensures.adds
     (λ items t. c.in-Ok.ensures.talks opening all start items early t) so in
     let n = c.flush_one.new.pass in
     let e = c.flush_one.ensures in
-    works_failed watches opening r c.args.call w0 d0 f0 g0 (g.W.Errand.did c.talk.new.errand false start last') false (written c.args.output.now) (written c.flush_one.new.output) (holds c.args.store.now) (holds c.flush_one.new.store)
-    (f c.args.output.now) (f c.flush_one.new.output) (k c.args.store.now) (k c.flush_one.new.store) m n e.adds e.later e.sink e.store false (λ some. g.W.Errand.did c.talk.new.errand some start last') false refl c.in-Err-flush_one.ensures.failed t
+    works_failed watches opening r c.args.call w0 d0 f0 g0 (g.W.Errand.did c.talk.new.errand unknown start last') false (written c.args.output.now) (written c.flush_one.new.output) (holds c.args.store.now) (holds c.flush_one.new.store)
+    (f c.args.output.now) (f c.flush_one.new.output) (k c.args.store.now) (k c.flush_one.new.store) m n e.adds e.later e.sink e.store unknown (λ some. g.W.Errand.did c.talk.new.errand some start last') false refl c.in-Err-flush_one.ensures.failed t
 
 pub returns-in-Err-clause-can : goal.returns-in-Err-clause-can
 returns-in-Err-clause-can g c = can_on c.args.table.now c.args.call is_talking c.args.pass.now c.talk.new.pass c.requires.can c.talk.ensures.adds

@@ -1,9 +1,10 @@
 use Rattle.std.proofs.Common.{◌≤◌, true, false, sym, ◌∙◌, subst}
 use Rattle.rpc_shared.proofs.session.PassLemmas.{adds_trans}
 use Rattle.live_client.specs.Driving.{Talks, is_saying}
+use Rattle.live_client.specs.asks.Telling.{gone_on, unknown}
 use Rattle.live_client.specs.Silent.{silent_rule}
 use Rattle.live_client.proofs.StepsOf.{can_on}
-use Rattle.live_client.proofs.TalkLemmas.{talks_weaker}
+use Rattle.live_client.proofs.TalkLemmas.{talks_same, talks_weaker}
 use Rattle.live_client.proofs.FeedLemmas.{on_err_with, on_ok_with}
 use Rattle.live_client.proofs.driver.speak.Goals as goal
 
@@ -15,17 +16,17 @@ returns-in-Ok-clause-adds g c = adds_trans silent_rule c.args.table.now is_sayin
 
 pub returns-in-Ok-clause-talks : goal.returns-in-Ok-clause-talks
 returns-in-Ok-clause-talks g c = on_ok_with _ c.say_one.result (λ is. λ opening all start items early t.
-    subst (λ b. Talks g.W.Errand.watches opening (g.W.Errand.did c.say_one.new.errand false start (g.C.Clock.last c.go_on.new.clock)) c.args.table.now c.args.call b false items c.say_one.new.pass) is
-    (c.say_one.ensures.talks opening false start (g.C.Clock.last c.go_on.new.clock) items (c.go_on.ensures.talks opening all false start items early t)))
+    subst (λ b. Talks g.W.Errand.watches opening (g.W.Errand.did c.say_one.new.errand unknown start (g.C.Clock.last c.go_on.new.clock)) c.args.table.now c.args.call b false items c.say_one.new.pass) is
+    (c.say_one.ensures.talks opening gone_on start (g.C.Clock.last c.go_on.new.clock) items (c.go_on.ensures.talks opening all false start items early t)))
 
 pub returns-in-Ok-clause-none : goal.returns-in-Ok-clause-none
 returns-in-Ok-clause-none g c = λ is opening all start items early t.
-    c.say_one.ensures.none is opening false start (g.C.Clock.last c.go_on.new.clock) items (c.go_on.ensures.talks opening all false start items early t)
+    c.say_one.ensures.none is opening start (g.C.Clock.last c.go_on.new.clock) items (c.go_on.ensures.talks opening all false start items early t)
 
 pub returns-in-Ok-clause-stopped : goal.returns-in-Ok-clause-stopped
 returns-in-Ok-clause-stopped g c = on_err_with _ c.say_one.result (λ is. λ opening all start items early t.
-    subst (λ b. Talks g.W.Errand.watches opening (g.W.Errand.did c.say_one.new.errand false start (g.C.Clock.last c.go_on.new.clock)) c.args.table.now c.args.call b false items c.say_one.new.pass) is
-    (c.say_one.ensures.talks opening false start (g.C.Clock.last c.go_on.new.clock) items (c.go_on.ensures.talks opening all false start items early t)))
+    subst (λ b. Talks g.W.Errand.watches opening (g.W.Errand.did c.say_one.new.errand unknown start (g.C.Clock.last c.go_on.new.clock)) c.args.table.now c.args.call b false items c.say_one.new.pass) is
+    (c.say_one.ensures.talks opening gone_on start (g.C.Clock.last c.go_on.new.clock) items (c.go_on.ensures.talks opening all false start items early t)))
 
 pub returns-in-Ok-clause-uncut : goal.returns-in-Ok-clause-uncut
 returns-in-Ok-clause-uncut g c = c.say_one.ensures.uncut ∙ c.go_on.ensures.uncut c.requires.uncut
@@ -38,8 +39,10 @@ returns-in-Ok-clause-past g c = subst (λ n. n ≤ g.C.Clock.last c.go_on.new.cl
 
 pub returns-in-Err-clause-stopped : goal.returns-in-Err-clause-stopped
 returns-in-Err-clause-stopped g c = λ opening all start items early t.
-    talks_weaker g.W.Errand.watches opening c.args.table.now c.args.call (g.W.Errand.did c.go_on.new.errand false start (g.C.Clock.last c.go_on.new.clock)) (g.W.Errand.did c.go_on.new.errand false start (g.C.Clock.last c.go_on.new.clock)) items true false c.go_on.new.pass
-    (c.go_on.ensures.talks opening all false start items early t)
+    let last = g.C.Clock.last c.go_on.new.clock in
+    talks_weaker g.W.Errand.watches opening c.args.table.now c.args.call (g.W.Errand.did c.go_on.new.errand unknown start last) (g.W.Errand.did c.go_on.new.errand unknown start last) items true false c.go_on.new.pass
+    (talks_same g.W.Errand.watches opening c.args.table.now c.args.call (g.W.Errand.did c.go_on.new.errand gone_on start last) (g.W.Errand.did c.go_on.new.errand unknown start last) items true false c.go_on.new.pass
+    (λ cut events outs ended so. g.W.Errand.weaker c.go_on.new.errand gone_on start last cut events outs ended so) (c.go_on.ensures.talks opening all false start items early t))
 
 pub returns-in-Err-clause-uncut : goal.returns-in-Err-clause-uncut
 returns-in-Err-clause-uncut g c = c.go_on.ensures.uncut c.requires.uncut

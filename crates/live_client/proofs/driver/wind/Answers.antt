@@ -1,6 +1,7 @@
 use Rattle.std.proofs.Common.{true, refl}
 use Rattle.turn_cell.proofs.Calls.{same_trans}
 use Rattle.live_client.specs.Driving.{is_flushing, is_running, is_saying}
+use Rattle.live_client.specs.asks.Telling.{said_all}
 use Rattle.live_client.proofs.FeedLemmas.{on_err_with, on_ok_with}
 use Rattle.live_client.proofs.StepsOf.{can_on}
 use Rattle.live_client.proofs.TalkLemmas.{run_uncancelled, talks_calm}
@@ -30,8 +31,8 @@ returns-in-Ok-flush_one-clause-works g c = on_ok_with _ c.stands.result (λ _. �
     let k = g.S.Store.faults in
     let p = c.args.pass.now in
     let m = c.run_one.new.pass in
-    let did = g.W.Errand.did c.args.errand.now true start upto in
-    let now = g.W.Errand.did c.run_one.new.errand true start upto in
+    let did = g.W.Errand.did c.args.errand.now said_all start upto in
+    let now = g.W.Errand.did c.run_one.new.errand said_all start upto in
     let t = works_winds watches opening r c.args.call w0 d0 f0 g0 did now true true is_running (written c.args.output.now) (holds c.args.store.now) (f c.args.output.now) (k c.args.store.now) p m runs_wants run_closes c.run_one.ensures.adds
     (λ items t. c.run_one.ensures.talks opening true start upto items t) so in
     let n = c.flush_one.new.pass in
@@ -56,8 +57,8 @@ returns-in-Ok-flush_one-clause-worked g c = on_err_with _ c.stands.result (λ _.
     let k = g.S.Store.faults in
     let p = c.args.pass.now in
     let m = c.run_one.new.pass in
-    let did = g.W.Errand.did c.args.errand.now true start upto in
-    let now = g.W.Errand.did c.run_one.new.errand true start upto in
+    let did = g.W.Errand.did c.args.errand.now said_all start upto in
+    let now = g.W.Errand.did c.run_one.new.errand said_all start upto in
     let t = works_winds watches opening r c.args.call w0 d0 f0 g0 did now true true is_running (written c.args.output.now) (holds c.args.store.now) (f c.args.output.now) (k c.args.store.now) p m runs_wants run_closes c.run_one.ensures.adds
     (λ items t. c.run_one.ensures.talks opening true start upto items t) so in
     let n = c.flush_one.new.pass in
@@ -70,7 +71,7 @@ returns-in-Ok-flush_one-clause-worked g c = on_err_with _ c.stands.result (λ _.
     let end = works_winds watches opening r c.args.call w0 d0 f0 g0 now now true true is_running (written c.flush_one.new.output) (holds c.flush_one.new.store)
     (f c.flush_one.new.output) (k c.flush_one.new.store) n q runs_wants run_closes looked.adds
     (λ items t. talks_calm watches opening r c.args.call now now items true true is_running n q run_uncancelled looked (λ cut events outs ended x. x) t) fl in
-    works_ended watches opening r c.args.call w0 d0 f0 g0 true (λ some. g.W.Errand.did c.run_one.new.errand some start upto) true true true end.items (written c.flush_one.new.output) (holds c.flush_one.new.store)
+    works_ended watches opening r c.args.call w0 d0 f0 g0 said_all (λ some. g.W.Errand.did c.run_one.new.errand some start upto) true true true end.items (written c.flush_one.new.output) (holds c.flush_one.new.store)
     (f c.flush_one.new.output) (k c.flush_one.new.store) q end.talks end.made end.causes)
 
 pub returns-in-Ok-flush_one-clause-uncut : goal.returns-in-Ok-flush_one-clause-uncut
@@ -98,14 +99,14 @@ returns-in-Err-flush_one-clause-worked g c = λ opening start upto w0 d0 f0 g0 s
     let k = g.S.Store.faults in
     let p = c.args.pass.now in
     let m = c.run_one.new.pass in
-    let did = g.W.Errand.did c.args.errand.now true start upto in
-    let now = g.W.Errand.did c.run_one.new.errand true start upto in
+    let did = g.W.Errand.did c.args.errand.now said_all start upto in
+    let now = g.W.Errand.did c.run_one.new.errand said_all start upto in
     let t = works_winds watches opening r c.args.call w0 d0 f0 g0 did now true true is_running (written c.args.output.now) (holds c.args.store.now) (f c.args.output.now) (k c.args.store.now) p m runs_wants run_closes c.run_one.ensures.adds
     (λ items t. c.run_one.ensures.talks opening true start upto items t) so in
     let n = c.flush_one.new.pass in
     let e = c.flush_one.ensures in
     works_failed watches opening r c.args.call w0 d0 f0 g0 now true (written c.args.output.now) (written c.flush_one.new.output) (holds c.args.store.now) (holds c.flush_one.new.store)
-    (f c.args.output.now) (f c.flush_one.new.output) (k c.args.store.now) (k c.flush_one.new.store) m n e.adds e.later e.sink e.store true (λ some. g.W.Errand.did c.run_one.new.errand some start upto) true refl c.in-Err-flush_one.ensures.failed t
+    (f c.args.output.now) (f c.flush_one.new.output) (k c.args.store.now) (k c.flush_one.new.store) m n e.adds e.later e.sink e.store said_all (λ some. g.W.Errand.did c.run_one.new.errand some start upto) true refl c.in-Err-flush_one.ensures.failed t
 
 pub returns-in-Err-clause-can : goal.returns-in-Err-clause-can
 returns-in-Err-clause-can g c = can_on c.args.table.now c.args.call is_running c.args.pass.now c.run_one.new.pass c.requires.can c.run_one.ensures.adds
@@ -123,9 +124,9 @@ returns-in-Err-clause-worked g c = λ opening start upto w0 d0 f0 g0 so.
     let k = g.S.Store.faults in
     let p = c.args.pass.now in
     let m = c.run_one.new.pass in
-    let did = g.W.Errand.did c.args.errand.now true start upto in
-    let now = g.W.Errand.did c.run_one.new.errand true start upto in
+    let did = g.W.Errand.did c.args.errand.now said_all start upto in
+    let now = g.W.Errand.did c.run_one.new.errand said_all start upto in
     let t = works_winds watches opening r c.args.call w0 d0 f0 g0 did now true true is_running (written c.args.output.now) (holds c.args.store.now) (f c.args.output.now) (k c.args.store.now) p m runs_wants run_closes c.run_one.ensures.adds
     (λ items t. c.run_one.ensures.talks opening true start upto items t) so in
-    works_ended watches opening r c.args.call w0 d0 f0 g0 true (λ some. g.W.Errand.did c.run_one.new.errand some start upto) true true true t.items (written c.args.output.now) (holds c.args.store.now)
+    works_ended watches opening r c.args.call w0 d0 f0 g0 said_all (λ some. g.W.Errand.did c.run_one.new.errand some start upto) true true true t.items (written c.args.output.now) (holds c.args.store.now)
     (f c.args.output.now) (k c.args.store.now) m t.talks t.made t.causes

@@ -1,6 +1,7 @@
 use Rattle.std.proofs.Common.{true, refl, ◌∙◌, arith, le_refl}
 use Rattle.turn_cell.proofs.Calls.{same_self, same_trans}
 use Rattle.live_client.specs.Driving.{is_running}
+use Rattle.live_client.specs.asks.Telling.{said_all}
 use Rattle.live_client.proofs.StepsOf.{can_on}
 use Rattle.live_client.proofs.TalkLemmas.{run_uncancelled, talks_calm}
 use Rattle.live_client.proofs.WorkLemmas.{run_closes, runs_wants, works_winds}
@@ -31,9 +32,9 @@ loop-preserved g c = record {
   sink_later = omega (arith, c.loop.invariant.sink_later, c.wind.ensures.faults.0);
   store_later = omega (arith, c.loop.invariant.store_later, c.wind.ensures.faults.1);
   works = λ opening start upto w0 d0 f0 g0 so.
-      works_winds g.W.Errand.watches opening c.args.table.now c.args.call w0 d0 f0 g0 (g.W.Errand.did c.wind.new.errand true start upto) (g.W.Errand.did c.wind.new.errand true start upto) true true is_running (g.O.Sink.written c.wind.new.output) (g.S.Store.holds c.wind.new.store)
+      works_winds g.W.Errand.watches opening c.args.table.now c.args.call w0 d0 f0 g0 (g.W.Errand.did c.wind.new.errand said_all start upto) (g.W.Errand.did c.wind.new.errand said_all start upto) true true is_running (g.O.Sink.written c.wind.new.output) (g.S.Store.holds c.wind.new.store)
       (g.O.Sink.faults c.wind.new.output) (g.S.Store.faults c.wind.new.store) c.wind.new.pass c.is_done.new.pass runs_wants run_closes c.is_done.ensures.calm.adds
-      (λ items t. talks_calm g.W.Errand.watches opening c.args.table.now c.args.call (g.W.Errand.did c.wind.new.errand true start upto) (g.W.Errand.did c.wind.new.errand true start upto) items true true is_running c.wind.new.pass c.is_done.new.pass run_uncancelled c.is_done.ensures.calm (λ cut events outs ended x. x) t)
+      (λ items t. talks_calm g.W.Errand.watches opening c.args.table.now c.args.call (g.W.Errand.did c.wind.new.errand said_all start upto) (g.W.Errand.did c.wind.new.errand said_all start upto) items true true is_running c.wind.new.pass c.is_done.new.pass run_uncancelled c.is_done.ensures.calm (λ cut events outs ended x. x) t)
       (c.in-Ok-false.ensures.works opening start upto w0 d0 f0 g0 (c.loop.invariant.works opening start upto w0 d0 f0 g0 so));
   uncut = λ opening start upto w0 d0 f0 g0 so before. c.wind.ensures.uncut opening start upto w0 d0 f0 g0 (c.loop.invariant.works opening start upto w0 d0 f0 g0 so) (c.loop.invariant.uncut opening start upto w0 d0 f0 g0 so before);
 }
@@ -60,9 +61,9 @@ returns-then-is_done-clause-same g c = same_trans c.args.pass.now c.wind.new.pas
 
 pub returns-then-is_done-clause-works : goal.returns-then-is_done-clause-works
 returns-then-is_done-clause-works g c = λ opening start upto w0 d0 f0 g0 so.
-    works_winds g.W.Errand.watches opening c.args.table.now c.args.call w0 d0 f0 g0 (g.W.Errand.did c.wind.new.errand true start upto) (g.W.Errand.did c.wind.new.errand true start upto) true true is_running (g.O.Sink.written c.wind.new.output) (g.S.Store.holds c.wind.new.store)
+    works_winds g.W.Errand.watches opening c.args.table.now c.args.call w0 d0 f0 g0 (g.W.Errand.did c.wind.new.errand said_all start upto) (g.W.Errand.did c.wind.new.errand said_all start upto) true true is_running (g.O.Sink.written c.wind.new.output) (g.S.Store.holds c.wind.new.store)
     (g.O.Sink.faults c.wind.new.output) (g.S.Store.faults c.wind.new.store) c.wind.new.pass c.is_done.new.pass runs_wants run_closes c.is_done.ensures.calm.adds
-    (λ items t. talks_calm g.W.Errand.watches opening c.args.table.now c.args.call (g.W.Errand.did c.wind.new.errand true start upto) (g.W.Errand.did c.wind.new.errand true start upto) items true true is_running c.wind.new.pass c.is_done.new.pass run_uncancelled c.is_done.ensures.calm (λ cut events outs ended x. x) t)
+    (λ items t. talks_calm g.W.Errand.watches opening c.args.table.now c.args.call (g.W.Errand.did c.wind.new.errand said_all start upto) (g.W.Errand.did c.wind.new.errand said_all start upto) items true true is_running c.wind.new.pass c.is_done.new.pass run_uncancelled c.is_done.ensures.calm (λ cut events outs ended x. x) t)
     (c.in-Ok-false.ensures.works opening start upto w0 d0 f0 g0 (c.loop.invariant.works opening start upto w0 d0 f0 g0 so))
 
 pub returns-then-is_done-clause-uncut : goal.returns-then-is_done-clause-uncut
