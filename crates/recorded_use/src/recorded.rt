@@ -3,6 +3,7 @@
 
 mod checks;
 mod cuts;
+mod dumps;
 mod journal_limit;
 mod journals;
 mod loads;

@@ -41,6 +41,14 @@ const OTHERS: &[&str] = &[
     "load||1",
     "load|30001|1",
     "load|1|18446744073709551616",
+    "Dump",
+    "dump|",
+    "dump|demo.Foo",
+    "dump|demo.Foo/",
+    "dump|/Bar",
+    "dump|demo.Foo/Bar/",
+    "dump|demo.Foo/B ar",
+    "dump|demo.Foo/Bar|Bar",
 ];
 
 #[test]
@@ -82,12 +90,13 @@ fn is_refused(alloc: Global, words: &[String]) -> Result<bool, AllocError> {
 #[test]
 fn the_longest_load_is_a_command(rt: HostRuntime) -> Result<(), AllocError> {
     let words = words_of(rt.alloc(), "load|30000|1")?;
-    assert_eq!(rt;
+    let is_longest = matches!(
         Command::of(&words),
         Some(Command::Load {
             calls: 30_000,
             seed: 1
         })
     );
+    is_so(&rt, "load|30000|1", is_longest);
     Ok(())
 }
