@@ -22,7 +22,7 @@ use Rattle.rpc_journal.specs.Lawful.{is_unary_call}
 use Rattle.rpc_journal.specs.Refusals.{close_refusal, done_refusal, invoke_refusal, is_full, out_refusal, refused_where, say_refusal, tick_refusal}
 use Rattle.rpc_journal.specs.Rows.{channels_in, method_named}
 use Rattle.rpc_schedule.specs.OneThread.{HasRoom, takes_room}
-use Rattle.rpc_schedule.specs.Schedule.{Ran, Settles, Stage, Turn, Turns, flush_seat, run_seat}
+use Rattle.rpc_schedule.specs.Schedule.{Ran, Stage, Turn, Turns, flush_seat, run_seat}
 use Rattle.rpc_schedule.specs.Schedule.Stage.{flushing, running}
 use Rattle.rpc_schedule.specs.Serving.{Serving}
 use Rattle.rpc_schedule.specs.Settling.{SettlesAll}

@@ -1,5 +1,5 @@
 -- What comes to the server, and goes out of it, in the world.
-use Rattle.std.proofs.Common.{◌≡◌, ℕ, ◌+◌, List, ◌++◌, Option, Some, None, if◌then◌else◌, length, refl, ap, sym, ◌∙◌, subst}
+use Rattle.std.proofs.Common.{◌≡◌, ℕ, ◌+◌, List, ◌++◌, Option, Some, refl, ap, sym, ◌∙◌, subst}
 use Rattle.demo_services.specs.DemoRule.{demo_rule}
 use Rattle.link_script.specs.declared.command.Command.{Command}
 use Rattle.link_script.specs.declared.command.Command.TheVariants.{Close}
@@ -16,8 +16,6 @@ use Rattle.link_laws.specs.world.Starts.{ended_by_close, starts}
 use Rattle.link_laws.specs.world.Turns.{ServerTakes, closed_by, starting, to_server, with_command, with_frame_at_server}
 use Rattle.link_laws.specs.world.World.{Setup, World, closing, server_deeds, with_server}
 use Rattle.link_world.specs.declared.client.under.Under.TheVariants.{Closing}
-use Rattle.rpc_channel.specs.Rising.{has_id}
-use Rattle.rpc_journal.specs.Rows.{channels_in}
 use Rattle.link_world.specs.server.ServerSide.{ServerHears, ServerMoves, ServerRests, ServerState}
 use Rattle.rpc_schedule.specs.Schedule.{Settles}
 use Rattle.link_world.specs.server.Wiring.{Wiring}

@@ -1,6 +1,5 @@
 -- Scripts that have a transfer of one resource more than once, with what is told of their runs.
-use Rattle.std.specs.Prelude.{ℕ, List, [], ◌∷◌}
-use Rattle.link_script.specs.declared.command.Command.{Command}
+use Rattle.std.specs.Prelude.{ℕ, [], ◌∷◌}
 use Rattle.link_script.specs.declared.command.Command.TheVariants.{Read, Write}
 use Rattle.link_script.specs.declared.report.ReportLine.TheVariants as line
 use Rattle.link_script.specs.declared.stock.Stock.{Stock}

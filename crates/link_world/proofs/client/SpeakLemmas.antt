@@ -1,17 +1,14 @@
 -- A call that a client has opened takes its messages, and then the end of their stream.
-use Rattle.std.proofs.Common.{◌≡◌, ◌⊎◌, ℕ, Bool, true, false, List, [], ◌∷◌, Option, Some, None, codes, refl, ap, sym, ◌∙◌, subst, inl, inr}
+use Rattle.std.proofs.Common.{◌≡◌, ◌⊎◌, ℕ, Bool, true, false, List, Some, None, codes, refl, ap, sym, ◌∙◌, subst, inl, inr}
 use Rattle.rpc_ids.specs.Names.{name_id}
 use Rattle.rpc_ids.specs.declared.method.Kind.{Kind}
 use Rattle.rpc_ids.specs.declared.method.Kind.TheVariants.{Bidi, ClientStream, ServerStream, Unary}
 use Rattle.rpc_ids.specs.declared.method.MethodRef.{MethodRef}
-use Rattle.rpc_ids.specs.declared.method.Role.TheVariants.{Client}
 use Rattle.demo_services.specs.Methods.{demo_id, demo_method}
 use Rattle.rpc_handlers.specs.HandlerRule.{empty_memo}
-use Rattle.rpc_handlers.specs.declared.answer.Out.{Out}
 use Rattle.rpc_handlers.specs.declared.answer.Out.TheVariants.{Say as Message}
 use Rattle.rpc_journal.specs.declared.answers.SayRefused.{SayRefused}
 use Rattle.rpc_journal.specs.declared.answers.SayRefused.TheVariants.{JournalFull, Memory as NoMemory}
-use Rattle.rpc_journal.specs.declared.entry.Entry.{Entry}
 use Rattle.rpc_journal.specs.declared.entry.EntryKind.TheVariants.{Say}
 use Rattle.rpc_journal.specs.declared.setting.Setting.{Setting}
 use Rattle.rpc_journal.specs.Effect.{Deed}

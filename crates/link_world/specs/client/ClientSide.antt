@@ -1,5 +1,5 @@
 -- The client of a world, between two things that come to it, and what they do to it.
-use Rattle.std.specs.Prelude.{◌≡◌, ℕ, ◌≤◌, ◌<◌, List, ◌++◌, Option, IfSome}
+use Rattle.std.specs.Prelude.{◌≡◌, ℕ, ◌≤◌, ◌<◌, List, Option, IfSome}
 use Rattle.link_io.specs.Stored.{Stored}
 use Rattle.rpc_ids.specs.declared.method.Role.TheVariants.{Client}
 use Rattle.rpc_handlers.specs.declared.event.Event.{Event}

@@ -19,6 +19,6 @@ returns-clause-speaks c =
     if_ok_more c.open.result
     (λ n speaks streams. opened_can c.args.plain old.table.setting (deeds old) c.args.payload new n c.requires.setting
     (subst (λ (method : ℕ). (m : MethodRef) → method_named old.table.setting (next_name demo_id method (deeds old)) ≡ Some m
-        → IsSpeaking (deeds new) n (opening_by (request (next_name demo_id method (deeds old)) c.args.payload) m empty_memo))
+    → IsSpeaking (deeds new) n (opening_by (request (next_name demo_id method (deeds old)) c.args.payload) m empty_memo))
     c.method_of.ensures speaks) streams)
     c.open.ensures.speaks

@@ -1,5 +1,4 @@
-use Rattle.std.proofs.Common.{◌<◌, arith, sym, subst}
-use Rattle.link_world.specs.client.ClientSide.{ClientRests, ClientState}
+use Rattle.std.proofs.Common.{arith}
 use Rattle.link_world.proofs.client.IdleLemmas.{few_at_rest}
 use Rattle.link_world.proofs.client.client_end.ClientEnd.settle.Goals as goal
 

@@ -2,7 +2,7 @@ use Rattle.std.proofs.Common.{◌∙◌, Some, ap, inl, inr, sym, subst}
 use Rattle.link_world.specs.client.ClientSide.{ClientRests, ClientState, ClientWorks}
 use Rattle.link_world.proofs.client.AskLemmas.{asks_by, stops_by_work}
 use Rattle.link_world.proofs.client.EndLemmas.{kept_by}
-use Rattle.std.proofs.Common.{◌<◌, arith}
+use Rattle.std.proofs.Common.{arith}
 use Rattle.link_world.proofs.client.IdleLemmas.{few_at_rest}
 use Rattle.link_world.proofs.client.client_end.ClientEnd.start.Goals as goal
 
