@@ -108,11 +108,11 @@ fn ends(rt: &impl Abort, did: Live, end: Status, wanted: &[&[u8]]) {
 
 fn echoes<R: Threads + Wait + Sync + Abort>(
     rt: &R,
+    alloc: Global,
     rows: &[Answer],
     end: Status,
     wanted: &[&[u8]],
 ) -> Result<(), Fail> {
-    let alloc = rt.alloc();
     let input = answers(alloc, ECHO, rows)?;
     let did = does(rt, alloc, input, &mut Still::new(), echo())?;
     ends(rt, did, end, wanted);
@@ -121,16 +121,16 @@ fn echoes<R: Threads + Wait + Sync + Abort>(
 
 #[test]
 fn a_unary_call_keeps_its_response(rt: HostRuntime) -> Result<(), Fail> {
-    echoes(&rt, ECHOED, Status::Okay, &[b"abc"])?;
-    echoes(&rt, EMPTY, Status::Okay, &[b""])
+    echoes(&rt, rt.alloc(), ECHOED, Status::Okay, &[b"abc"])?;
+    echoes(&rt, rt.alloc(), EMPTY, Status::Okay, &[b""])
 }
 
 #[test]
 fn a_unary_call_ends_as_the_board_says(rt: HostRuntime) -> Result<(), Fail> {
-    echoes(&rt, UNKNOWN, Status::NotFound, &[])?;
-    echoes(&rt, REFUSED, Status::InvalidArgument, &[])?;
-    echoes(&rt, STREAMED, Status::InvalidArgument, &[])?;
-    echoes(&rt, &[], Status::Unavailable, &[])
+    echoes(&rt, rt.alloc(), UNKNOWN, Status::NotFound, &[])?;
+    echoes(&rt, rt.alloc(), REFUSED, Status::InvalidArgument, &[])?;
+    echoes(&rt, rt.alloc(), STREAMED, Status::InvalidArgument, &[])?;
+    echoes(&rt, rt.alloc(), &[], Status::Unavailable, &[])
 }
 
 #[test]

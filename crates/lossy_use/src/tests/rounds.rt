@@ -145,27 +145,29 @@ fn ends_so(rt: &impl Abort, alloc: Global, row: &Row) -> Result<(), AllocError> 
     Ok(())
 }
 
+// So does each of these rows.
+fn all_end_so(rt: &impl Abort, alloc: Global, rows: &[Row]) -> Result<(), AllocError> {
+    for row in rows {
+        ends_so(rt, alloc, row)?;
+    }
+    Ok(())
+}
+
 #[test]
 fn three_lossy_rounds_are_survived_and_four_are_not(rt: HostRuntime) -> Result<(), Fail> {
-    for row in START_LOST {
-        ends_so(&rt, rt.alloc(), row)?;
-    }
+    all_end_so(&rt, rt.alloc(), START_LOST)?;
     Ok(())
 }
 
 #[test]
 fn each_ends_though_it_takes_the_most_turns(rt: HostRuntime) -> Result<(), Fail> {
-    for row in MOST_TURNS {
-        ends_so(&rt, rt.alloc(), row)?;
-    }
+    all_end_so(&rt, rt.alloc(), MOST_TURNS)?;
     Ok(())
 }
 
 #[test]
 fn what_is_not_promised_of_losses(rt: HostRuntime) -> Result<(), Fail> {
-    for row in NOT_PROMISED {
-        ends_so(&rt, rt.alloc(), row)?;
-    }
+    all_end_so(&rt, rt.alloc(), NOT_PROMISED)?;
     Ok(())
 }
 
