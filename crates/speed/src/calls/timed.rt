@@ -34,19 +34,22 @@ struct Readings {
 
 impl Times {
     fn add(&mut self, r: Readings) {
-        *self = Times {
-            arrivals: with(self.arrivals, r.began, r.arrived),
-            starts: with(self.starts, r.arrived, r.started),
-            handlers: with(self.handlers, r.started, r.answered),
-            finishes: with(self.finishes, r.answered, r.finished),
-            readings: with(self.readings, r.before, r.began),
-        };
+        self.readings = self
+            .readings
+            .saturating_add(r.began.duration_since(r.before));
+        self.arrivals = self
+            .arrivals
+            .saturating_add(r.arrived.duration_since(r.began));
+        self.starts = self
+            .starts
+            .saturating_add(r.started.duration_since(r.arrived));
+        self.handlers = self
+            .handlers
+            .saturating_add(r.answered.duration_since(r.started));
+        self.finishes = self
+            .finishes
+            .saturating_add(r.finished.duration_since(r.answered));
     }
-}
-
-// A time with that from one reading to another.
-fn with(time: Duration, from: Instant, to: Instant) -> Duration {
-    time.saturating_add(to.duration_since(from))
 }
 
 impl fmt::Display for Times {
@@ -78,8 +81,7 @@ pub fn open_calls(calls: &mut Calls<DemoCall>, maker: &DemoMaker, live: u32) -> 
 
 // A run of the call that is ready first, and what it says goes out.
 fn run(calls: &mut Calls<DemoCall>) -> anyhow::Result<()>
-    requires { IsFed calls.old }
-    ensures { OnOk result (IsFed calls.new) }
+    ensures { OnOk result (IsFed calls.old → IsFed calls.new) }
 {
     let Some(mut running) = start(calls)? else {
         return Ok(());
