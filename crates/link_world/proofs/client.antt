@@ -1,3 +1,4 @@
+mod NumberLemmas
 mod TransferLaws
 mod OnePollLemmas
 mod MailLemmas

@@ -39,6 +39,7 @@ use Rattle.link_world.specs.client.ClientSide.{ClientWorks}
 use Rattle.link_world.specs.client.Underway.{call_seen, call_under, task_seen, under_seen}
 use Rattle.link_world.specs.client.Working.{IsKept, Settled, TakesMore}
 use Rattle.link_world.proofs.RoomLemmas.{within_adding}
+use Rattle.link_world.proofs.client.NumberLemmas.{numbered_entry}
 
 -- No packet opens a call at a client.
 
@@ -92,6 +93,7 @@ arrived_kept old items events p room kept =
       setting = kept.setting;
       items = kept.items ∙ sym steps.same_items;
       events = λ c. ap (λ ds. finished_since ds c) (history-push set h e) ∙ (rw opens refl ∙ kept.events c);
+      numbered = numbered_entry set h e refl (rw opens tt) kept.numbered;
     }
 
 arrived_calls : (old : Serving) (p : Packet) → old.table.setting ≡ client_setting → calls (deeds (with_entry old input_seat (Arrive p))) ≡ calls (deeds old)

@@ -28,10 +28,10 @@ use Rattle.rpc_handlers.specs.declared.event.Memo.{Memo}
 use Rattle.rpc_journal.specs.declared.answers.InvokeRefused.{InvokeRefused}
 use Rattle.rpc_journal.specs.declared.answers.InvokeRefused.TheVariants.{JournalFull, Live, Memory as NoMemory, NoChannel, NoMethod}
 use Rattle.rpc_journal.specs.declared.entry.EntryKind.TheVariants.{Invoke, Say}
-use Rattle.rpc_journal.specs.Items.{input_ended, is_end_in, is_flush, items_waiting}
+use Rattle.rpc_journal.specs.Items.{input_ended, is_end_in, is_flush, is_for, items_waiting}
 use Rattle.rpc_journal.specs.Kinds.{is_empty, or_else}
 use Rattle.rpc_journal.specs.Refusals.{invoke_refusal, is_full, refused_where}
-use Rattle.rpc_journal.specs.Rows.{channels_in, method_named}
+use Rattle.rpc_journal.specs.Rows.{channel_closed, channels_in, method_named}
 use Rattle.rpc_schedule.specs.OneThread.{takes_room}
 use Rattle.rpc_schedule.specs.Schedule.{run_seat}
 use Rattle.rpc_schedule.specs.Serving.{Serving, deeds}
@@ -51,6 +51,7 @@ use Rattle.link_world.specs.client.ClientSide.{ClientState, ClientWorks}
 use Rattle.link_world.specs.client.Underway.{task_seen, under_of}
 use Rattle.link_world.proofs.RoomLemmas.{within_adding}
 use Rattle.link_world.proofs.client.IdleLemmas.{few_more}
+use Rattle.link_world.proofs.client.NumberLemmas.{OpensNext, numbered_entry}
 use Rattle.rpc_schedule.proofs.EntryLemmas.{length-push}
 
 nothing_dropped : {A : Type 0} (n : ℕ) → drop {A = A} n [] ≡ []
@@ -118,8 +119,9 @@ grows set h seat kind =
 pub adds_one : (old new : EndState) (kind : EntryKind) → KeepsAside old new → new.serving.table.entries ≡ adding old.serving.table.entries run_seat kind → IsOrderly old.serving
     → is_full old.serving.table.entries ≡ false → ((k : ℕ) → is_start_of k kind ≡ false) → ((k : ℕ) → is_finish_of k kind ≡ false) → ((k : ℕ) → is_replace_of k kind ≡ false)
     → is_flush kind ≡ false → takes_room kind ≡ false → is_end_in kind ≡ false → length (effect_of old.serving.table.setting (deeds old.serving) kind).says ≤ 1
+    → is_for 1 (channel_closed kind) ≡ false → OpensNext (call_count (deeds old.serving)) (effect_of old.serving.table.setting (deeds old.serving) kind).opens
     → ClientAdds old.serving (adding old.serving.table.entries run_seat kind) new.serving
-adds_one old new kind aside adds orderly free start finish replace flush room ends one =
+adds_one old new kind aside adds orderly free start finish replace flush room ends one closes opens =
     subst (ClientAdds old.serving (adding old.serving.table.entries run_seat kind)) (sym (entered_is old new run_seat kind aside adds))
     (let set = old.serving.table.setting in
     let h = old.serving.table.entries in
@@ -138,6 +140,7 @@ adds_one old new kind aside adds orderly free start finish replace flush room en
         setting = k.setting;
         items = k.items ∙ sym enter.items;
         events = λ c. kept_events set h run_seat kind finish replace c ∙ k.events c;
+        numbered = numbered_entry set h (entry_by run_seat kind) closes opens k.numbered;
       };
     })
 

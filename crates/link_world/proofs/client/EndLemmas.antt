@@ -23,7 +23,8 @@ use Rattle.rpc_journal.specs.Calls.{call_at, call_count, calls, end_of, ends_of,
 use Rattle.rpc_journal.specs.Effect.{Deed, Opening}
 use Rattle.rpc_journal.specs.Entries.{cancel_effect, effect_of}
 use Rattle.rpc_journal.specs.History.{adding, entry_by, history}
-use Rattle.rpc_journal.specs.Items.{input_ended, is_flush}
+use Rattle.rpc_journal.specs.Items.{input_ended, is_flush, is_for}
+use Rattle.rpc_journal.specs.Rows.{channel_closed}
 use Rattle.rpc_journal.specs.States.{finished_since}
 use Rattle.rpc_journal.proofs.PlaceLemmas.{some_same}
 use Rattle.rpc_journal.proofs.Push.{history-push}
@@ -40,6 +41,7 @@ use Rattle.link_world.specs.client.ClientSide.{ClientMoves, ClientRests, ClientS
 use Rattle.link_world.specs.client.Working.{IsKept, Settled}
 use Rattle.link_world.specs.Room.{has_kept_room}
 use Rattle.link_world.proofs.RoomLemmas.{within_kept}
+use Rattle.link_world.proofs.client.NumberLemmas.{numbered_entry}
 
 pub moves_by : (before after : ClientState) (old new : Wiring) → after.end.serving.table.setting ≡ before.end.serving.table.setting
     → GoesOut Client before.items old after.items new
@@ -52,10 +54,10 @@ moves_by before after old new setting out holds = record {
 }
 
 pub rests_by : (s : ClientState) → IsResting s.end.serving → IsKept s.end.serving s.items s.events → ClientRests s
-rests_by s rest k = record { resting = rest; setting = k.setting; items = k.items; events = k.events }
+rests_by s rest k = record { resting = rest; setting = k.setting; items = k.items; events = k.events; numbered = k.numbered }
 
 pub kept_by : (s : ClientState) → ClientRests s → IsKept s.end.serving s.items s.events
-kept_by s rest = record { orderly = rest.resting.orderly; room = rest.resting.room; setting = rest.setting; items = rest.items; events = rest.events }
+kept_by s rest = record { orderly = rest.resting.orderly; room = rest.resting.room; setting = rest.setting; items = rest.items; events = rest.events; numbered = rest.numbered }
 
 -- the client is at rest behind its work
 pub rests_then : (now : ℕ) (old new : Serving) (u1 u2 : Option Under) (items : List Item) (events : List (ℕ × Event)) → old.refused ≡ None → input_ended (deeds old) ≡ false
@@ -69,12 +71,13 @@ rests_then now old new u1 u2 items events accepts unended settled k = record {
   room = k.room;
 }
 
--- an entry that opens no call and ends no run: what is kept is as it was
+-- an entry that opens no call, ends no run and closes no channel 1: what is kept is as it was
 pub entered_kept : (old : Serving) (items : List Item) (events : List (ℕ × Event)) (seat : ℕ) (kind : EntryKind) → IsKept old items events
     → (effect_of old.table.setting (deeds old) kind).opens ≡ None
     → ((k : ℕ) → is_start_of k kind ≡ false) → ((k : ℕ) → is_finish_of k kind ≡ false) → ((k : ℕ) → is_replace_of k kind ≡ false)
-    → is_flush kind ≡ false → takes_room kind ≡ false → has_kept_room kind ≡ true → IsKept (with_entry old seat kind) items events
-entered_kept old items events seat kind k opens start finish replace flush room kept =
+    → is_flush kind ≡ false → takes_room kind ≡ false → has_kept_room kind ≡ true → is_for 1 (channel_closed kind) ≡ false
+    → IsKept (with_entry old seat kind) items events
+entered_kept old items events seat kind k opens start finish replace flush room kept closes =
     let set = old.table.setting in
     let h = old.table.entries in
     let enter = enters old seat kind k.orderly start finish flush room in
@@ -84,6 +87,7 @@ entered_kept old items events seat kind k opens start finish replace flush room 
       setting = k.setting;
       items = k.items ∙ sym enter.items;
       events = λ c. ap (λ ds. finished_since ds c) (history-push set h (entry_by seat kind)) ∙ (rw (opens, replace c, finish c) refl ∙ k.events c);
+      numbered = numbered_entry set h (entry_by seat kind) closes (rw opens tt) k.numbered;
     }
 
 pub entered_calls : (old : Serving) (seat : ℕ) (kind : EntryKind) → (effect_of old.table.setting (deeds old) kind).opens ≡ None

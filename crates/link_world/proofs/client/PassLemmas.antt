@@ -1,5 +1,5 @@
 -- Entries that open no call, and neither put nor take an event: what is said, and flushes.
-use Rattle.std.proofs.Common.{◌≡◌, ℕ, zero, suc, ◌<◌, Bool, true, false, List, [], ◌∷◌, ◌++◌, drop, get_or, length, take, Option, Some, None, is_none, option_map, not, ◌&&◌, ◌⊎◌, if◌then◌else◌, Ok, Err, inl, inr, refl, ap, sym, ◌∙◌, subst, arith, append-nil}
+use Rattle.std.proofs.Common.{◌≡◌, ℕ, zero, suc, ◌<◌, Bool, true, false, List, [], ◌∷◌, ◌++◌, drop, get_or, length, take, Option, Some, None, is_none, option_map, not, ◌&&◌, ◌||◌, ◌⊎◌, if◌then◌else◌, Ok, Err, inl, inr, refl, ap, sym, ◌∙◌, subst, arith, append-nil}
 use Rattle.rpc_handlers.specs.declared.answer.Out.{Out}
 use Rattle.rpc_handlers.specs.declared.answer.Out.TheVariants.{Append, Begin, Commit, Leave, Say as Message}
 use Rattle.std.proofs.Math.Seq.{drop-cons}
@@ -19,10 +19,10 @@ use Rattle.rpc_journal.specs.Calls.{call_at, calls, end_of, is_cancelled, is_fin
 use Rattle.rpc_journal.specs.Effect.{Deed, Effect, Opening}
 use Rattle.rpc_journal.specs.Entries.{effect_of, out_item, with_call}
 use Rattle.rpc_journal.specs.History.{adding, deeds_with, entry_by, history}
-use Rattle.rpc_journal.specs.Items.{arrivals, is_done}
+use Rattle.rpc_journal.specs.Items.{arrivals, is_done, is_for}
 use Rattle.rpc_journal.specs.Queues.{puts_since, starts_since, waiting_of}
 use Rattle.rpc_journal.specs.Refusals.{is_full, out_refusal, refused_where, say_refusal}
-use Rattle.rpc_journal.specs.Rows.{says_item}
+use Rattle.rpc_journal.specs.Rows.{channel_closed, is_closed, says_item}
 use Rattle.rpc_journal.specs.States.{finished_since}
 use Rattle.rpc_journal.proofs.PlaceLemmas.{some_same}
 use Rattle.rpc_journal.proofs.Push.{history-push}
@@ -45,6 +45,7 @@ use Rattle.link_world.proofs.RoomLemmas.{unfull, within_adding, within_kept}
 -- the entry leaves the calls and their events alone
 record IsPassing (kind : EntryKind) (does : Effect) : Type 0 where
   opens : does.opens ≡ None
+  closes : is_for 1 (channel_closed kind) ≡ false
   drops : does.drops ≡ []
   puts : does.puts ≡ []
   start : (c : ℕ) → is_start_of c kind ≡ false
@@ -53,32 +54,35 @@ record IsPassing (kind : EntryKind) (does : Effect) : Type 0 where
 
 record LeavesAlone (before after : List Deed) : Type 0 where
   calls : calls after ≡ calls before
+  closed : is_closed after 1 ≡ is_closed before 1
   took : (c : ℕ) → finished_since after c ≡ finished_since before c
   waiting : (c : ℕ) → waiting_of after c ≡ waiting_of before c
 
 leaves_alone : (set : Setting) (ds : List Deed) (e : Entry) → IsPassing e.kind (effect_of set ds e.kind) → LeavesAlone ds (deeds_with set ds e)
 leaves_alone set ds e p = record {
   calls = rw p.opens (append-nil (calls ds));
+  closed = ap (λ b. b || is_closed ds 1) p.closes;
   took = λ c. rw (p.opens, p.replace c, p.finish c) refl;
   waiting = λ c. rw (p.drops, p.puts, p.start c) (ap (drop (starts_since ds c)) (append-nil (puts_since ds c)));
 }
 
 pub passes_none : (s : Serving) → IsOrderly s → Passes s s
-passes_none s orderly = record { stays = stays_itself s; orderly = orderly; calls = refl; took = λ c. refl; waiting = λ c. refl; room = λ all. all }
+passes_none s orderly = record { stays = stays_itself s; orderly = orderly; calls = refl; closed = refl; took = λ c. refl; waiting = λ c. refl; room = λ all. all }
 
 pub passes_then : (a b c : Serving) → Passes a b → Passes b c → Passes a c
 passes_then a b c first more = record {
   stays = stays_then a b c first.stays more.stays;
   orderly = more.orderly;
   calls = more.calls ∙ first.calls;
+  closed = more.closed ∙ first.closed;
   took = λ k. more.took k ∙ first.took k;
   waiting = λ k. more.waiting k ∙ first.waiting k;
   room = λ all. more.room (first.room all);
 }
 
 said_effect : (o : Option Opening) (f : Opening → Item) (c : ℕ) (out : Out) → IsPassing (Say c out) (with_call o (λ opening. says_item (f opening)))
-said_effect None f c out = record { opens = refl; drops = refl; puts = refl; start = λ k. refl; finish = λ k. refl; replace = λ k. refl }
-said_effect (Some o) f c out = record { opens = refl; drops = refl; puts = refl; start = λ k. refl; finish = λ k. refl; replace = λ k. refl }
+said_effect None f c out = record { opens = refl; closes = refl; drops = refl; puts = refl; start = λ k. refl; finish = λ k. refl; replace = λ k. refl }
+said_effect (Some o) f c out = record { opens = refl; closes = refl; drops = refl; puts = refl; start = λ k. refl; finish = λ k. refl; replace = λ k. refl }
 
 -- one thing was said
 said_passes : (s : Serving) (c : ℕ) (out : Out) → IsOrderly s → is_full s.table.entries ≡ false → ClientSays s (adding s.table.entries run_seat (Say c out)) (with_entry s run_seat (Say c out))
@@ -100,6 +104,7 @@ said_passes s c out orderly free =
         };
         orderly = enter.orderly;
         calls = ap calls is ∙ alone.calls;
+        closed = ap (λ ds. is_closed ds 1) is ∙ alone.closed;
         took = λ k. ap (λ ds. finished_since ds k) is ∙ alone.took k;
         waiting = λ k. ap (λ ds. waiting_of ds k) is ∙ alone.waiting k;
         room = λ all. within_adding h run_seat (Say c out) all free;
@@ -227,11 +232,12 @@ flush_passes old new item steps gives =
     let h = old.table.entries in
     let e = entry_by flush_seat Flush in
     let is : deeds new ≡ deeds_with set (history set h) e = ap deeds gives.1 ∙ history-push set h e in
-    let alone = leaves_alone set (history set h) e (record { opens = refl; drops = refl; puts = refl; start = λ k. refl; finish = λ k. refl; replace = λ k. refl }) in
+    let alone = leaves_alone set (history set h) e (record { opens = refl; closes = refl; drops = refl; puts = refl; start = λ k. refl; finish = λ k. refl; replace = λ k. refl }) in
     record {
       stays = steps.stays;
       orderly = steps.orderly;
       calls = ap calls is ∙ alone.calls;
+      closed = ap (λ ds. is_closed ds 1) is ∙ alone.closed;
       took = λ k. ap (λ ds. finished_since ds k) is ∙ alone.took k;
       waiting = λ k. ap (λ ds. waiting_of ds k) is ∙ alone.waiting k;
       room = λ all. subst (λ s. StaysWithin s.table.entries) (sym gives.1) (within_kept h flush_seat Flush all refl);

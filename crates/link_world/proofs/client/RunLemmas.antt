@@ -19,7 +19,7 @@ use Rattle.rpc_journal.specs.Entries.{answered, end_effect, finish_effect, is_he
 use Rattle.rpc_journal.specs.History.{adding, deeds_with, entry_by, history}
 use Rattle.rpc_journal.specs.Items.{flush_count, is_done, is_ready, items_flushed, items_sent, items_waiting}
 use Rattle.rpc_journal.specs.Queues.{taken_event, waiting_of}
-use Rattle.rpc_journal.specs.Rows.{both_effects, no_effect, says_item}
+use Rattle.rpc_journal.specs.Rows.{both_effects, is_closed, no_effect, says_item}
 use Rattle.rpc_journal.specs.States.{finished_since}
 use Rattle.rpc_journal.proofs.PlaceLemmas.{some_same}
 use Rattle.rpc_journal.proofs.Push.{history-push}
@@ -60,6 +60,7 @@ ready_kept set h c ready = not-true _ (and_parts _ _ (and_parts _ _ (and_parts _
 record OneRun (old : Serving) (handed : ℕ × Event) (new : Serving) : Type 0 where
   steps : StepsRun quiet_rule old new
   calls : calls (deeds new) ≡ calls (deeds old)
+  closed : is_closed (deeds new) 1 ≡ is_closed (deeds old) 1
   waiting : items_waiting (deeds new) ≡ items_waiting (deeds old)
   took : (c : ℕ) → finished_since (deeds new) c ≡ finished_since (deeds old) c ++ of_call c (handed ∷ [])
 
@@ -96,6 +97,10 @@ module _ (set : Setting) (ds : List Deed) (c : ℕ) (event : Event) (a : Answer)
   unfolding start done
   done_calls = append-nil (calls ds ++ []) ∙ append-nil (calls ds)
 
+  done_closed : is_closed done 1 ≡ is_closed ds 1
+  unfolding start done
+  done_closed = refl
+
   done_waiting : items_waiting done ≡ items_waiting ds
   unfolding start done
   done_waiting = ap (λ items. length items - flush_count ds) (append-nil (items_sent ds ++ []) ∙ append-nil (items_sent ds))
@@ -131,6 +136,7 @@ one_run old begun new handed orderly begins on =
         record {
           steps = steps;
           calls = ap calls deeds_are ∙ done_calls old.table.setting (deeds old) begins.call handed.1 o.ends.answer;
+          closed = ap (λ ds. is_closed ds 1) deeds_are ∙ done_closed old.table.setting (deeds old) begins.call handed.1 o.ends.answer;
           waiting = ap items_waiting deeds_are ∙ done_waiting old.table.setting (deeds old) begins.call handed.1 o.ends.answer;
           took = λ k. ap (λ ds. finished_since ds k) deeds_are
               ∙ (done_took old.table.setting (deeds old) begins.call handed.1 o.ends.answer first k
@@ -149,6 +155,7 @@ record RanSo (old : Serving) (handed : List (ℕ × Event)) (new : Serving) : Ty
   stays : Stays old new
   orderly : IsOrderly new
   calls : calls (deeds new) ≡ calls (deeds old)
+  closed : is_closed (deeds new) 1 ≡ is_closed (deeds old) 1
   count : ℕ
   runs : RunsTo quiet_rule old.table.setting count old.table.entries new.table.entries
   same_items : items_flushed (deeds new) ≡ items_flushed (deeds old)
@@ -167,6 +174,7 @@ ran_none s orderly = record {
   stays = stays_itself s;
   orderly = orderly;
   calls = refl;
+  closed = refl;
   count = 0;
   runs = refl;
   same_items = refl;
@@ -183,6 +191,7 @@ all_run (x ∷ handed) old new orderly all =
       stays = stays_then old all.0 new one.steps.stays rest.stays;
       orderly = rest.orderly;
       calls = rest.calls ∙ one.calls;
+      closed = rest.closed ∙ one.closed;
       count = suc rest.count;
       runs = (all.0.table.entries, one.steps.ran, subst (λ set. RunsTo quiet_rule set rest.count all.0.table.entries new.table.entries) one.steps.stays.setting rest.runs);
       same_items = rest.same_items ∙ one.steps.same_items;
@@ -203,6 +212,7 @@ client_runs old before new after orderly u =
       stays = ran.stays;
       orderly = ran.orderly;
       calls = ran.calls;
+      closed = ran.closed;
       run_count = ran.count;
       runs = ran.runs;
       none_ready = u.stops.none_ready;

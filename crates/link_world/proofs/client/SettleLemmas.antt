@@ -29,6 +29,7 @@ use Rattle.link_world.specs.client.Speaking.{SayingStops, mail_among, polled_wit
 use Rattle.link_world.specs.client.Underway.{task_seen, under_seen}
 use Rattle.link_world.specs.client.Working.{ClientFlushes, ClientRuns, ClientRunsFull, ClientSays, IsKept, Settled}
 use Rattle.link_world.proofs.RoomLemmas.{runs_within}
+use Rattle.link_world.proofs.client.NumberLemmas.{numbered_still}
 
 -- a slice from a place on
 pub rest_is : {A : Type 0} (xs : List A) (n : ℕ) → take (length xs - n) (drop n xs) ≡ drop n xs
@@ -159,4 +160,5 @@ module _ (now : ℕ) (old ran : Serving) (before after : List (ℕ × Event)) (r
     items = are;
     events = λ c. flushes.passes.took c ∙ (says.passes.took c ∙ (runs.took c ∙ (ap (λ events. events ++ of_call c runs.more) (kept.events c)
         ∙ (sym (of_call_append c before runs.more) ∙ ap (of_call c) (sym runs.events)))));
+    numbered = numbered_still (deeds old) (deeds new) (flushes.passes.calls ∙ (says.passes.calls ∙ runs.calls)) (flushes.passes.closed ∙ (says.passes.closed ∙ runs.closed)) kept.numbered;
   }

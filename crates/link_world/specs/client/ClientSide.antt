@@ -1,12 +1,15 @@
 -- The client of a world, between two things that come to it, and what they do to it.
-use Rattle.std.specs.Prelude.{◌≡◌, ℕ, ◌≤◌, ◌<◌, List, Option, IfSome}
+use Rattle.std.specs.Prelude.{◌≡◌, ℕ, ◌≤◌, ◌<◌, false, List, Option, IfSome}
+use Rattle.std.specs.List.{AllByRecursion}
 use Rattle.link_io.specs.Stored.{Stored}
 use Rattle.rpc_ids.specs.declared.method.Role.TheVariants.{Client}
 use Rattle.rpc_handlers.specs.declared.event.Event.{Event}
 use Rattle.rpc_journal.specs.declared.entry.Entry.{Entry}
 use Rattle.rpc_journal.specs.declared.item.Item.{Item}
-use Rattle.rpc_journal.specs.Calls.{call_count, of_call}
+use Rattle.rpc_journal.specs.Calls.{call_count, calls, of_call}
+use Rattle.rpc_journal.specs.Effect.{Deed, Opening}
 use Rattle.rpc_journal.specs.Items.{items_flushed}
+use Rattle.rpc_journal.specs.Rows.{is_closed}
 use Rattle.rpc_journal.specs.States.{finished_since}
 use Rattle.rpc_schedule.specs.Kept.{kept}
 use Rattle.rpc_schedule.specs.Serving.{Serving, deeds}
@@ -33,12 +36,18 @@ pub record ClientState : Type 0 where
 abbrev pub HasEvents : Serving → List (ℕ × Event) → Type 0
 HasEvents s events = (c : ℕ) → finished_since (deeds s) c ≡ of_call c events
 
+-- one more call can open with the next id: channel 1 is open, and no id is larger than the number of calls
+pub record IsNumbered (ds : List Deed) : Type 0 where
+  pub unclosed : is_closed ds 1 ≡ false
+  pub ids : AllByRecursion (λ (o : Opening). o.name.call ≤ call_count ds) (calls ds)
+
 -- nothing is left to do, and what was kept of its history is what its history tells
 pub record ClientRests (s : ClientState) : Type 0 where
   pub resting : IsResting s.end.serving
   pub setting : s.end.serving.table.setting ≡ client_setting
   pub items : s.items ≡ items_flushed (deeds s.end.serving)
   pub events : HasEvents s.end.serving s.events
+  pub numbered : IsNumbered (deeds s.end.serving)
 
 -- what is under way is about a call that is there, and a task was polled last at this moment or before
 pub record Attends (s : ClientState) (under : Option Under) (now : ℕ) : Type 0 where

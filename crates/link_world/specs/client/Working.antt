@@ -11,6 +11,7 @@ use Rattle.rpc_journal.specs.Calls.{calls, of_call}
 use Rattle.rpc_journal.specs.Choice.{NoneReady}
 use Rattle.rpc_journal.specs.Items.{arrivals, items_flushed, items_waiting}
 use Rattle.rpc_journal.specs.Queues.{waiting_of}
+use Rattle.rpc_journal.specs.Rows.{is_closed}
 use Rattle.rpc_journal.specs.States.{finished_since}
 use Rattle.rpc_schedule.specs.Schedule.{IsOver, NoneWaits}
 use Rattle.rpc_schedule.specs.Serving.{Serving, deeds, is_idle}
@@ -23,23 +24,25 @@ use Rattle.link_laws.specs.world.World.{Tasked}
 use Rattle.link_world.specs.declared.server.stopped.Stopped.{Stopped}
 use Rattle.link_world.specs.declared.server.stopped.Stopped.TheVariants.{Journal, Memory}
 use Rattle.link_world.specs.declared.client.under.Under.{Under}
-use Rattle.link_world.specs.client.ClientSide.{ClientWorks, HasEvents}
+use Rattle.link_world.specs.client.ClientSide.{ClientWorks, HasEvents, IsNumbered}
 use Rattle.link_world.specs.client.Underway.{task_seen, under_seen}
 use Rattle.link_world.specs.Room.{StaysWithin}
 
--- nothing runs, each entry had room, and what was kept of the history is what it tells
+-- nothing runs, each entry had room, one more call can open, and what was kept of the history is what it tells
 pub record IsKept (s : Serving) (out : List Item) (taken : List (ℕ × Event)) : Type 0 where
   pub orderly : IsOrderly s
   pub room : StaysWithin s.table.entries
   pub setting : s.table.setting ≡ client_setting
   pub items : out ≡ items_flushed (deeds s)
   pub events : HasEvents s taken
+  pub numbered : IsNumbered (deeds s)
 
 -- all ready calls ran, and the events that they took came behind those of the list
 pub record ClientRuns (old : Serving) (before : List (ℕ × Event)) (new : Serving) (after : List (ℕ × Event)) : Type 0 where
   pub stays : Stays old new
   pub orderly : IsOrderly new
   pub calls : calls (deeds new) ≡ calls (deeds old)
+  pub closed : is_closed (deeds new) 1 ≡ is_closed (deeds old) 1
   pub run_count : ℕ
   pub runs : RunsTo quiet_rule old.table.setting run_count old.table.entries new.table.entries
   pub none_ready : NoneReady (deeds new)
@@ -55,11 +58,12 @@ pub record ClientRunsFull (old new : Serving) : Type 0 where
   pub runs : RunsTo quiet_rule old.table.setting run_count old.table.entries new.table.entries
   pub stops : HasNoRoom old.table.setting new.table.entries
 
--- entries were added that had room, open no call, and neither put nor take an event
+-- entries were added that had room, open no call, close no channel 1, and neither put nor take an event
 pub record Passes (old new : Serving) : Type 0 where
   pub stays : Stays old new
   pub orderly : IsOrderly new
   pub calls : calls (deeds new) ≡ calls (deeds old)
+  pub closed : is_closed (deeds new) 1 ≡ is_closed (deeds old) 1
   pub took : (c : ℕ) → finished_since (deeds new) c ≡ finished_since (deeds old) c
   pub waiting : (c : ℕ) → waiting_of (deeds new) c ≡ waiting_of (deeds old) c
   pub room : StaysWithin old.table.entries → StaysWithin new.table.entries

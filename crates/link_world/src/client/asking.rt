@@ -1,9 +1,10 @@
 //! What the client adds as a command starts.
 ghost use Rattle.std.specs.Prelude.{◌≡◌, ◌≢◌, ℕ, ◌+◌, ◌<◌, ◌≤◌, ◌&&◌, ◌==◌, is_none, true, false, List, [], ◌∷◌, ◌++◌, length, slice_get, IfErr, IfOk, IfSome, OnOk, Some};
-ghost use Rattle.demo_services.specs.Methods.{demo_id, transfer_id};
+ghost use Rattle.demo_services.specs.Methods.{demo_id, demo_methods, transfer_id};
 ghost use Rattle.rpc_handlers.specs.Limits.{is_long, is_long_out};
 ghost use Rattle.rpc_handlers.specs.HandlerRule.{empty_memo};
 ghost use Rattle.rpc_ids.specs.Names.{name_id};
+ghost use Rattle.rpc_ids.specs.Registry.{method_of};
 ghost use Rattle.rpc_ids.specs.declared.method.MethodRef.{MethodRef};
 ghost use Rattle.rpc_ids.specs.declared.method.Role.TheVariants.{Client as client_role};
 ghost use Rattle.rpc_journal.specs.declared.entry.EntryKind.TheVariants.{Done, Say};
@@ -21,6 +22,7 @@ ghost use Rattle.link_laws.specs.world.Setup.{client_setting};
 ghost use Rattle.link_laws.specs.world.Starts.{all_added, live_transfers, next_name, opens_with, request};
 ghost use Rattle.link_laws.specs.one_run.Speaking.{IsSpeaking, opening_by};
 ghost use Rattle.link_world.specs.client.Asking.{CanSpeak, ClientAdds, adds_by, call_by, has_stream, message_kinds, method_id};
+ghost use Rattle.link_world.specs.client.ClientSide.{IsNumbered};
 
 use crate::client::quiet::Quiet;
 use crate::client::under::Plain;
@@ -47,6 +49,7 @@ pub(crate) fn ask_call(
 ) -> Result<u32, Stopped>
     requires setting { client.old.serving.table.setting ≡ client_setting }
     requires orderly { IsOrderly client.old.serving }
+    requires numbered { IsNumbered (deeds client.old.serving) }
     requires short { is_long payload ≡ false }
     ensures call { IfOk result (λ c. c ≡ call_count (deeds client.old.serving)) }
     ensures there { IfOk result (λ c. c < call_count (deeds client.new.serving)) }
@@ -68,6 +71,7 @@ pub(crate) fn ask_stream(
 ) -> Result<u32, Stopped>
     requires setting { client.old.serving.table.setting ≡ client_setting }
     requires orderly { IsOrderly client.old.serving }
+    requires numbered { IsNumbered (deeds client.old.serving) }
     requires streams { has_stream plain ≡ true }
     ensures call { IfOk result (λ c. c ≡ call_count (deeds client.old.serving)) }
     ensures there { IfOk result (λ c. c < call_count (deeds client.new.serving)) }
@@ -99,7 +103,9 @@ pub(crate) fn transfer_call(
 ) -> Result<u32, Stopped>
     requires setting { client.old.serving.table.setting ≡ client_setting }
     requires orderly { IsOrderly client.old.serving }
+    requires numbered { IsNumbered (deeds client.old.serving) }
     requires method { method ≢ 0 }
+    requires known { is_none (method_of demo_methods transfer_id method) ≡ false }
     ensures call { IfOk result (λ c. c ≡ call_by (live_transfers method (deeds client.old.serving)) (call_count (deeds client.old.serving))) }
     ensures there { IfOk result (λ c. c < call_count (deeds client.new.serving)) }
     ensures adds { OnOk result (ClientAdds client.old.serving (all_added (adds_by (live_transfers method (deeds client.old.serving)) (opens_with transfer_id method [] (deeds client.old.serving))) client.old.serving.table.entries) client.new.serving) }
@@ -123,8 +129,10 @@ fn open(
 ) -> Result<u32, Stopped>
     requires setting { client.old.serving.table.setting ≡ client_setting }
     requires orderly { IsOrderly client.old.serving }
+    requires numbered { IsNumbered (deeds client.old.serving) }
     requires service { service ≢ 0 }
     requires method { method ≢ 0 }
+    requires known { is_none (method_of demo_methods service method) ≡ false }
     requires short { is_long payload ≡ false }
     ensures call { IfOk result (λ c. c ≡ call_count (deeds client.old.serving)) }
     ensures there { IfOk result (λ c. c < call_count (deeds client.new.serving)) }
@@ -134,9 +142,9 @@ fn open(
     ensures full { IfErr result (λ why. why ≡ Stopped.Journal → is_full client.old.serving.table.entries ≡ true) }
     ensures fed { (bytes : List ℕ) → WasFed client_role client.old bytes → WasFed client_role client.new bytes }
 {
-    // The journal is full long before.
+    // There are no more calls than entries, so the journal is full long before.
     let Some(id) = client.calls().count().checked_add(1) else {
-        return Err(Stopped::Memory);
+        return Err(Stopped::Journal);
     };
     let name = CallName {
         channel: CHANNEL,
@@ -146,8 +154,12 @@ fn open(
     };
     match client.invoke(name, payload, Quiet { alloc }) {
         Ok(call) => Ok(call),
-        Err((_, InvokeRefused::JournalFull)) => Err(Stopped::Journal),
-        Err((_, _)) => Err(Stopped::Memory),
+        Err((_, refused)) => match refused {
+            InvokeRefused::JournalFull => Err(Stopped::Journal),
+            InvokeRefused::Memory => Err(Stopped::Memory),
+            // The channel is open, the method is known, and no call has this id.
+            _ => unreachable!(),
+        },
     }
 }
 

@@ -15,6 +15,7 @@ ghost use Rattle.link_laws.specs.world.Setup.{client_setting};
 ghost use Rattle.link_laws.specs.world.Starts.{starts};
 ghost use Rattle.link_laws.specs.world.World.{Setup, World};
 ghost use Rattle.link_world.specs.client.Asking.{Begins, ClientAdds, IsAsked, IsClientOf};
+ghost use Rattle.link_world.specs.client.ClientSide.{IsNumbered};
 ghost use Rattle.link_world.specs.client.Underway.{call_seen, last_poll};
 
 use crate::client::asking::{ask_call, ask_stream, transfer_call};
@@ -42,6 +43,7 @@ pub(crate) fn begin(
 ) -> Result<Under, Stopped>
     requires setting { client.old.serving.table.setting ≡ client_setting }
     requires orderly { IsOrderly client.old.serving }
+    requires numbered { IsNumbered (deeds client.old.serving) }
     requires asked { IsAsked command.now }
     requires room { sessions.old + 1 < 2 ^ 32 }
     requires small { AreSmall store.now.full }
@@ -103,6 +105,7 @@ fn begin_read(
 ) -> Result<Under, Stopped>
     requires setting { client.old.serving.table.setting ≡ client_setting }
     requires orderly { IsOrderly client.old.serving }
+    requires numbered { IsNumbered (deeds client.old.serving) }
     requires offset { offset ≤ MAX_RESOURCE }
     requires room { sessions.old + 1 < 2 ^ 32 }
     ensures begins { IfOk result (λ way. (k : Setup) (w : World) (at : ℕ) → IsClientOf k w (record { end = client.old; stored = store.now; items = []; events = [] }) sessions.old tuning at → Begins k w (Read resource offset) client.new.serving.table.entries way sessions.new) }
@@ -138,6 +141,7 @@ fn begin_write(
 ) -> Result<Under, Stopped>
     requires setting { client.old.serving.table.setting ≡ client_setting }
     requires orderly { IsOrderly client.old.serving }
+    requires numbered { IsNumbered (deeds client.old.serving) }
     requires room { sessions.old + 1 < 2 ^ 32 }
     requires small { AreSmall store.now.full }
     ensures begins { IfOk result (λ way. (k : Setup) (w : World) (at : ℕ) → IsClientOf k w (record { end = client.old; stored = store.now; items = []; events = [] }) sessions.old tuning at → Begins k w (Write resource offset) client.new.serving.table.entries way sessions.new) }

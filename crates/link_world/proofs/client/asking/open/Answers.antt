@@ -1,4 +1,5 @@
-use Rattle.std.proofs.Common.{◌≡◌, ◌<◌, ◌∙◌, ◌+◌, refl, ap, sym, subst}
+use Rattle.std.proofs.Common.{◌≡◌, ◌<◌, ◌∙◌, ◌+◌, length, refl, ap, sym, subst, arith}
+use Rattle.std.proofs.lemmas.Bool.{le-leb}
 use Rattle.rpc_packet.specs.declared.call_name.CallName.{CallName}
 use Rattle.rpc_handlers.specs.HandlerRule.{empty_memo}
 use Rattle.rpc_journal.specs.declared.entry.EntryKind.TheVariants.{Invoke}
@@ -12,6 +13,8 @@ use Rattle.link_world.proofs.server.RestLemmas.{entered_is}
 use Rattle.link_world.specs.client.Asking.{ClientAdds}
 use Rattle.link_world.proofs.client.AskLemmas.{adds_one, invoke_full, invoked_there}
 use Rattle.link_world.proofs.RoomLemmas.{invoked_unfull}
+use Rattle.rpc_journal.specs.Rows.{method_named}
+use Rattle.link_world.proofs.client.NumberLemmas.{calls_within, invoke_cause, invoked_opens}
 use Rattle.link_world.proofs.client.IdleLemmas.{invoke_says}
 use Rattle.std.proofs.Common.{[], ◌∷◌}
 use Rattle.link_laws.specs.world.Starts.{opens_with}
@@ -42,13 +45,31 @@ returns-in-Ok-clause-adds c =
     subst (λ n. ClientAdds old.serving (adding old.serving.table.entries run_seat (Invoke (request (record { channel = 1; service = c.args.service; method = c.args.method; call = n }) c.args.payload) empty_memo)) c.invoke.new.self.serving) id
     (adds_one old c.invoke.new.self (Invoke (request (record { channel = 1; service = c.args.service; method = c.args.method; call = c.in-Some.id }) c.args.payload) empty_memo)
     c.in-Ok.ensures.aside c.in-Ok.ensures.did.adds c.requires.orderly
-    (invoked_unfull old.serving.table.setting old.serving.table.entries (record { channel = 1; service = c.args.service; method = c.args.method; call = c.in-Some.id }) c.in-Ok.ensures.did.unrefused) (λ k. refl) (λ k. refl) (λ k. refl) refl refl refl (invoke_says old.serving.table.setting (deeds old.serving) (request (record { channel = 1; service = c.args.service; method = c.args.method; call = c.in-Some.id }) c.args.payload) empty_memo))
+    (invoked_unfull old.serving.table.setting old.serving.table.entries (record { channel = 1; service = c.args.service; method = c.args.method; call = c.in-Some.id }) c.in-Ok.ensures.did.unrefused) (λ k. refl) (λ k. refl) (λ k. refl) refl refl refl (invoke_says old.serving.table.setting (deeds old.serving) (request (record { channel = 1; service = c.args.service; method = c.args.method; call = c.in-Some.id }) c.args.payload) empty_memo) refl
+    (invoked_opens (deeds old.serving) (request (record { channel = 1; service = c.args.service; method = c.args.method; call = c.in-Some.id }) c.args.payload) empty_memo
+    (method_named old.serving.table.setting (record { channel = 1; service = c.args.service; method = c.args.method; call = c.in-Some.id })) id))
 
-pub returns-in-Err-default-JournalFull-clause-full : goal.returns-in-Err-default-JournalFull-clause-full
-returns-in-Err-default-JournalFull-clause-full c = λ same.
+pub returns-in-JournalFull-clause-full : goal.returns-in-JournalFull-clause-full
+returns-in-JournalFull-clause-full c = λ same.
     invoke_full c.args.client.now.serving.table.setting c.args.client.now.serving.table.entries
-    (record { channel = 1; service = c.args.service; method = c.args.method; call = c.in-Some.id }) c.in-Err-default-JournalFull.field-0-1
-    c.in-Err-default-JournalFull.field-0-1-is c.in-Err-default-JournalFull.ensures.did.cause
+    (record { channel = 1; service = c.args.service; method = c.args.method; call = c.in-Some.id }) c.in-Err.refused
+    c.in-JournalFull.is c.in-Err.ensures.did.cause
+
+pub returns-in_default-clause-full : goal.returns-in_default-clause-full
+returns-in_default-clause-full c = λ same.
+    let set = c.args.client.now.serving.table.setting in
+    let h = c.args.client.now.serving.table.entries in
+    let count = c.count.ensures ∙ ap (λ (t : Table). call_count (past t)) c.calls.ensures.table in
+    le-leb 1000000 (length h) (omega (arith, c.in_default.ensures, count, calls_within set h))
+
+pub unreachable-requires : goal.unreachable-requires
+unreachable-requires c =
+    let old = c.args.client.now.serving in
+    let name : CallName = record { channel = 1; service = c.args.service; method = c.args.method; call = c.in-Some.id } in
+    let id : c.in-Some.id ≡ call_count (deeds old) + 1 =
+    c.in-Some.ensures.1 ∙ ap (λ n. n + 1) (c.count.ensures ∙ ap (λ (t : Table). call_count (past t)) c.calls.ensures.table) in
+    invoke_cause old.table.setting old.table.entries name c.in-Err.refused c.requires.setting c.requires.numbered c.requires.known refl id
+    c.in-Err.ensures.did.cause c.in_default-refused.not-Memory c.in_default-refused.not-JournalFull
 
 pub returns-in-Ok-clause-few : goal.returns-in-Ok-clause-few
 returns-in-Ok-clause-few c =

@@ -24,7 +24,7 @@ work_alone-requires-clause-kept c =
     (subst (λ (s : ClientState). end_of (deeds s.end.serving) c.args.call ≡ None) (sym c.self.view_is) c.requires.open) in
     subst (λ s. IsKept s c.self.inside.items.items c.self.inside.events.items) (sym is)
     (entered_kept c.self.inside.client.serving c.self.inside.items.items c.self.inside.events.items run_seat (Cancel c.args.call) (kept_by before rest)
-    (cancel_opens c.self.inside.client.serving.table.setting (deeds c.self.inside.client.serving) c.args.call) (λ k. refl) (λ k. refl) (λ k. refl) refl refl refl)
+    (cancel_opens c.self.inside.client.serving.table.setting (deeds c.self.inside.client.serving) c.args.call) (λ k. refl) (λ k. refl) (λ k. refl) refl refl refl refl)
 
 pub returns-clause-settles : goal.returns-clause-settles
 returns-clause-settles c =

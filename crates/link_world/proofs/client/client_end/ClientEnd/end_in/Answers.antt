@@ -15,7 +15,7 @@ work_alone-requires-clause-kept c =
     let before : ClientState = record { end = c.self.inside.client; stored = c.self.inside.store; items = c.self.inside.items.items; events = c.self.inside.events.items } in
     let rest : ClientRests before = subst ClientRests (sym c.self.view_is) c.requires.rest in
     subst (λ s. IsKept s c.self.inside.items.items c.self.inside.events.items) (sym c.end_in.ensures.step)
-    (entered_kept c.self.inside.client.serving c.self.inside.items.items c.self.inside.events.items input_seat EndIn (kept_by before rest) refl (λ k. refl) (λ k. refl) (λ k. refl) refl refl refl)
+    (entered_kept c.self.inside.client.serving c.self.inside.items.items c.self.inside.events.items input_seat EndIn (kept_by before rest) refl (λ k. refl) (λ k. refl) (λ k. refl) refl refl refl refl)
 
 pub work_alone-requires-clause-few : goal.work_alone-requires-clause-few
 work_alone-requires-clause-few c =
