@@ -45,7 +45,7 @@ use Rattle.link_laws.specs.world.Starts.{Started, all_added, live_transfers, ope
 use Rattle.link_laws.specs.world.Turns.{task_under, under_with}
 use Rattle.link_laws.specs.world.World.{Setup, Tasked, Transfer, World, client_deeds, moment, transferring}
 use Rattle.link_world.proofs.server.RestLemmas.{entered_is, enters}
-use Rattle.link_world.specs.client.Asking.{Begins, ClientAdds, ClientAsks, IsClientOf, adds_by, call_by, message_kinds}
+use Rattle.link_world.specs.client.Asking.{Begins, ClientAdds, ClientAsks, IsClientOf, adds_by, call_by, byte_messages}
 use Rattle.link_world.specs.declared.client.under.Under.{Under}
 use Rattle.link_world.specs.client.ClientSide.{ClientState, ClientWorks}
 use Rattle.link_world.specs.client.Underway.{task_seen, under_of}
@@ -206,13 +206,13 @@ name_is (Some y) name is x same = ap (λ z. z.name) (some_same _ _ (sym same)) �
 
 -- one message more
 pub kinds_more : (c : ℕ) (bytes : List ℕ) (i : ℕ) → i < length bytes → (message : List ℕ) → message ≡ get_or bytes i 0 ∷ []
-    → message_kinds c (take (i + 1) bytes) ≡ message_kinds c (take i bytes) ++ Say c (Message message) ∷ []
+    → byte_messages c (take (i + 1) bytes) ≡ byte_messages c (take i bytes) ++ Say c (Message message) ∷ []
 kinds_more c bytes i within message is =
-    ap (message_kinds c) (take_more bytes i 0 within)
+    ap (byte_messages c) (take_more bytes i 0 within)
     ∙ (kinds_append (take i bytes) (get_or bytes i 0)
-    ∙ ap (λ m. message_kinds c (take i bytes) ++ Say c (Message m) ∷ []) (sym is))
+    ∙ ap (λ m. byte_messages c (take i bytes) ++ Say c (Message m) ∷ []) (sym is))
   where
-    kinds_append : (xs : List ℕ) (x : ℕ) → message_kinds c (xs ++ x ∷ []) ≡ message_kinds c xs ++ Say c (Message (x ∷ [])) ∷ []
+    kinds_append : (xs : List ℕ) (x : ℕ) → byte_messages c (xs ++ x ∷ []) ≡ byte_messages c xs ++ Say c (Message (x ∷ [])) ∷ []
     kinds_append [] x = refl
     kinds_append (y ∷ xs) x = ap (λ ks. Say c (Message (y ∷ [])) ∷ ks) (kinds_append xs x)
 
@@ -307,12 +307,12 @@ pub stops_after : (first more : List EntryKind) (h : List Entry) → adding_stop
 stops_after [] more h stops = stops
 stops_after (kind ∷ first) more h stops = or_right (is_full h) (adding_stops (first ++ more) (adding h run_seat kind)) (stops_after first more (adding h run_seat kind) stops)
 
-pub stops_sending : (c : ℕ) (bytes : List ℕ) (i : ℕ) (h : List Entry) → i < length bytes → is_full (all_added (message_kinds c (take i bytes)) h) ≡ true
-    → adding_stops (message_kinds c bytes) h ≡ true
+pub stops_sending : (c : ℕ) (bytes : List ℕ) (i : ℕ) (h : List Entry) → i < length bytes → is_full (all_added (byte_messages c (take i bytes)) h) ≡ true
+    → adding_stops (byte_messages c bytes) h ≡ true
 stops_sending c [] i h within full = absurd (omega (arith, within))
-stops_sending c (x ∷ bytes) zero h within full = or_left (is_full h) (adding_stops (message_kinds c bytes) (adding h run_seat (Say c (Message (x ∷ []))))) full
+stops_sending c (x ∷ bytes) zero h within full = or_left (is_full h) (adding_stops (byte_messages c bytes) (adding h run_seat (Say c (Message (x ∷ []))))) full
 stops_sending c (x ∷ bytes) (suc i) h within full =
-    or_right (is_full h) (adding_stops (message_kinds c bytes) (adding h run_seat (Say c (Message (x ∷ [])))))
+    or_right (is_full h) (adding_stops (byte_messages c bytes) (adding h run_seat (Say c (Message (x ∷ [])))))
     (stops_sending c bytes i (adding h run_seat (Say c (Message (x ∷ [])))) (omega (arith, within)) full)
 
 -- the work behind the start has no room
@@ -335,6 +335,6 @@ pub few_added : (old new : Serving) (kinds : List EntryKind) → ClientAdds old 
     → items_waiting (deeds new) ≤ items_waiting (deeds old) + length kinds
 few_added old new kinds adds = omega (arith, adds.waiting, ap length adds.added, added_length kinds old.table.entries)
 
-pub messages_length : (c : ℕ) (bytes : List ℕ) → length (message_kinds c bytes) ≡ length bytes
+pub messages_length : (c : ℕ) (bytes : List ℕ) → length (byte_messages c bytes) ≡ length bytes
 messages_length c [] = refl
 messages_length c (x ∷ bytes) = ap suc (messages_length c bytes)

@@ -39,7 +39,7 @@ use Rattle.link_laws.specs.world.Client.{FlushesTo, all_said_in, said_in}
 use Rattle.link_laws.specs.world.Limits.{saying_stops}
 use Rattle.link_world.specs.declared.server.stopped.Stopped.TheVariants.{Journal}
 use Rattle.link_world.specs.Room.{StaysWithin}
-use Rattle.link_world.specs.client.Working.{ClientFlushes, ClientSays, Passes, stop_of}
+use Rattle.link_world.specs.client.Working.{ClientFlushes, ClientSays, PassesBy, stop_of}
 use Rattle.link_world.proofs.RoomLemmas.{unfull, within_adding, within_kept}
 
 -- the entry leaves the calls and their events alone
@@ -66,10 +66,10 @@ leaves_alone set ds e p = record {
   waiting = λ c. rw (p.drops, p.puts, p.start c) (ap (drop (starts_since ds c)) (append-nil (puts_since ds c)));
 }
 
-pub passes_none : (s : Serving) → IsOrderly s → Passes s s
+pub passes_none : (s : Serving) → IsOrderly s → PassesBy s s
 passes_none s orderly = record { stays = stays_itself s; orderly = orderly; calls = refl; closed = refl; took = λ c. refl; waiting = λ c. refl; room = λ all. all }
 
-pub passes_then : (a b c : Serving) → Passes a b → Passes b c → Passes a c
+pub passes_then : (a b c : Serving) → PassesBy a b → PassesBy b c → PassesBy a c
 passes_then a b c first more = record {
   stays = stays_then a b c first.stays more.stays;
   orderly = more.orderly;
@@ -226,7 +226,7 @@ says_more first s new c outs out before says = record {
 
 -- Flushes.
 
-flush_passes : (old new : Serving) (item : Item) → StepsFlush item old new → Gives old (Some item) new → Passes old new
+flush_passes : (old new : Serving) (item : Item) → StepsFlush item old new → Gives old (Some item) new → PassesBy old new
 flush_passes old new item steps gives =
     let set = old.table.setting in
     let h = old.table.entries in
@@ -245,7 +245,7 @@ flush_passes old new item steps gives =
 
 -- flushes so far
 pub record FlushesSo (old now : Serving) : Type 0 where
-  pub passes : Passes old now
+  pub passes : PassesBy old now
   pub count : ℕ
   pub flushes : FlushesTo old.table.setting count old.table.entries now.table.entries
 

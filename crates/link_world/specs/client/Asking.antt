@@ -92,8 +92,8 @@ call_by [] next = next
 call_by (c ∷ cs) next = c
 
 -- each of these bytes is sent as a message
-abbrev pub message_kinds : ℕ → List ℕ → List EntryKind
-message_kinds c bytes = map (λ byte. Say c (Message (byte ∷ []))) bytes
+abbrev pub byte_messages : ℕ → List ℕ → List EntryKind
+byte_messages c bytes = map (λ byte. Say c (Message (byte ∷ []))) bytes
 
 abbrev pub method_name : Plain → List ℕ
 method_name plain.Echo = codes "Echo"

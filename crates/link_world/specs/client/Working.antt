@@ -59,7 +59,7 @@ pub record ClientRunsFull (old new : Serving) : Type 0 where
   pub stops : HasNoRoom old.table.setting new.table.entries
 
 -- entries were added that had room, open no call, close no channel 1, and neither put nor take an event
-pub record Passes (old new : Serving) : Type 0 where
+pub record PassesBy (old new : Serving) : Type 0 where
   pub stays : Stays old new
   pub orderly : IsOrderly new
   pub calls : calls (deeds new) ≡ calls (deeds old)
@@ -70,13 +70,13 @@ pub record Passes (old new : Serving) : Type 0 where
 
 -- such entries were added, and these stand there then; nothing went out
 pub record ClientSays (old : Serving) (entries : List Entry) (new : Serving) : Type 0 where
-  pub passes : Passes old new
+  pub passes : PassesBy old new
   pub same_items : items_flushed (deeds new) ≡ items_flushed (deeds old)
   pub said : new.table.entries ≡ entries
 
 -- all items that waited went out
 pub record ClientFlushes (old new : Serving) : Type 0 where
-  pub passes : Passes old new
+  pub passes : PassesBy old new
   pub flush_count : ℕ
   pub flushes : FlushesTo old.table.setting flush_count old.table.entries new.table.entries
   pub none_waits : NoneWaits (deeds new)

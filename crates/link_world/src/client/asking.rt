@@ -21,7 +21,7 @@ ghost use Rattle.link_laws.specs.world.Limits.{adding_stops};
 ghost use Rattle.link_laws.specs.world.Setup.{client_setting};
 ghost use Rattle.link_laws.specs.world.Starts.{all_added, live_transfers, next_name, opens_with, request};
 ghost use Rattle.link_laws.specs.one_run.Speaking.{IsSpeaking, opening_by};
-ghost use Rattle.link_world.specs.client.Asking.{CanSpeak, ClientAdds, adds_by, call_by, has_stream, message_kinds, method_id};
+ghost use Rattle.link_world.specs.client.Asking.{CanSpeak, ClientAdds, adds_by, call_by, has_stream, byte_messages, method_id};
 ghost use Rattle.link_world.specs.client.ClientSide.{IsNumbered};
 
 use crate::client::quiet::Quiet;
@@ -75,9 +75,9 @@ pub(crate) fn ask_stream(
     requires streams { has_stream plain ≡ true }
     ensures call { IfOk result (λ c. c ≡ call_count (deeds client.old.serving)) }
     ensures there { IfOk result (λ c. c < call_count (deeds client.new.serving)) }
-    ensures adds { IfOk result (λ c. ClientAdds client.old.serving (all_added (opens_with demo_id (method_id plain) [] (deeds client.old.serving) ∷ (message_kinds c bytes.now ++ Done c ∷ [])) client.old.serving.table.entries) client.new.serving) }
+    ensures adds { IfOk result (λ c. ClientAdds client.old.serving (all_added (opens_with demo_id (method_id plain) [] (deeds client.old.serving) ∷ (byte_messages c bytes.now ++ Done c ∷ [])) client.old.serving.table.entries) client.new.serving) }
     ensures few { OnOk result (items_waiting (deeds client.new.serving) ≤ items_waiting (deeds client.old.serving) + (length bytes.now + 2)) }
-    ensures full { IfErr result (λ why. why ≡ Stopped.Journal → adding_stops (opens_with demo_id (method_id plain) [] (deeds client.old.serving) ∷ (message_kinds (call_count (deeds client.old.serving)) bytes.now ++ Done (call_count (deeds client.old.serving)) ∷ [])) client.old.serving.table.entries ≡ true) }
+    ensures full { IfErr result (λ why. why ≡ Stopped.Journal → adding_stops (opens_with demo_id (method_id plain) [] (deeds client.old.serving) ∷ (byte_messages (call_count (deeds client.old.serving)) bytes.now ++ Done (call_count (deeds client.old.serving)) ∷ [])) client.old.serving.table.entries ≡ true) }
     ensures fed { (bytes : List ℕ) → WasFed client_role client.old bytes → WasFed client_role client.new bytes }
 {
     let call = match ask_call(alloc, client, plain, Bytes::new()) {
@@ -175,8 +175,8 @@ fn send_all(
     requires there { call < call_count (deeds client.old.serving) }
     requires speaks { CanSpeak client.old.serving call }
     ensures speaks { OnOk result (CanSpeak client.new.serving call) }
-    ensures adds { OnOk result (ClientAdds client.old.serving (all_added (message_kinds call bytes.now) client.old.serving.table.entries) client.new.serving) }
-    ensures full { IfErr result (λ why. why ≡ Stopped.Journal → adding_stops (message_kinds call bytes.now) client.old.serving.table.entries ≡ true) }
+    ensures adds { OnOk result (ClientAdds client.old.serving (all_added (byte_messages call bytes.now) client.old.serving.table.entries) client.new.serving) }
+    ensures full { IfErr result (λ why. why ≡ Stopped.Journal → adding_stops (byte_messages call bytes.now) client.old.serving.table.entries ≡ true) }
     ensures fed { (bytes : List ℕ) → WasFed client_role client.old bytes → WasFed client_role client.new bytes }
 {
     'bytes: for byte in bytes {

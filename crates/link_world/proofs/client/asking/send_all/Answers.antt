@@ -4,7 +4,7 @@ use Rattle.rpc_journal.specs.declared.entry.EntryKind.{EntryKind}
 use Rattle.rpc_journal.specs.declared.entry.EntryKind.TheVariants.{Say}
 use Rattle.rpc_journal.specs.Refusals.{is_full}
 use Rattle.link_laws.specs.world.Starts.{all_added}
-use Rattle.link_world.specs.client.Asking.{ClientAdds, message_kinds}
+use Rattle.link_world.specs.client.Asking.{ClientAdds, byte_messages}
 use Rattle.link_world.proofs.client.AskLemmas.{adds_then, kinds_more, stops_sending}
 use Rattle.link_world.proofs.client.asking.send_all.Goals as goal
 
@@ -15,7 +15,7 @@ bytes-preserved c =
     record {
       adds = subst (λ (ks : List EntryKind). ClientAdds c.args.client.now.serving (all_added ks c.args.client.now.serving.table.entries) c.send.new.client.serving)
           (sym (kinds_more c.args.call bytes i c.bytes-test.true c.in_ok-copy_from_slice.field-0 c.in_ok-copy_from_slice.ensures))
-          (adds_then c.args.client.now.serving c.bytes.client.serving c.send.new.client.serving (message_kinds c.args.call (take i bytes)) (Say c.args.call (Message c.in_ok-copy_from_slice.field-0) ∷ [])
+          (adds_then c.args.client.now.serving c.bytes.client.serving c.send.new.client.serving (byte_messages c.args.call (take i bytes)) (Say c.args.call (Message c.in_ok-copy_from_slice.field-0) ∷ [])
           c.bytes.invariant.adds c.in-Ok.ensures.adds);
       speaks = c.in-Ok.ensures.speaks;
       fed = λ fed was. c.send.ensures.fed fed (c.bytes.invariant.fed fed was);
