@@ -53,6 +53,10 @@ fn adds(rt: &impl Abort, registry: &mut Registry, kind: Kind, want: Result<Metho
     assert_eq!(rt; registry.add(b"demo.Demo", b"Echo", kind, ticks), want);
 }
 
+fn inserts(rt: &impl Abort, registry: &mut Registry, kind: Kind, want: Result<(), AddRefused>) {
+    assert_eq!(rt; registry.insert(MethodRef { kind, ..ECHO }), want);
+}
+
 fn finds(rt: &impl Abort, registry: &Registry, method: u32, want: Option<MethodRef>) {
     assert_eq!(rt; registry.find(1_895_062_779, method), want);
 }
@@ -66,4 +70,13 @@ fn a_method_is_added_once(rt: HostRuntime) {
     assert!(rt; read.is_ok());
     finds(&rt, &registry, 2_336_689_897, Some(ECHO));
     finds(&rt, &registry, 1_534_617_306, None);
+}
+
+#[test]
+fn a_method_is_inserted_once(rt: HostRuntime) {
+    let mut registry = Registry::new(rt.alloc());
+    inserts(&rt, &mut registry, Kind::Unary, Ok(()));
+    inserts(&rt, &mut registry, Kind::Bidi, Err(AddRefused::Clash));
+    adds(&rt, &mut registry, Kind::Unary, Err(AddRefused::Clash));
+    finds(&rt, &registry, 2_336_689_897, Some(ECHO));
 }

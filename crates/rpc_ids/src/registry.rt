@@ -1,5 +1,5 @@
 //! The methods that an endpoint knows.
-ghost use Rattle.std.specs.Prelude.{◌≡◌, ℕ, ◌↔◌, [], ◌∷◌, ◌++◌, IsSome, IfOk, OnErr};
+ghost use Rattle.std.specs.Prelude.{◌≡◌, ℕ, ◌↔◌, [], ◌∷◌, ◌++◌, IsSome, IfOk, OnErr, OnOk};
 ghost use Rattle.rpc_ids.specs.Names.{name_id};
 ghost use Rattle.rpc_ids.specs.Registry.{method_of, has_ids as ids_match, FindsEach};
 
@@ -49,6 +49,23 @@ impl Registry {
     }
 
     #[tactic(auto, using(crate::proofs::RegistryLemmas::others_are_found))]
+    /// Adds a method by its ids, of which no name need be known.
+    pub fn insert(&mut self, row: MethodRef) -> Result<(), AddRefused>
+        ensures inserted { OnOk result (self.new ≡ self.old ++ row ∷ []) }
+        ensures clash { (result ≡ Err AddRefused.Clash) ↔ IsSome (method_of self.old row.service row.method) }
+        ensures found { OnOk result (method_of self.new row.service row.method ≡ Some row) }
+        ensures others { (s t : ℕ) → IsSome (method_of self.old s t) → method_of self.new s t ≡ method_of self.old s t }
+        ensures err { OnErr result (self.new ≡ self.old) }
+    {
+        if self.find(row.service, row.method).is_some() {
+            return Err(AddRefused::Clash);
+        }
+        match self.methods.push(row) {
+            Ok(()) => return Ok(()),
+            Err(_) => return Err(AddRefused::Memory),
+        }
+    }
+
     /// Adds the method `method` of the service `service`, by the ids of their names.
     pub fn add(
         &mut self,
@@ -70,13 +87,8 @@ impl Registry {
             kind,
             ticks,
         };
-        if self.find(row.service, row.method).is_some() {
-            return Err(AddRefused::Clash);
-        }
-        match self.methods.push(row) {
-            Ok(()) => return Ok(row),
-            Err(_) => return Err(AddRefused::Memory),
-        }
+        self.insert(row)?;
+        Ok(row)
     }
 
     /// The method with these ids, if it was added.
