@@ -1,3 +1,4 @@
+pub mod Boxed
 pub mod Fun
 pub mod HandlerRule
 pub mod Limits

@@ -1,5 +1,6 @@
 //! Lists that only grow at their end, seen as the list of their elements.
 ghost use Rattle.std.specs.Prelude.{◌≡◌, ℕ, List, [], ◌∷◌, ◌++◌, OnOk, OnErr};
+ghost use Rattle.rpc_handlers.specs.Boxed.{items_of};
 
 use crate::answer::Out;
 use bytes::Bytes;
@@ -48,16 +49,20 @@ impl Outs {
     }
 }
 
-/// The numbers of a state, in order.
+/// The numbers of a state, in order. It is one pointer, since each entry of a journal has room for a state.
 #[derive(Clone, Debug, Drop)]
 pub struct Words {
-    words: Vec<u64>,
+    words: Option<Box<Vec<u64>>>,
+    alloc: Global,
 }
 
 impl Model for Words {
+    ghost use Rattle.std.specs.Prelude.{ℕ, List};
+    ghost use Rattle.rpc_handlers.specs.Boxed.{items_of};
+
     ghost Value = { List ℕ };
 
-    ghost view = { λ l. l.words.items };
+    ghost view = { λ l. items_of l.words };
 }
 
 impl Words {
@@ -65,9 +70,7 @@ impl Words {
     pub fn new(alloc: Global) -> Words
         ensures { result ≡ [] }
     {
-        Words {
-            words: Vec::new(alloc),
-        }
+        Words { words: None, alloc }
     }
 
     /// Adds a number at the end.
@@ -75,28 +78,34 @@ impl Words {
         ensures ok { OnOk result (self.new ≡ self.old ++ item ∷ []) }
         ensures err { OnErr result (self.new ≡ self.old) }
     {
-        self.words.push(item)?;
-        Ok(())
+        push_boxed(self.alloc, &mut self.words, item)
     }
 
     /// The numbers in order.
     pub fn as_slice(&self) -> &[u64]
         ensures { result.now ≡ self.now }
     {
-        self.words.as_slice()
+        match &self.words {
+            Some(words) => words.as_slice(),
+            None => &[],
+        }
     }
 }
 
-/// The texts of a state, in order.
+/// The texts of a state, in order. It is one pointer, as `Words` is.
 #[derive(Clone, Debug, Drop)]
 pub struct Parts {
-    parts: Vec<Bytes>,
+    parts: Option<Box<Vec<Bytes>>>,
+    alloc: Global,
 }
 
 impl Model for Parts {
+    ghost use Rattle.std.specs.Prelude.{ℕ, List};
+    ghost use Rattle.rpc_handlers.specs.Boxed.{items_of};
+
     ghost Value = { List (List ℕ) };
 
-    ghost view = { λ l. l.parts.items };
+    ghost view = { λ l. items_of l.parts };
 }
 
 impl Parts {
@@ -104,9 +113,7 @@ impl Parts {
     pub fn new(alloc: Global) -> Parts
         ensures { result ≡ [] }
     {
-        Parts {
-            parts: Vec::new(alloc),
-        }
+        Parts { parts: None, alloc }
     }
 
     /// Adds a text at the end.
@@ -114,14 +121,35 @@ impl Parts {
         ensures ok { OnOk result (self.new ≡ self.old ++ item ∷ []) }
         ensures err { OnErr result (self.new ≡ self.old) }
     {
-        self.parts.push(item)?;
-        Ok(())
+        push_boxed(self.alloc, &mut self.parts, item)
     }
 
     /// The texts in order.
     pub fn as_slice(&self) -> &[Bytes]
         ensures { result.now ≡ self.now }
     {
-        self.parts.as_slice()
+        match &self.parts {
+            Some(parts) => parts.as_slice(),
+            None => &[],
+        }
     }
+}
+
+/// Adds an element at the end of a list whose box is made with its first.
+fn push_boxed<T: Drop>(
+    alloc: Global,
+    list: &mut Option<Box<Vec<T>>>,
+    item: T,
+) -> Result<(), AllocError>
+    ensures ok { OnOk result (items_of list.new ≡ items_of list.old ++ item ∷ []) }
+    ensures err { OnErr result (items_of list.new ≡ items_of list.old) }
+{
+    if let Some(items) = list {
+        items.push(item)?;
+        return Ok(());
+    }
+    let mut items = Vec::new(alloc);
+    items.push(item)?;
+    *list = Some(Box::new(alloc, items)?);
+    Ok(())
 }
