@@ -25,7 +25,7 @@ pub use entry::{Entry, EntryKind, MAX_ENTRIES};
 pub use fault::{Broken, Fault};
 pub use item::{Act, Item};
 pub use journal::Journal;
-pub use kinds::{is_okay, is_server, is_unary};
+pub use kinds::{is_okay, is_server, is_unary, streams_out};
 pub use setting::Setting;
 pub use verdict::check;
 pub use waiting::Waiting;

@@ -15,6 +15,6 @@ mod state_changes;
 
 pub use answer_ends::{completes_by, end_by};
 pub use arrival_move::{Move, move_at, move_of};
-pub use call_state::CallState;
+pub use call_state::{CallState, MAX_WAITING};
 pub use call_states::CallStates;
 pub use notice::Notice;
