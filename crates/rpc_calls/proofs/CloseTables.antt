@@ -1,5 +1,5 @@
 -- A table over the Close of a channel.
-use Rattle.std.proofs.Common.{◌≡◌, ℕ, zero, suc, ◌+◌, ◌<◌, ◌≤◌, Bool, true, false, not, List, [], ◌∷◌, ◌++◌, length, drop, slice_get, Option, Some, None, Ok, is_some, if◌then◌else◌, refl, ap, sym, ◌∙◌, subst, arith, append_assoc, length-append}
+use Rattle.std.proofs.Common.{◌≡◌, ◌⊎◌, inl, inr, ℕ, zero, suc, ◌+◌, ◌-◌, ◌<◌, ◌≤◌, Bool, true, false, not, List, [], ◌∷◌, ◌++◌, length, drop, slice_get, Option, Some, None, Ok, is_some, if◌then◌else◌, refl, ap, sym, ◌∙◌, subst, arith, append_assoc, length-append}
 use Rattle.std.proofs.lemmas.List.{append-nil}
 use Rattle.std.proofs.lemmas.Option.{slice_get_within}
 use Rattle.std.specs.VecDeque.{deque_capacity}
@@ -28,8 +28,9 @@ use Rattle.rpc_journal.specs.table.Touch.{IsTouched, closing, is_told, telling, 
 use Rattle.rpc_journal.specs.table.Turns.{IsTold}
 use Rattle.rpc_journal.proofs.table.CloseLemmas.{close_ends, close_says, closing_length, table_closed}
 use Rattle.rpc_journal.proofs.LegalLemmas.{keeps_legal}
-use Rattle.rpc_journal.proofs.PlaceLemmas.{get_some}
+use Rattle.rpc_journal.proofs.PlaceLemmas.{below_or_not, get_some}
 use Rattle.rpc_journal.proofs.VerdictLemmas.{history_length}
+use Rattle.rpc_calls.specs.Facts.{IsDoneWith}
 use Rattle.rpc_calls.specs.Marks.{one_if}
 use Rattle.rpc_calls.specs.Places.{ChangesAll}
 use Rattle.rpc_calls.specs.Room.{uncancelled, running, items_owed}
@@ -38,6 +39,7 @@ use Rattle.rpc_calls.proofs.CalmSteps.{queue_grows, table_after}
 use Rattle.rpc_calls.proofs.FlushSteps.{waits_one}
 use Rattle.rpc_calls.proofs.NoticeSteps.{left, notice_keeps, same_counts}
 use Rattle.rpc_calls.proofs.PlaceChanges.{count-cons}
+use Rattle.rpc_calls.proofs.TellSteps.{not_told}
 use Rattle.rpc_calls.proofs.TouchTables.{room_grown}
 
 -- a call that is still live wasn't told, and waits for no more than before
@@ -93,6 +95,66 @@ say_next role channel c capacity capacity' states r items items' whole there mor
       room = omega (arith, so_far.room, counted, same, ap length more, length-append items (if is_told (ChannelClosed channel) r then item ∷ [] else []), length_if (is_told (ChannelClosed channel) r) item);
     }
 
+-- nothing goes out of calls that aren't told
+said_over : (role : Role) (channel d n capacity : ℕ) (states : List CallState) (items whole : List Item) → n + d ≤ length states
+    → ((k : ℕ) (r : CallState) → n ≤ k → k < n + d → slice_get states k ≡ Some r → is_told (ChannelClosed channel) r ≡ false)
+    → SaidSoFar role channel n capacity states items whole → SaidSoFar role channel (n + d) capacity states items whole
+said_over role channel zero n capacity states items whole within untold so_far =
+    let same : n ≡ n + 0 = omega arith in
+    subst (λ k. SaidSoFar role channel k capacity states items whole) same so_far
+said_over role channel (suc d) n capacity states items whole within untold so_far =
+    let row = get_some states n (omega (arith, within)) in
+    let item : Item = packet_item n (status_packet (error_type role) row.0.name Aborted) in
+    let no : is_told (ChannelClosed channel) row.0 ≡ false = untold n row.0 (omega arith) (omega arith) row.1 in
+    let none : items ≡ items ++ (if is_told (ChannelClosed channel) row.0 then item ∷ [] else []) = sym (ap (λ b. items ++ (if b then item ∷ [] else [])) no ∙ append-nil items) in
+    let same : n + 1 + d ≡ n + suc d = omega arith in
+    subst (λ k. SaidSoFar role channel k capacity states items whole) same
+    (said_over role channel d (n + 1) capacity states items whole (omega (arith, within)) (λ k r from below is. untold k r (omega (arith, from)) (omega (arith, below)) is)
+    (say_next role channel n capacity capacity states row.0 items items whole row.1 none refl so_far))
+
+pub said_skip : (role : Role) (channel n m capacity : ℕ) (states : List CallState) (items whole : List Item) → n ≤ m → m ≤ length states
+    → ((k : ℕ) (r : CallState) → n ≤ k → k < m → slice_get states k ≡ Some r → IsDoneWith r)
+    → SaidSoFar role channel n capacity states items whole → SaidSoFar role channel m capacity states items whole
+said_skip role channel n m capacity states items whole further within done so_far =
+    let same : n + (m - n) ≡ m = omega (arith, further) in
+    subst (λ k. SaidSoFar role channel k capacity states items whole) same
+    (said_over role channel (m - n) n capacity states items whole (omega (arith, within, same))
+    (λ k r from below is. not_told (ChannelClosed channel) r (done k r from (omega (arith, below, same)) is).over) so_far)
+
+-- so many of the calls below this number are live on the channel
+pub record CountedSoFar (channel n live : ℕ) (states : List CallState) : Type 0 where
+  pub counted : live + live_on channel (drop n states) ≡ live_on channel states
+
+pub counted_next : (channel n live : ℕ) (states : List CallState) (r : CallState) → slice_get states n ≡ Some r → CountedSoFar channel n live states
+    → CountedSoFar channel (n + 1) (live + one_if (is_told (ChannelClosed channel) r)) states
+counted_next channel n live states r there so_far =
+    let counted : live_on channel (drop n states) ≡ one_if (is_told (ChannelClosed channel) r) + live_on channel (drop (n + 1) states) =
+    ap (live_on channel) (drop_from states n r there) ∙ count-cons (is_told (ChannelClosed channel)) r (drop (n + 1) states) in
+    record { counted = omega (arith, so_far.counted, counted) }
+
+counted_over : (channel d n live : ℕ) (states : List CallState) → n + d ≤ length states
+    → ((k : ℕ) (r : CallState) → n ≤ k → k < n + d → slice_get states k ≡ Some r → is_told (ChannelClosed channel) r ≡ false)
+    → CountedSoFar channel n live states → CountedSoFar channel (n + d) live states
+counted_over channel zero n live states within untold so_far =
+    let same : n ≡ n + 0 = omega arith in
+    subst (λ k. CountedSoFar channel k live states) same so_far
+counted_over channel (suc d) n live states within untold so_far =
+    let row = get_some states n (omega (arith, within)) in
+    let none : live + one_if (is_told (ChannelClosed channel) row.0) ≡ live = ap (λ b. live + one_if b) (untold n row.0 (omega arith) (omega arith) row.1) ∙ omega arith in
+    let same : n + 1 + d ≡ n + suc d = omega arith in
+    subst (λ k. CountedSoFar channel k live states) same
+    (counted_over channel d (n + 1) live states (omega (arith, within)) (λ k r from below is. untold k r (omega (arith, from)) (omega (arith, below)) is)
+    (subst (λ l. CountedSoFar channel (n + 1) l states) none (counted_next channel n live states row.0 row.1 so_far)))
+
+pub counted_skip : (channel n m live : ℕ) (states : List CallState) → n ≤ m → m ≤ length states
+    → ((k : ℕ) (r : CallState) → n ≤ k → k < m → slice_get states k ≡ Some r → IsDoneWith r)
+    → CountedSoFar channel n live states → CountedSoFar channel m live states
+counted_skip channel n m live states further within done so_far =
+    let same : n + (m - n) ≡ m = omega (arith, further) in
+    subst (λ k. CountedSoFar channel k live states) same
+    (counted_over channel (m - n) n live states (omega (arith, within, same))
+    (λ k r from below is. not_told (ChannelClosed channel) r (done k r from (omega (arith, below, same)) is).over) so_far)
+
 -- at first nothing is said
 pub said_none : (role : Role) (channel capacity : ℕ) (states : List CallState) (items : List Item) → length items + live_on channel states ≤ capacity
     → SaidSoFar role channel 0 capacity states items (items ++ closing_items role channel 0 states)
@@ -118,6 +180,33 @@ say_place role channel c capacity states r items whole there told so_far =
     let counted : live_on channel (drop c states) ≡ one_if (is_told (ChannelClosed channel) r) + live_on channel (drop (c + 1) states) =
     ap (live_on channel) from ∙ count-cons (is_told (ChannelClosed channel)) r (drop (c + 1) states) in
     omega (arith, so_far.room, counted, ap one_if told)
+
+-- all calls are counted
+pub counted_all : (channel n live : ℕ) (states : List CallState) → length states ≤ n → CountedSoFar channel n live states → live ≡ live_on channel states
+counted_all channel n live states past so_far =
+    let none : live_on channel (drop n states) ≡ 0 = ap (live_on channel) (drop_all states n past) in
+    omega (arith, so_far.counted, none)
+
+-- where all further calls are done with
+pub said_end : (role : Role) (channel n capacity : ℕ) (states : List CallState) (items whole : List Item) → ((k : ℕ) (r : CallState) → n ≤ k → slice_get states k ≡ Some r → IsDoneWith r)
+    → SaidSoFar role channel n capacity states items whole → items ≡ whole
+said_end role channel n capacity states items whole done so_far = by (below_or_not n (length states))
+  where
+    by : (n < length states) ⊎ (length states ≤ n) → items ≡ whole
+    by (inl below) =
+        all_said role channel (length states) capacity states items whole (omega arith)
+        (said_skip role channel n (length states) capacity states items whole (omega (arith, below)) (omega arith) (λ k r from less is. done k r from is) so_far)
+    by (inr past) = all_said role channel n capacity states items whole past so_far
+
+pub counted_end : (channel n live : ℕ) (states : List CallState) → ((k : ℕ) (r : CallState) → n ≤ k → slice_get states k ≡ Some r → IsDoneWith r)
+    → CountedSoFar channel n live states → live ≡ live_on channel states
+counted_end channel n live states done so_far = by (below_or_not n (length states))
+  where
+    by : (n < length states) ⊎ (length states ≤ n) → live ≡ live_on channel states
+    by (inl below) =
+        counted_all channel (length states) live states (omega arith)
+        (counted_skip channel n (length states) live states (omega (arith, below)) (omega arith) (λ k r from less is. done k r from is) so_far)
+    by (inr past) = counted_all channel n live states past so_far
 
 module _ {H : Type 0} (now : H → Memo) (can_act : H → Type 0) (rule : HandlerRule) (set : Setting) where
   -- each call has a place for its end

@@ -33,3 +33,13 @@ pub mod TickSteps
 pub mod Openings
 pub mod ReplaceTables
 pub mod RunsStand
+pub mod NumberLemmas
+pub mod RecordSteps
+pub mod InUseSteps
+pub mod LeaveSteps
+pub mod LeftTables
+pub mod EndSteps
+pub mod TellSteps
+pub mod FactSteps
+pub mod OpenedSteps
+pub mod NewTables

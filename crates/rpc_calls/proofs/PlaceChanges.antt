@@ -5,7 +5,7 @@ use Rattle.std.proofs.lemmas.Option.{slice_get_within}
 use Rattle.std.proofs.lemmas.Bool.{eqb-true}
 use Rattle.std.proofs.lemmas.List.Sums.{sum_by-cons}
 use Rattle.rpc_journal.proofs.table.StepLemmas.{get_set, get_other, same_or_not}
-use Rattle.rpc_journal.proofs.PlaceLemmas.{some_same}
+use Rattle.rpc_journal.proofs.PlaceLemmas.{below_or_not, some_same}
 use Rattle.rpc_calls.specs.Marks.{one_if}
 use Rattle.rpc_calls.specs.Places.{ChangesAll, ChangesAt}
 
@@ -85,6 +85,10 @@ pub record ChangesBelow {A : Type 0} (n : ℕ) (R : A → A → Type 0) (old new
   pub each : (k : ℕ) (r x : A) → k < n → slice_get old k ≡ Some r → slice_get new k ≡ Some x → R r x
   pub rest : (k : ℕ) → n ≤ k → slice_get new k ≡ slice_get old k
 
+-- at first none has
+pub below_none : {A : Type 0} (R : A → A → Type 0) (xs : List A) → ChangesBelow 0 R xs xs
+below_none R xs = record { many = refl; each = λ k r x below was is. absurd (omega (arith, below)); rest = λ k from. refl }
+
 -- one more place changes
 pub changes_more : {A : Type 0} (R : A → A → Type 0) (n : ℕ) (first old new : List A) → ChangesBelow n R first old → ChangesAt n R old new
     → ChangesBelow (n + 1) R first new
@@ -107,3 +111,29 @@ changes_all R n old new below all = record {
       let within : k < length old = slice_get_within _ _ _ was in
       below.each k r x (omega (arith, within, all)) was is;
 }
+
+-- the places between may stay as they are
+pub changes_skip : {A : Type 0} (R : A → A → Type 0) (n m : ℕ) (old new : List A) → ChangesBelow n R old new → n ≤ m
+    → ((k : ℕ) (r : A) → n ≤ k → k < m → slice_get new k ≡ Some r → R r r) → ChangesBelow m R old new
+changes_skip {A} R n m old new below further stays = record {
+  many = below.many;
+  each = λ k r x within was is. at k r x within was is (below_or_not k n);
+  rest = λ k from. below.rest k (omega (arith, from, further));
+}
+  where
+    at : (k : ℕ) (r x : A) → k < m → slice_get old k ≡ Some r → slice_get new k ≡ Some x → (k < n) ⊎ (n ≤ k) → R r x
+    at k r x within was is (inl early) = below.each k r x early was is
+    at k r x within was is (inr late) =
+        let same : r ≡ x = some_same r x (sym was ∙ sym (below.rest k late) ∙ is) in
+        subst (R r) same (stays k r late within (below.rest k late ∙ was))
+
+-- what is said of a list of which one place was set
+module _ {A : Type 0} (later xs : List A) (c : ℕ) (x : A) (is : later ≡ slice_set xs c x) where
+  pub set_many : length later ≡ length xs
+  set_many = ap length is ∙ length-set xs c x
+
+  pub set_others : (k : ℕ) → k ≢ c → slice_get later k ≡ slice_get xs k
+  set_others k apart = ap (λ ys. slice_get ys k) is ∙ get_other xs c k x apart
+
+  pub set_at : c < length xs → slice_get later c ≡ Some x
+  set_at within = ap (λ ys. slice_get ys c) is ∙ get_set xs c x within

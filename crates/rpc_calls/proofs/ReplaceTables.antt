@@ -14,6 +14,8 @@ use Rattle.rpc_journal.specs.History.{history}
 use Rattle.rpc_journal.specs.Lawful.{IsLegal}
 use Rattle.rpc_journal.specs.Kinds.{is_empty, or_else}
 use Rattle.rpc_journal.specs.Recorded.{Recorded}
+use Rattle.rpc_journal.specs.table.Agrees.{AgreesOn}
+use Rattle.rpc_journal.proofs.table.TableLemmas.{ended_is}
 use Rattle.rpc_journal.specs.Refusals.{replace_refusal}
 use Rattle.rpc_journal.proofs.LegalLemmas.{refused_where-none}
 use Rattle.rpc_journal.proofs.PlaceLemmas.{get_some}
@@ -46,6 +48,13 @@ pub replaceable : (set : Setting) (h : List Entry) (c : ℕ) → replace_refusal
 replaceable set h c unrefused =
     let rest = second _ _ unrefused in
     record { there = below (call_count (history set h)) c (refused_where-none _ _ (first _ _ rest)); live = no_end _ (ends_of (history set h) c) (second _ _ rest) }
+
+none_left : {A : Type 0} (o : Option A) → is_some o ≡ false → o ≡ None
+none_left None h = refl
+none_left (Some x) h = absurd cc
+
+pub replaced_live : (set : Setting) (h : List Entry) (c : ℕ) (r : CallState) → replace_refusal set h c ≡ None → AgreesOn (history set h) c r → r.status ≡ None
+replaced_live set h c r unrefused agrees = none_left r.status (sym (ended_is (history set h) c r agrees) ∙ (replaceable set h c unrefused).live)
 
 -- a live call isn't over
 going : (rule : HandlerRule) (set : Setting) (h : List Entry) (c : ℕ) → IsLegal rule set h → has_end (history set h) c ≡ false → is_over (history set h) c ≡ false

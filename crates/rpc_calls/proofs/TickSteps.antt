@@ -17,6 +17,8 @@ use Rattle.rpc_journal.specs.Effect.{Deed}
 use Rattle.rpc_journal.specs.History.{history, adding}
 use Rattle.rpc_journal.specs.Items.{flush_count, items_sent}
 use Rattle.rpc_journal.specs.Recorded.{Recorded}
+use Rattle.rpc_ids.specs.declared.status.Status.{Status}
+use Rattle.rpc_journal.specs.Kinds.{or_else}
 use Rattle.rpc_journal.specs.Refusals.{is_full}
 use Rattle.rpc_journal.specs.table.Agrees.{IsToldAll}
 use Rattle.rpc_journal.specs.table.Touch.{IsTouched, telling}
@@ -30,14 +32,19 @@ use Rattle.rpc_calls.specs.Places.{ChangesAll}
 use Rattle.rpc_calls.specs.Room.{uncancelled, running, items_owed}
 use Rattle.rpc_calls.specs.TableHolds.{IsTable}
 use Rattle.rpc_journal.specs.table.Turns.{IsTold}
-use Rattle.rpc_calls.specs.Widened.{HaveTwoPlaces}
+use Rattle.rpc_calls.specs.Widened.{OpensHaveTwo}
 use Rattle.rpc_calls.proofs.TouchTables.{room_grown}
 use Rattle.rpc_calls.proofs.CalmSteps.{table_after}
 use Rattle.rpc_calls.proofs.NoticeSteps.{left, notice_deed, notice_keeps, one_more, same_counts}
 
+-- where there is no end now, there was none before
+none_before : (e s : Option Status) → or_else e s ≡ None → s ≡ None
+none_before None s is = is
+none_before (Some e) s is = absurd cc
+
 module _ {H : Type 0} (now : H → Memo) (can_act : H → Type 0) (rule : HandlerRule) (set : Setting) where
   pub table_ticked : (recorded after : Recorded) (seat at time spare : ℕ) (states later : CallStates) (handlers : List (Option H)) (items items' : List Item) (capacity capacity' : ℕ)
-      → IsTable now can_act rule set recorded states handlers items capacity → seat ≡ 1 → is_full recorded.entries ≡ false → HaveTwoPlaces states.calls.items
+      → IsTable now can_act rule set recorded states handlers items capacity → seat ≡ 1 → is_full recorded.entries ≡ false → OpensHaveTwo states.calls.items
       → at ≡ length recorded.entries → ChangesAll (IsTold at (Time time)) states.calls.items later.calls.items
       → later.unflushed ≡ states.unflushed → later.input_ended ≡ states.input_ended → later.halted ≡ states.halted → later.newest ≡ states.newest → later.closed.items ≡ states.closed.items → items' ≡ items
       → after.entries ≡ adding recorded.entries seat (Tick time) → after.spare + 1 ≡ spare
@@ -86,4 +93,4 @@ module _ {H : Type 0} (now : H → Memo) (can_act : H → Type 0) (rule : Handle
           let within : k < length later.calls.items = slice_get_within _ _ _ there in
           let row = get_some states.calls.items k (omega (arith, within, changes.many)) in
           let its = changes.each k row.0 y row.1 there in
-          omega (arith, its.capacity, one_more at (Time time) row.0 y its, free.free k row.0 row.1)
+          omega (arith, its.capacity, one_more at (Time time) row.0 y its, free.free k row.0 row.1 (none_before (telling (Time time) row.0).ends row.0.status (sym its.is.status ∙ unended)))

@@ -15,3 +15,14 @@ pub mod Indexed
 pub mod First
 pub mod Opened
 pub mod Seeds
+pub mod Kept
+pub mod Names
+pub mod Facts
+pub mod StateChanges
+pub mod Records
+pub mod Numbers
+pub mod Roll
+pub mod Shown
+pub mod Opening
+pub mod InUse
+pub mod RunEnds

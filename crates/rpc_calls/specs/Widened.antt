@@ -1,5 +1,5 @@
 -- A table in which a call has got more places for its events.
-use Rattle.std.specs.Prelude.{◌≡◌, ℕ, ◌+◌, ◌≤◌, List, length, slice_get, Some}
+use Rattle.std.specs.Prelude.{◌≡◌, ℕ, ◌+◌, ◌≤◌, List, length, slice_get, Some, None}
 use Rattle.std.specs.VecDeque.{deque_capacity}
 use Rattle.rpc_journal.specs.declared.table.call_state.CallState.{CallState}
 use Rattle.rpc_journal.specs.declared.table.call_states.CallStates.{CallStates}
@@ -23,6 +23,6 @@ pub record IsWidened (c : ℕ) (states after : CallStates) : Type 0 where
 abbrev pub HasTwoPlaces : CallState → Type 0
 HasTwoPlaces r = length r.waiting.items + 2 ≤ deque_capacity r.waiting
 
--- there are for each call
-pub record HaveTwoPlaces (states : List CallState) : Type 0 where
-  pub free : (c : ℕ) (r : CallState) → slice_get states c ≡ Some r → HasTwoPlaces r
+-- there are for each call without an end
+pub record OpensHaveTwo (states : List CallState) : Type 0 where
+  pub free : (c : ℕ) (r : CallState) → slice_get states c ≡ Some r → r.status ≡ None → HasTwoPlaces r

@@ -38,8 +38,7 @@ use std::marker::Model;
 pub struct Calls<H: Handler> {
     setting: Setting,
     journal: Journal,
-    states: IndexedStates,
-    handlers: Vec<Option<H>>,
+    calls: IndexedStates<H>,
     items: VecDeque<Item>,
     alloc: Global,
 }
@@ -54,7 +53,7 @@ impl<H: Handler> Model for Calls<H> {
 
     ghost view = { λ t. record { setting = t.setting; entries = t.journal.entries } };
 
-    ghost invariant = { λ t. IsTable H.now H.can_act H.rule t.setting t.journal t.states t.handlers.items t.items.items (deque_capacity t.items) };
+    ghost invariant = { λ t. IsTable H.now H.can_act H.rule t.setting t.journal t.calls.states t.calls.handlers t.items.items (deque_capacity t.items) };
 }
 
 impl<H: Handler> Calls<H> {
@@ -82,8 +81,7 @@ impl<H: Handler> Calls<H> {
         Ok(Calls {
             setting,
             journal,
-            states: IndexedStates::new(alloc),
-            handlers: Vec::new(alloc),
+            calls: IndexedStates::new(alloc),
             items: VecDeque::new(alloc),
             alloc,
         })

@@ -4,13 +4,18 @@
 #![tactic(auto)]
 
 mod answer_items;
+mod call_place;
+mod call_record;
+mod call_records;
 mod calls;
 mod cancelling;
 mod closing_items;
 mod copies;
-mod handlers;
 mod index;
 mod indexed_states;
+mod kept_calls;
+mod last_state;
+mod live_names;
 mod marks;
 mod owed;
 mod packets;
@@ -19,8 +24,8 @@ mod room;
 mod run_end;
 mod running;
 mod served;
-mod state_changes;
-mod telling;
+mod shown_state;
+mod state_change;
 mod waiting_calls;
 
 pub use calls::Calls;

@@ -1,9 +1,8 @@
 //! What a table's counts and its list of waiting calls know of one call.
-ghost use Rattle.std.specs.Prelude.{◌≡◌, ◌<◌, length, slice_get, Some};
-ghost use Rattle.rpc_journal.specs.declared.table.call_state.CallState.{CallState};
+ghost use Rattle.std.specs.Prelude.{◌≡◌, not};
 ghost use Rattle.rpc_calls.specs.Marks.{marks_of, no_marks, oldest_since};
 
-use rpc_journal::table::{CallState, CallStates};
+use rpc_journal::table::CallState;
 
 /// What a table's counts and its list of waiting calls know of one call.
 #[derive(Clone, Copy, Debug)]
@@ -31,12 +30,16 @@ impl Marks {
         }
     }
 
-    /// Those of this call.
-    pub fn at(states: &CallStates, call: u32) -> Marks
-        requires { call < length states.now.calls.items }
-        ensures { (r : CallState) → slice_get states.now.calls.items call ≡ Some r → result ≡ marks_of r }
+    /// Those of a call that is done with.
+    pub fn left(cancelled: bool) -> Marks
+        ensures { result ≡ record no_marks { uncancelled = not cancelled } }
     {
-        Marks::of(&states.calls[call as usize])
+        Marks {
+            uncancelled: !cancelled,
+            runs: false,
+            queued: false,
+            since: None,
+        }
     }
 
     /// Those of a call in this state.

@@ -17,7 +17,7 @@ use crate::replies::{copy_packet, copy_with_event, copy_with_payload, refuse_str
 use crate::room::take_room;
 use rpc_handlers::{Handler, Maker};
 use rpc_ids::Status;
-use rpc_journal::table::{Move, move_at};
+use rpc_journal::table::{Move, move_of};
 use rpc_journal::{ArriveRefused, Arrived, Entry, EntryKind, MAX_ENTRIES};
 use rpc_packet::{Packet, PacketType};
 use std::alloc::AllocError;
@@ -56,13 +56,11 @@ impl<H: Handler> Calls<H> {
         ensures row { arrive_row self.now.setting (past self.now) p.now ≡ row_of result p.now (call_count (past self.now)) }
         ensures live { IsLiveMove (past self.now) result }
     {
-        move_at(
-            self.setting.role,
-            self.states.all(),
-            p,
-            &self.setting.channels,
-            &self.setting.registry,
-        )
+        let is_in = self.calls.is_in(&self.setting.channels, p.name.channel);
+        let live = self.calls.live(p.name);
+        let completed = self.calls.is_completed(live);
+        let role = self.setting.role;
+        move_of(role, is_in, live, completed, p, &self.setting.registry)
     }
 
     // The call for which the packet would wait, and which has no place for it.
@@ -71,7 +69,7 @@ impl<H: Handler> Calls<H> {
         ensures { result ≡ queue_full self.now.setting (past self.now) p.now }
     {
         let _ = p;
-        self.states.all().full_queue(arrival).map(|c| c as u32)
+        self.calls.full_queue(arrival).map(|c| c as u32)
     }
 
     // The packet does this.
@@ -119,7 +117,7 @@ impl<H: Handler> Calls<H> {
         ensures setting { self.new.setting ≡ self.old.setting }
         ensures err { OnErr result (self.new ≡ self.old) }
     {
-        take_room(&mut self.journal, &mut self.items, self.states.owed(), 0, 1)?;
+        take_room(&mut self.journal, &mut self.items, self.calls.owed(), 0, 1)?;
         let packet = copy_packet(p)?;
         self.journal.push(Entry {
             seat,
@@ -141,10 +139,10 @@ impl<H: Handler> Calls<H> {
         ensures setting { self.new.setting ≡ self.old.setting }
         ensures err { OnErr result (self.new ≡ self.old) }
     {
-        take_room(&mut self.journal, &mut self.items, self.states.owed(), 1, 1)?;
+        take_room(&mut self.journal, &mut self.items, self.calls.owed(), 1, 1)?;
         let packet = copy_packet(p)?;
         reply(&mut self.items, ptype, p.name, status);
-        self.states.set_unflushed(self.items.len() as u64);
+        self.calls.set_unflushed(self.items.len() as u64);
         self.journal.push(Entry {
             seat,
             kind: EntryKind::Arrive(packet),
@@ -167,9 +165,9 @@ impl<H: Handler> Calls<H> {
         ensures err { OnErr result (self.new ≡ self.old) }
     {
         let at = self.journal.len();
-        take_room(&mut self.journal, &mut self.items, self.states.owed(), 0, 1)?;
+        take_room(&mut self.journal, &mut self.items, self.calls.owed(), 0, 1)?;
         let packet = copy_packet(p)?;
-        self.states.close(call, at, status);
+        self.calls.close(call, at, status);
         self.journal.push(Entry {
             seat,
             kind: EntryKind::Arrive(packet),
@@ -192,10 +190,10 @@ impl<H: Handler> Calls<H> {
         ensures err { OnErr result (self.new ≡ self.old) }
     {
         let at = self.journal.len();
-        self.states.widen(call)?;
-        take_room(&mut self.journal, &mut self.items, self.states.owed(), 0, 1)?;
+        self.calls.widen(call)?;
+        take_room(&mut self.journal, &mut self.items, self.calls.owed(), 0, 1)?;
         let (packet, event) = copy_with_event(p, completes)?;
-        self.states.put(call, at, event);
+        self.calls.put(call, at, event);
         self.journal.push(Entry {
             seat,
             kind: EntryKind::Arrive(packet),
@@ -218,9 +216,9 @@ impl<H: Handler> Calls<H> {
         ensures err { OnErr result (self.new ≡ self.old) }
     {
         let at = self.journal.len();
-        take_room(&mut self.journal, &mut self.items, self.states.owed(), 0, 1)?;
+        take_room(&mut self.journal, &mut self.items, self.calls.owed(), 0, 1)?;
         let packet = copy_packet(p)?;
-        self.states.end(call, at, status);
+        self.calls.end(call, at, status);
         self.journal.push(Entry {
             seat,
             kind: EntryKind::Arrive(packet),
@@ -237,11 +235,11 @@ impl<H: Handler> Calls<H> {
         ensures err { OnErr result (self.new ≡ self.old) }
     {
         let at = self.journal.len();
-        take_room(&mut self.journal, &mut self.items, self.states.owed(), 1, 1)?;
+        take_room(&mut self.journal, &mut self.items, self.calls.owed(), 1, 1)?;
         let packet = copy_packet(p)?;
         refuse_stream(&mut self.items, call, p.name);
-        self.states.end(call, at, Status::InvalidArgument);
-        self.states.set_unflushed(self.items.len() as u64);
+        self.calls.end(call, at, Status::InvalidArgument);
+        self.calls.set_unflushed(self.items.len() as u64);
         self.journal.push(Entry {
             seat,
             kind: EntryKind::Arrive(packet),
@@ -264,10 +262,10 @@ impl<H: Handler> Calls<H> {
         ensures err { OnErr result (self.new ≡ self.old) }
     {
         let at = self.journal.len();
-        self.states.widen(call)?;
-        take_room(&mut self.journal, &mut self.items, self.states.owed(), 0, 1)?;
+        self.calls.widen(call)?;
+        take_room(&mut self.journal, &mut self.items, self.calls.owed(), 0, 1)?;
         let (packet, payload) = copy_with_payload(p)?;
-        self.states.answer(call, at, payload, status);
+        self.calls.answer(call, at, payload, status);
         self.journal.push(Entry {
             seat,
             kind: EntryKind::Arrive(packet),

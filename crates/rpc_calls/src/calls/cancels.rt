@@ -9,7 +9,7 @@ ghost use Rattle.rpc_journal.specs.Lawful.{IsLegal};
 ghost use Rattle.rpc_journal.specs.CallTable.{past};
 
 use super::Calls;
-use crate::cancelling::{cancel_call, let_go};
+use crate::cancelling::cancel_call;
 use rpc_handlers::Handler;
 use rpc_ids::Status;
 use rpc_journal::{Cancelled, Entry, EntryKind};
@@ -46,7 +46,7 @@ impl<H: Handler> Calls<H> {
     fn runner(&self, call: u32) -> Option<u32>
         ensures { result ≡ runner_of (past self.now) call }
     {
-        self.states.all().runner(call)
+        self.calls.runner(call)
     }
 
     // Whether the call was cancelled.
@@ -54,7 +54,7 @@ impl<H: Handler> Calls<H> {
         ensures is { result ≡ is_cancelled (past self.now) call }
         ensures legal { IsLegal H.rule self.now.setting self.now.entries }
     {
-        self.states.all().is_cancelled(call)
+        self.calls.is_cancelled(call)
     }
 
     // A call that wasn't cancelled is.
@@ -65,9 +65,7 @@ impl<H: Handler> Calls<H> {
         ensures setting { self.new.setting ≡ self.old.setting }
         ensures legal { IsLegal H.rule self.new.setting self.new.entries }
     {
-        let runs = self.states.all().calls[call as usize].run.is_some();
-        cancel_call(&mut self.states, &mut self.items, self.setting.role, call);
-        let_go(&mut self.handlers, call as usize, runs);
+        cancel_call(&mut self.calls, &mut self.items, self.setting.role, call);
         self.journal.push(Entry {
             seat,
             kind: EntryKind::Cancel(call),

@@ -5,7 +5,7 @@ ghost use Rattle.rpc_journal.specs.Lawful.{IsLegal};
 ghost use Rattle.rpc_journal.specs.Refusals.{close_refusal as refusal_of};
 
 use super::Calls;
-use crate::closing_items::say_closing;
+use crate::closing_items::{count_live, say_closing};
 use crate::room::take_room;
 use rpc_handlers::Handler;
 use rpc_journal::{CloseRefused, Entry, EntryKind, MAX_ENTRIES};
@@ -36,7 +36,7 @@ impl<H: Handler> Calls<H> {
         if self.journal.len() >= MAX_ENTRIES {
             return Some(CloseRefused::JournalFull);
         }
-        if !self.states.all().is_in(&self.setting.channels, channel) {
+        if !self.calls.is_in(&self.setting.channels, channel) {
             return Some(CloseRefused::NotIn);
         }
         None
@@ -52,18 +52,18 @@ impl<H: Handler> Calls<H> {
     {
         let at = self.journal.len();
         let role = self.setting.role;
-        let ended = self.states.all().live_on(channel) as u32;
+        let ended = count_live(&self.calls, channel);
         take_room(
             &mut self.journal,
             &mut self.items,
-            self.states.owed(),
+            self.calls.owed(),
             ended,
             1,
         )?;
-        self.states.make_channel_place()?;
-        say_closing(&mut self.items, self.states.all(), role, channel);
-        self.states.close_channel(at, channel);
-        self.states.set_unflushed(self.items.len() as u64);
+        self.calls.make_channel_place()?;
+        say_closing(&mut self.items, &self.calls, role, channel);
+        self.calls.close_channel(at, channel);
+        self.calls.set_unflushed(self.items.len() as u64);
         self.journal.push(Entry {
             seat,
             kind: EntryKind::Close(channel),

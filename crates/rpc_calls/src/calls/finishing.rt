@@ -5,7 +5,6 @@ ghost use Rattle.rpc_journal.specs.Lawful.{IsLegal};
 ghost use Rattle.rpc_journal.specs.Runs.{IsRunning};
 
 use super::Calls;
-use crate::handlers::put_back;
 use crate::run_end::end_run;
 use crate::running::{Answered, Running};
 use rpc_handlers::Handler;
@@ -31,8 +30,14 @@ impl<H: Handler> Calls<H> {
             copies,
         } = running.into_answered();
         let role = self.setting.role;
-        let over = end_run(&mut self.states, &mut self.items, role, call, copies);
-        let back = put_back(&mut self.handlers, call as usize, handler, over);
+        let back = end_run(
+            &mut self.calls,
+            &mut self.items,
+            role,
+            call,
+            copies,
+            handler,
+        );
         self.journal.push(Entry {
             seat,
             kind: EntryKind::Finish(call, answer),

@@ -15,14 +15,14 @@ impl<H: Handler> Calls<H> {
         ensures setting { self.new.setting ≡ self.old.setting }
         ensures legal { IsLegal H.rule self.new.setting self.new.entries }
     {
-        if self.states.all().halted.is_some() {
+        if self.calls.halted().is_some() {
             return None;
         }
         if self.items.is_empty() {
             return None;
         }
         let item = self.items.pop_front().unwrap();
-        self.states.set_unflushed(self.items.len() as u64);
+        self.calls.set_unflushed(self.items.len() as u64);
         self.journal.push(Entry {
             seat,
             kind: EntryKind::Flush,

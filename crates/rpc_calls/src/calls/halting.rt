@@ -19,7 +19,7 @@ impl<H: Handler> Calls<H> {
         ensures legal { IsLegal H.rule self.new.setting self.new.entries }
     {
         let at = self.journal.len();
-        self.states.end_in(at);
+        self.calls.end_in(at);
         self.journal.push(Entry {
             seat,
             kind: EntryKind::EndIn,
@@ -33,8 +33,8 @@ impl<H: Handler> Calls<H> {
         ensures setting { self.new.setting ≡ self.old.setting }
         ensures legal { IsLegal H.rule self.new.setting self.new.entries }
     {
-        if self.states.all().halted.is_none() {
-            self.states.halt(why);
+        if self.calls.halted().is_none() {
+            self.calls.halt(why);
             self.journal.push(Entry {
                 seat,
                 kind: EntryKind::Halt(why),

@@ -58,8 +58,7 @@ impl<H: Handler> Calls<H> {
         if self.journal.len() >= MAX_ENTRIES {
             return Err(InvokeRefused::JournalFull);
         }
-        let states = self.states.all();
-        if !states.is_in(&self.setting.channels, name.channel) {
+        if !self.calls.is_in(&self.setting.channels, name.channel) {
             return Err(InvokeRefused::NoChannel);
         }
         let Some(method) = self.setting.registry.find(name.service, name.method) else {
@@ -75,7 +74,7 @@ impl<H: Handler> Calls<H> {
     fn live_call(&self, name: CallName) -> Option<u32>
         ensures { result ≡ call_live (past self.now) name }
     {
-        self.states.all().live(name).map(|call| call as u32)
+        self.calls.live(name).map(|call| call as u32)
     }
 
     // Nothing speaks against it.
@@ -97,14 +96,11 @@ impl<H: Handler> Calls<H> {
         ensures setting { self.new.setting ≡ self.old.setting }
         ensures err { OnErr result (self.new ≡ self.old) }
     {
-        let call = self.states.all().calls.len();
+        let call = self.calls.count();
         if call >= MAX_CALLS {
             return Err((handler, AllocError));
         }
-        if let Err(e) = self.handlers.reserve(1) {
-            return Err((handler, e));
-        }
-        if let Err(e) = take_room(&mut self.journal, &mut self.items, self.states.owed(), 3, 2) {
+        if let Err(e) = take_room(&mut self.journal, &mut self.items, self.calls.owed(), 3, 2) {
             return Err((handler, e));
         }
         let memo = match handler.memo() {
@@ -119,12 +115,9 @@ impl<H: Handler> Calls<H> {
             Ok(state) => state,
             Err(e) => return Err((handler, e)),
         };
-        if let Err(e) = self.states.open(state) {
-            return Err((handler, e));
-        }
-        self.handlers.push_reserved(Some(handler));
+        self.calls.open(state, handler)?;
         self.items.push_back_reserved(send_item(call as u32, copy));
-        self.states.set_unflushed(self.items.len() as u64);
+        self.calls.set_unflushed(self.items.len() as u64);
         self.journal.push(Entry {
             seat,
             kind: EntryKind::Invoke(packet, memo),

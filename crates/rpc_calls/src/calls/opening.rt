@@ -35,15 +35,15 @@ impl<H: Handler> Calls<H> {
         ensures err { OnErr result (self.new ≡ self.old) }
     {
         let at = self.journal.len();
-        let call = self.states.all().calls.len();
+        let call = self.calls.count();
         if call >= MAX_CALLS {
             return Err(AllocError);
         }
-        self.handlers.reserve(1)?;
-        take_room(&mut self.journal, &mut self.items, self.states.owed(), 2, 2)?;
+        take_room(&mut self.journal, &mut self.items, self.calls.owed(), 2, 2)?;
         let (packet, state) = serve(self.alloc, p, method, at)?;
-        self.states.open(state)?;
-        self.handlers.push_reserved(Some(handler));
+        if let Err((_, e)) = self.calls.open(state, handler) {
+            return Err(e);
+        }
         self.journal.push(Entry {
             seat,
             kind: EntryKind::Arrive(packet),
@@ -69,15 +69,13 @@ impl<H: Handler> Calls<H> {
         ensures err { OnErr result (self.new ≡ self.old) }
     {
         let at = self.journal.len();
-        let call = self.states.all().calls.len();
+        let call = self.calls.count();
         if call >= MAX_CALLS {
             return Err(AllocError);
         }
-        self.handlers.reserve(1)?;
-        take_room(&mut self.journal, &mut self.items, self.states.owed(), 2, 2)?;
+        take_room(&mut self.journal, &mut self.items, self.calls.owed(), 2, 2)?;
         let (packet, state) = serve(self.alloc, p, method, at)?;
-        self.states.open_anew(old, at, state)?;
-        self.handlers.push_reserved(Some(handler));
+        self.calls.open_anew(old, at, state, handler)?;
         self.journal.push(Entry {
             seat,
             kind: EntryKind::Arrive(packet),

@@ -20,7 +20,7 @@ impl<H: Handler> Calls<H> {
     pub fn count(&self) -> u32
         ensures { result ≡ call_count (past self.now) }
     {
-        self.states.all().calls.len() as u32
+        self.calls.count() as u32
     }
 
     /// The name of this call.
@@ -28,7 +28,7 @@ impl<H: Handler> Calls<H> {
         requires { IsCall self.now.setting self.now.entries call }
         ensures { option_map (λ o. o.name) (call_at (past self.now) call) ≡ Some result }
     {
-        self.states.all().calls[call as usize].name
+        self.calls.facts(call).unwrap().name
     }
 
     /// The method of this call.
@@ -36,7 +36,7 @@ impl<H: Handler> Calls<H> {
         requires { IsCall self.now.setting self.now.entries call }
         ensures { option_map (λ o. o.method) (call_at (past self.now) call) ≡ Some result }
     {
-        self.states.all().calls[call as usize].method
+        self.calls.facts(call).unwrap().method
     }
 
     /// The status with which this call ended.
@@ -44,24 +44,21 @@ impl<H: Handler> Calls<H> {
         requires { IsCall self.now.setting self.now.entries call }
         ensures { result ≡ end_of (past self.now) call }
     {
-        match self.states.all().state(call) {
-            Some(state) => state.status,
-            None => None,
-        }
+        self.calls.facts(call).unwrap().status
     }
 
     /// Why the table was halted, where it was.
     pub fn halted(&self) -> Option<Why>
         ensures { result ≡ halt_reason (past self.now) }
     {
-        self.states.all().halted
+        self.calls.halted()
     }
 
     /// Whether the input has ended.
     pub fn input_ended(&self) -> bool
         ensures { result ≡ no_input_left (past self.now) }
     {
-        self.states.all().input_ended
+        self.calls.input_ended()
     }
 
     /// How many events wait for this call: at most 64 other than `Ended`, and one `Ended`.
@@ -69,7 +66,7 @@ impl<H: Handler> Calls<H> {
         requires { IsCall self.now.setting self.now.entries call }
         ensures { result ≡ length (waiting_of (past self.now) call) }
     {
-        match self.states.all().state(call) {
+        match self.calls.state(call) {
             Some(state) => count_waiting(state),
             None => 0,
         }
@@ -79,14 +76,14 @@ impl<H: Handler> Calls<H> {
     pub fn none_waiting(&self) -> bool
         ensures { result ≡ all_below (call_count (past self.now)) (λ c. is_empty (waiting_of (past self.now) c)) }
     {
-        self.states.none_waiting()
+        self.calls.none_waiting()
     }
 
     /// Whether no call runs.
     pub fn none_running(&self) -> bool
         ensures { result ≡ none_runs (past self.now) }
     {
-        self.states.none_running()
+        self.calls.none_running()
     }
 
     /// Whether no handler has anything left to do: the input has ended, no call runs, and no event waits.

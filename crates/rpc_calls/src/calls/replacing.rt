@@ -7,7 +7,6 @@ ghost use Rattle.rpc_journal.specs.States.{state_of};
 ghost use Rattle.rpc_journal.specs.CallTable.{past};
 
 use super::Calls;
-use crate::handlers::swap_handler;
 use crate::room::take_room;
 use rpc_handlers::Handler;
 use rpc_journal::{Entry, EntryKind, MAX_ENTRIES, ReplaceRefused};
@@ -73,13 +72,12 @@ impl<H: Handler> Calls<H> {
         ensures setting { self.new.setting ≡ self.old.setting }
         ensures err { OnErr result (self.new ≡ self.old) }
     {
-        if let Err(e) = take_room(&mut self.journal, &mut self.items, self.states.owed(), 0, 1) {
+        if let Err(e) = take_room(&mut self.journal, &mut self.items, self.calls.owed(), 0, 1) {
             return Err((handler, e));
         }
         match handler.memo() {
             Ok(memo) => {
-                let runs = self.states.all().calls[call as usize].run.is_some();
-                let old = swap_handler(&mut self.handlers, call as usize, handler, runs);
+                let old = self.calls.swap_handler(call, handler);
                 self.journal.push(Entry {
                     seat,
                     kind: EntryKind::Replace(call, memo),

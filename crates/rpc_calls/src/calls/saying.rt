@@ -61,7 +61,7 @@ impl<H: Handler> Calls<H> {
         if let Out::Say(_) = out {
             return self.message_refusal(call);
         }
-        if self.states.all().is_cancelled(call) {
+        if self.calls.is_cancelled(call) {
             let status = self.status(call).unwrap_or(Status::Cancelled);
             return Some(SayRefused::Closed(status));
         }
@@ -77,10 +77,10 @@ impl<H: Handler> Calls<H> {
             return Some(SayRefused::Closed(status));
         }
         let role = self.setting.role;
-        if !self.states.all().has_stream(role, call) {
+        if !self.calls.has_stream(role, call) {
             return Some(SayRefused::NoStream);
         }
-        if !is_server(role) && self.states.all().is_done(call) {
+        if !is_server(role) && self.calls.is_done(call) {
             return Some(SayRefused::Completed);
         }
         None
@@ -98,10 +98,10 @@ impl<H: Handler> Calls<H> {
         if let Some(status) = self.status(call) {
             return Some(SayRefused::Closed(status));
         }
-        if self.states.all().is_unary(call) {
+        if self.calls.is_unary(call) {
             return Some(SayRefused::NoStream);
         }
-        if self.states.all().is_done(call) {
+        if self.calls.is_done(call) {
             return Some(SayRefused::Completed);
         }
         None
@@ -116,12 +116,12 @@ impl<H: Handler> Calls<H> {
         ensures setting { self.new.setting ≡ self.old.setting }
         ensures err { OnErr result (self.new ≡ self.old) }
     {
-        take_room(&mut self.journal, &mut self.items, self.states.owed(), 1, 1)?;
+        take_room(&mut self.journal, &mut self.items, self.calls.owed(), 1, 1)?;
         let copy = copy_out(&out)?;
-        let name = self.states.all().calls[call as usize].name;
+        let name = self.calls.facts(call).unwrap().name;
         self.items
             .push_back_reserved(out_item(self.setting.role, call, name, copy));
-        self.states.set_unflushed(self.items.len() as u64);
+        self.calls.set_unflushed(self.items.len() as u64);
         self.journal.push(Entry {
             seat,
             kind: EntryKind::Say(call, out),
@@ -138,12 +138,12 @@ impl<H: Handler> Calls<H> {
         ensures setting { self.new.setting ≡ self.old.setting }
         ensures err { OnErr result (self.new ≡ self.old) }
     {
-        take_room(&mut self.journal, &mut self.items, self.states.owed(), 1, 1)?;
-        let name = self.states.all().calls[call as usize].name;
+        take_room(&mut self.journal, &mut self.items, self.calls.owed(), 1, 1)?;
+        let name = self.calls.facts(call).unwrap().name;
         let packet = status_packet(PacketType::Completion, name, Status::Okay);
         self.items.push_back_reserved(send_item(call, packet));
-        self.states.complete(call);
-        self.states.set_unflushed(self.items.len() as u64);
+        self.calls.complete(call);
+        self.calls.set_unflushed(self.items.len() as u64);
         self.journal.push(Entry {
             seat,
             kind: EntryKind::Done(call),

@@ -10,7 +10,7 @@ ghost use Rattle.rpc_journal.specs.Ran.{run_in};
 
 use super::Calls;
 use crate::answer_items::MAX_RUN_ITEMS;
-use crate::handlers::take_handler;
+use crate::indexed_states::Begun;
 use crate::room::take_room;
 use crate::running::Running;
 use rpc_handlers::Handler;
@@ -28,7 +28,7 @@ impl<H: Handler> Calls<H> {
         if self.journal.len() >= MAX_ENTRIES {
             return Err(StartOfRefused::JournalFull);
         }
-        if !self.states.all().is_ready(call) {
+        if !self.calls.is_ready(call) {
             return Err(StartOfRefused::NotReady);
         }
         match self.begin(seat, call) {
@@ -63,7 +63,7 @@ impl<H: Handler> Calls<H> {
         ensures none { IfNone result (NoneReady (past self.now)) }
         ensures legal { IsLegal H.rule self.now.setting self.now.entries }
     {
-        self.states.first_ready()
+        self.calls.first_ready()
     }
 
     // A run of a ready call.
@@ -80,12 +80,11 @@ impl<H: Handler> Calls<H> {
         take_room(
             &mut self.journal,
             &mut self.items,
-            self.states.owed(),
+            self.calls.owed(),
             MAX_RUN_ITEMS,
             2,
         )?;
-        let handler = take_handler(&mut self.handlers, call as usize);
-        let oldest = self.states.start(call, seat);
+        let Begun { oldest, handler } = self.calls.start(call, seat);
         self.journal.push(Entry {
             seat,
             kind: EntryKind::Start(call),

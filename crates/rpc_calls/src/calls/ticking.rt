@@ -40,9 +40,9 @@ impl<H: Handler> Calls<H> {
         ensures err { OnErr result (self.new ≡ self.old) }
     {
         let at = self.journal.len();
-        self.states.widen_all()?;
-        take_room(&mut self.journal, &mut self.items, self.states.owed(), 0, 1)?;
-        self.states.tell_time(at, now);
+        self.calls.widen_all()?;
+        take_room(&mut self.journal, &mut self.items, self.calls.owed(), 0, 1)?;
+        self.calls.tell_time(at, now);
         self.journal.push(Entry {
             seat,
             kind: EntryKind::Tick(now),

@@ -11,18 +11,19 @@ ghost use Rattle.rpc_journal.specs.table.Touch.{is_startable};
 ghost use Rattle.rpc_calls.specs.First.{FirstToStart, starts_since as starts_now};
 
 use super::IndexedStates;
+use crate::call_records::CallRecords;
 use crate::waiting_calls::WaitingCall;
-use rpc_journal::table::{CallState, CallStates};
+use rpc_journal::table::CallState;
 use std::collections::VecDeque;
 
-impl IndexedStates {
+impl<H> IndexedStates<H> {
     /// The ready call whose oldest waiting event was put first, the one of the lower number at a tie.
     pub fn first_ready(&self) -> Option<u32>
-        ensures first { IfSome result (λ c. (ds : List Deed) → Agrees ds self.now → IsFirstReady ds c) }
-        ensures none { IfNone result ((ds : List Deed) → Agrees ds self.now → NoneReady ds) }
+        ensures first { IfSome result (λ c. (ds : List Deed) → Agrees ds self.now.states → IsFirstReady ds c) }
+        ensures none { IfNone result ((ds : List Deed) → Agrees ds self.now.states → NoneReady ds) }
     {
         let listed = &self.index.waiting.calls;
-        match first_to_start(&self.states, listed) {
+        match first_to_start(&self.calls, listed) {
             Some(place) => Some(listed[place].call),
             None => None,
         }
@@ -30,38 +31,38 @@ impl IndexedStates {
 
     /// Whether no call runs.
     pub fn none_running(&self) -> bool
-        ensures { (ds : List Deed) → Agrees ds self.now → result ≡ none_runs ds }
+        ensures { (ds : List Deed) → Agrees ds self.now.states → result ≡ none_runs ds }
     {
         self.index.owed.running == 0
     }
 
     /// Whether no event waits for any call.
     pub fn none_waiting(&self) -> bool
-        ensures { (ds : List Deed) → Agrees ds self.now → result ≡ all_below (call_count ds) (λ c. is_empty (waiting_of ds c)) }
+        ensures { (ds : List Deed) → Agrees ds self.now.states → result ≡ all_below (call_count ds) (λ c. is_empty (waiting_of ds c)) }
     {
         self.index.owed.queued == 0
     }
 }
 
 // The first place of this list whose call can start.
-fn first_to_start(states: &CallStates, listed: &VecDeque<WaitingCall>) -> Option<usize>
-    ensures { FirstToStart states.now listed.now.items result }
+fn first_to_start<H>(calls: &CallRecords<H>, listed: &VecDeque<WaitingCall>) -> Option<usize>
+    ensures { FirstToStart calls.now.states listed.now.items result }
 {
     listed.iter().position(
         |waiting: &WaitingCall| -> bool
-            ensures { result ≡ starts_now states.entry.now waiting.now }
-        { starts_since(states, waiting) },
+            ensures { result ≡ starts_now calls.entry.now.states waiting.now }
+        { starts_since(calls, waiting) },
     )
 }
 
 // Whether this call can start, with an event of this place.
-fn starts_since(states: &CallStates, waiting: &WaitingCall) -> bool
-    ensures { result ≡ starts_now states.entry.now waiting.now }
+fn starts_since<H>(calls: &CallRecords<H>, waiting: &WaitingCall) -> bool
+    ensures { result ≡ starts_now calls.entry.now.states waiting.now }
 {
-    match states.state(waiting.call) {
+    match calls.state(waiting.call as usize) {
         Some(state) => {
-            let halted = states.halted.is_some();
-            can_start(state, waiting.since, states.unflushed, halted)
+            let halted = calls.halted().is_some();
+            can_start(state, waiting.since, calls.unflushed(), halted)
         }
         None => false,
     }

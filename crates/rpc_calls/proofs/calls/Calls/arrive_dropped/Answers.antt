@@ -11,7 +11,7 @@ use Rattle.rpc_calls.proofs.calls.Calls.arrive_dropped.Goals as goal
 
 pub invariant_of-self-2 : goal.invariant_of-self-2
 invariant_of-self-2 g c =
-    (arrives_dropped g.H.Acts.now g.H.Acts.can_act g.H.Handler.rule c.self.inside.setting c.self.inside.journal c.push.new.self c.args.seat c.args.p.now c.self.inside.states c.self.inside.handlers.items c.self.inside.items.items _ _ _ _ c.self.invariant
+    (arrives_dropped g.H.Acts.now g.H.Acts.can_act g.H.Handler.rule c.self.inside.setting c.self.inside.journal c.push.new.self c.args.seat c.args.p.now c.self.inside.calls.states c.self.inside.calls.handlers c.self.inside.items.items _ _ _ _ c.self.invariant
     (subst (λ t. CanTake t.setting t.entries c.args.seat c.args.p.now dropped_row) (sym c.self.view_is) c.requires)
     c.in_ok-take_room.ensures.items
     (c.push.ensures.entries ∙ ap (λ es. adding es c.args.seat (Arrive c.in_ok-packet.packet)) c.in_ok-take_room.ensures.entries ∙ ap (λ q. adding c.self.inside.journal.entries c.args.seat (Arrive q)) c.in_ok-packet.ensures)
@@ -22,7 +22,7 @@ invariant_of-self-2 g c =
 pub returns-clause-took : goal.returns-clause-took
 returns-clause-took g c =
     subst (λ t. Took g.H.Handler.rule t.setting c.args.seat c.args.p.now Dropped t.entries c.push.new.self.entries) c.self.view_is
-    (arrives_dropped g.H.Acts.now g.H.Acts.can_act g.H.Handler.rule c.self.inside.setting c.self.inside.journal c.push.new.self c.args.seat c.args.p.now c.self.inside.states c.self.inside.handlers.items c.self.inside.items.items _ _ (deque_capacity c.take_room.new.items) _ c.self.invariant
+    (arrives_dropped g.H.Acts.now g.H.Acts.can_act g.H.Handler.rule c.self.inside.setting c.self.inside.journal c.push.new.self c.args.seat c.args.p.now c.self.inside.calls.states c.self.inside.calls.handlers c.self.inside.items.items _ _ (deque_capacity c.take_room.new.items) _ c.self.invariant
     (subst (λ t. CanTake t.setting t.entries c.args.seat c.args.p.now dropped_row) (sym c.self.view_is) c.requires)
     c.in_ok-take_room.ensures.items
     (c.push.ensures.entries ∙ ap (λ es. adding es c.args.seat (Arrive c.in_ok-packet.packet)) c.in_ok-take_room.ensures.entries ∙ ap (λ q. adding c.self.inside.journal.entries c.args.seat (Arrive q)) c.in_ok-packet.ensures)

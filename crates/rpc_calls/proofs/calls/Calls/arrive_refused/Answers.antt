@@ -27,29 +27,30 @@ end-requires-clause-place g c = λ r is.
 
 pub invariant_of-self-2 : goal.invariant_of-self-2
 invariant_of-self-2 g c =
-    (arrives_refused g.H.Acts.now g.H.Acts.can_act g.H.Handler.rule c.self.inside.setting c.self.inside.journal c.push.new.self c.args.seat c.args.call c.len-at.result c.args.p.now c.self.inside.states c.set_unflushed.new.self c.self.inside.handlers.items c.self.inside.items.items c.refuse_stream.new.items.items _ (deque_capacity c.refuse_stream.new.items) c.take_room.new.journal.spare c.self.invariant
+    rw (c.set_unflushed.ensures.handlers, c.end.ensures.handlers)
+    ((arrives_refused g.H.Acts.now g.H.Acts.can_act g.H.Handler.rule c.self.inside.setting c.self.inside.journal c.push.new.self c.args.seat c.args.call c.len-at.result c.args.p.now c.self.inside.calls.states c.set_unflushed.new.self.states c.self.inside.calls.handlers c.self.inside.items.items c.refuse_stream.new.items.items _ (deque_capacity c.refuse_stream.new.items) c.take_room.new.journal.spare c.self.invariant
     (subst (λ t. CanTake t.setting t.entries c.args.seat c.args.p.now (closed_row c.args.call (refuses_stream c.args.p.now c.args.call))) (sym c.self.view_is) c.requires.take)
     (subst (λ t. IsLiveCall (past t) c.args.call) (sym c.self.view_is) c.requires.live) c.len-at.ensures.len
-    (subst (λ (t : CallStates). ChangesAt c.args.call (Turns c.len-at.result (ending InvalidArgument)) c.self.inside.states.calls.items t.calls.items) (sym c.set_unflushed.ensures) c.end.ensures.change)
-    (ap (λ (t : CallStates). t.unflushed) c.set_unflushed.ensures ∙ c.len.ensures ∙ c.refuse_stream.new.items.ok.0)
-    (ap (λ (t : CallStates). t.input_ended) c.set_unflushed.ensures ∙ c.end.ensures.outside.input) (ap (λ (t : CallStates). t.halted) c.set_unflushed.ensures ∙ c.end.ensures.outside.halt) (ap (λ (t : CallStates). t.newest) c.set_unflushed.ensures ∙ c.end.ensures.outside.newest) (ap (λ (t : CallStates). t.closed.items) c.set_unflushed.ensures ∙ c.end.ensures.outside.closed)
+    (subst (λ (t : CallStates). ChangesAt c.args.call (Turns c.len-at.result (ending InvalidArgument)) c.self.inside.calls.states.calls.items t.calls.items) (sym c.set_unflushed.ensures.states) c.end.ensures.change)
+    (ap (λ (t : CallStates). t.unflushed) c.set_unflushed.ensures.states ∙ c.len.ensures ∙ c.refuse_stream.new.items.ok.0)
+    (ap (λ (t : CallStates). t.input_ended) c.set_unflushed.ensures.states ∙ c.end.ensures.outside.input) (ap (λ (t : CallStates). t.halted) c.set_unflushed.ensures.states ∙ c.end.ensures.outside.halt) (ap (λ (t : CallStates). t.newest) c.set_unflushed.ensures.states ∙ c.end.ensures.outside.newest) (ap (λ (t : CallStates). t.closed.items) c.set_unflushed.ensures.states ∙ c.end.ensures.outside.closed)
     (c.refuse_stream.ensures.items c.args.p.now refl ∙ ap (λ xs. xs ++ (refuses_stream c.args.p.now c.args.call).says) c.in_ok-take_room.ensures.items)
     (c.push.ensures.entries ∙ ap (λ es. adding es c.args.seat (Arrive c.in_ok-packet.packet)) c.in_ok-take_room.ensures.entries ∙ ap (λ q. adding c.self.inside.journal.entries c.args.seat (Arrive q)) c.in_ok-packet.ensures)
     c.push.ensures.spare
-    (subst (λ n. length c.self.inside.items.items + items_of (owed_by c.self.inside.states.calls.items) + 1 ≤ n) (sym c.refuse_stream.ensures.capacity) (subst (λ o. length c.self.inside.items.items + items_of o + 1 ≤ deque_capacity c.take_room.new.items) c.owed.ensures.counts c.in_ok-take_room.ensures.places))
-    (subst (λ o. length c.self.inside.items.items + items_of o + 1 + (o.uncancelled + o.running + 2) + 1 ≤ c.take_room.new.journal.spare) c.owed.ensures.counts c.in_ok-take_room.ensures.records)).table
+    (subst (λ n. length c.self.inside.items.items + items_of (owed_by c.self.inside.calls.states.calls.items) + 1 ≤ n) (sym c.refuse_stream.ensures.capacity) (subst (λ o. length c.self.inside.items.items + items_of o + 1 ≤ deque_capacity c.take_room.new.items) c.owed.ensures.counts c.in_ok-take_room.ensures.places))
+    (subst (λ o. length c.self.inside.items.items + items_of o + 1 + (o.uncancelled + o.running + 2) + 1 ≤ c.take_room.new.journal.spare) c.owed.ensures.counts c.in_ok-take_room.ensures.records)).table)
 
 pub returns-clause-took : goal.returns-clause-took
 returns-clause-took g c =
     subst (λ t. Took g.H.Handler.rule t.setting c.args.seat c.args.p.now (Closed c.args.call) t.entries c.push.new.self.entries) c.self.view_is
-    (arrives_refused g.H.Acts.now g.H.Acts.can_act g.H.Handler.rule c.self.inside.setting c.self.inside.journal c.push.new.self c.args.seat c.args.call c.len-at.result c.args.p.now c.self.inside.states c.set_unflushed.new.self c.self.inside.handlers.items c.self.inside.items.items c.refuse_stream.new.items.items _ (deque_capacity c.refuse_stream.new.items) c.take_room.new.journal.spare c.self.invariant
+    (arrives_refused g.H.Acts.now g.H.Acts.can_act g.H.Handler.rule c.self.inside.setting c.self.inside.journal c.push.new.self c.args.seat c.args.call c.len-at.result c.args.p.now c.self.inside.calls.states c.set_unflushed.new.self.states c.self.inside.calls.handlers c.self.inside.items.items c.refuse_stream.new.items.items _ (deque_capacity c.refuse_stream.new.items) c.take_room.new.journal.spare c.self.invariant
     (subst (λ t. CanTake t.setting t.entries c.args.seat c.args.p.now (closed_row c.args.call (refuses_stream c.args.p.now c.args.call))) (sym c.self.view_is) c.requires.take)
     (subst (λ t. IsLiveCall (past t) c.args.call) (sym c.self.view_is) c.requires.live) c.len-at.ensures.len
-    (subst (λ (t : CallStates). ChangesAt c.args.call (Turns c.len-at.result (ending InvalidArgument)) c.self.inside.states.calls.items t.calls.items) (sym c.set_unflushed.ensures) c.end.ensures.change)
-    (ap (λ (t : CallStates). t.unflushed) c.set_unflushed.ensures ∙ c.len.ensures ∙ c.refuse_stream.new.items.ok.0)
-    (ap (λ (t : CallStates). t.input_ended) c.set_unflushed.ensures ∙ c.end.ensures.outside.input) (ap (λ (t : CallStates). t.halted) c.set_unflushed.ensures ∙ c.end.ensures.outside.halt) (ap (λ (t : CallStates). t.newest) c.set_unflushed.ensures ∙ c.end.ensures.outside.newest) (ap (λ (t : CallStates). t.closed.items) c.set_unflushed.ensures ∙ c.end.ensures.outside.closed)
+    (subst (λ (t : CallStates). ChangesAt c.args.call (Turns c.len-at.result (ending InvalidArgument)) c.self.inside.calls.states.calls.items t.calls.items) (sym c.set_unflushed.ensures.states) c.end.ensures.change)
+    (ap (λ (t : CallStates). t.unflushed) c.set_unflushed.ensures.states ∙ c.len.ensures ∙ c.refuse_stream.new.items.ok.0)
+    (ap (λ (t : CallStates). t.input_ended) c.set_unflushed.ensures.states ∙ c.end.ensures.outside.input) (ap (λ (t : CallStates). t.halted) c.set_unflushed.ensures.states ∙ c.end.ensures.outside.halt) (ap (λ (t : CallStates). t.newest) c.set_unflushed.ensures.states ∙ c.end.ensures.outside.newest) (ap (λ (t : CallStates). t.closed.items) c.set_unflushed.ensures.states ∙ c.end.ensures.outside.closed)
     (c.refuse_stream.ensures.items c.args.p.now refl ∙ ap (λ xs. xs ++ (refuses_stream c.args.p.now c.args.call).says) c.in_ok-take_room.ensures.items)
     (c.push.ensures.entries ∙ ap (λ es. adding es c.args.seat (Arrive c.in_ok-packet.packet)) c.in_ok-take_room.ensures.entries ∙ ap (λ q. adding c.self.inside.journal.entries c.args.seat (Arrive q)) c.in_ok-packet.ensures)
     c.push.ensures.spare
-    (subst (λ n. length c.self.inside.items.items + items_of (owed_by c.self.inside.states.calls.items) + 1 ≤ n) (sym c.refuse_stream.ensures.capacity) (subst (λ o. length c.self.inside.items.items + items_of o + 1 ≤ deque_capacity c.take_room.new.items) c.owed.ensures.counts c.in_ok-take_room.ensures.places))
+    (subst (λ n. length c.self.inside.items.items + items_of (owed_by c.self.inside.calls.states.calls.items) + 1 ≤ n) (sym c.refuse_stream.ensures.capacity) (subst (λ o. length c.self.inside.items.items + items_of o + 1 ≤ deque_capacity c.take_room.new.items) c.owed.ensures.counts c.in_ok-take_room.ensures.places))
     (subst (λ o. length c.self.inside.items.items + items_of o + 1 + (o.uncancelled + o.running + 2) + 1 ≤ c.take_room.new.journal.spare) c.owed.ensures.counts c.in_ok-take_room.ensures.records)).took

@@ -8,7 +8,7 @@ pub returns-then-is_some-clause-did : goal.returns-then-is_some-clause-did
 returns-then-is_some-clause-did g c =
     subst (λ t. FlushDid t.setting c.args.seat None t.entries t.entries) c.self.view_is
     (flushes_none g.H.Acts.now g.H.Acts.can_act g.H.Handler.rule c.self.inside.setting c.self.inside.journal c.args.seat
-    (halted_waits _ _ _ _ _ _ _ _ c.self.invariant.stands (subst (λ t. is_some t.halted ≡ true) c.all.ensures (sym c.if-is_some.ensures))))
+    (halted_waits _ _ _ _ _ _ _ _ c.self.invariant.stands (subst (λ o. is_some o ≡ true) c.halted.ensures (sym c.if-is_some.ensures))))
 
 pub returns-then-is_empty-clause-did : goal.returns-then-is_empty-clause-did
 returns-then-is_empty-clause-did g c =
@@ -18,19 +18,20 @@ returns-then-is_empty-clause-did g c =
 
 pub invariant_of-self : goal.invariant_of-self
 invariant_of-self g c =
-    (flushes_front _ _ _ _ c.self.inside.journal c.push.new.self _ c.self.inside.states c.set_unflushed.new.self _ c.self.inside.items.items c.unwrap-item.result c.pop_front.new.self.items c.len.result _ _ c.self.invariant
+    rw c.set_unflushed.ensures.handlers
+    ((flushes_front _ _ _ _ c.self.inside.journal c.push.new.self _ c.self.inside.calls.states c.set_unflushed.new.self.states _ c.self.inside.items.items c.unwrap-item.result c.pop_front.new.self.items c.len.result _ _ c.self.invariant
     (subst (λ o. c.self.inside.items.items ≡ option_to_list o ++ c.pop_front.new.self.items) c.unwrap-item.ensures c.pop_front.ensures.items)
-    (subst (λ t. is_some t.halted ≡ false) c.all.ensures (sym c.if-is_some.ensures)) c.requires c.set_unflushed.ensures (c.len.ensures ∙ c.pop_front.new.self.ok.0) c.pop_front.ensures.capacity c.push.ensures.entries c.push.ensures.spare).0
+    (subst (λ o. is_some o ≡ false) c.halted.ensures (sym c.if-is_some.ensures)) c.requires c.set_unflushed.ensures.states (c.len.ensures ∙ c.pop_front.new.self.ok.0) c.pop_front.ensures.capacity c.push.ensures.entries c.push.ensures.spare).0)
 
 pub returns-clause-did : goal.returns-clause-did
 returns-clause-did g c =
     subst (λ t. FlushDid t.setting c.args.seat (Some c.unwrap-item.result) t.entries c.push.new.self.entries) c.self.view_is
-    (flushes_front _ _ _ _ c.self.inside.journal c.push.new.self _ c.self.inside.states c.set_unflushed.new.self _ c.self.inside.items.items c.unwrap-item.result c.pop_front.new.self.items c.len.result _ _ c.self.invariant
+    (flushes_front _ _ _ _ c.self.inside.journal c.push.new.self _ c.self.inside.calls.states c.set_unflushed.new.self.states _ c.self.inside.items.items c.unwrap-item.result c.pop_front.new.self.items c.len.result _ _ c.self.invariant
     (subst (λ o. c.self.inside.items.items ≡ option_to_list o ++ c.pop_front.new.self.items) c.unwrap-item.ensures c.pop_front.ensures.items)
-    (subst (λ t. is_some t.halted ≡ false) c.all.ensures (sym c.if-is_some.ensures)) c.requires c.set_unflushed.ensures (c.len.ensures ∙ c.pop_front.new.self.ok.0) c.pop_front.ensures.capacity c.push.ensures.entries c.push.ensures.spare).1
+    (subst (λ o. is_some o ≡ false) c.halted.ensures (sym c.if-is_some.ensures)) c.requires c.set_unflushed.ensures.states (c.len.ensures ∙ c.pop_front.new.self.ok.0) c.pop_front.ensures.capacity c.push.ensures.entries c.push.ensures.spare).1
 
 pub returns-clause-legal : goal.returns-clause-legal
 returns-clause-legal g c =
-    (flushes_front _ _ _ _ c.self.inside.journal c.push.new.self _ c.self.inside.states c.set_unflushed.new.self _ c.self.inside.items.items c.unwrap-item.result c.pop_front.new.self.items c.len.result _ _ c.self.invariant
+    (flushes_front _ _ _ _ c.self.inside.journal c.push.new.self _ c.self.inside.calls.states c.set_unflushed.new.self.states _ c.self.inside.items.items c.unwrap-item.result c.pop_front.new.self.items c.len.result _ _ c.self.invariant
     (subst (λ o. c.self.inside.items.items ≡ option_to_list o ++ c.pop_front.new.self.items) c.unwrap-item.ensures c.pop_front.ensures.items)
-    (subst (λ t. is_some t.halted ≡ false) c.all.ensures (sym c.if-is_some.ensures)) c.requires c.set_unflushed.ensures (c.len.ensures ∙ c.pop_front.new.self.ok.0) c.pop_front.ensures.capacity c.push.ensures.entries c.push.ensures.spare).0.legal
+    (subst (λ o. is_some o ≡ false) c.halted.ensures (sym c.if-is_some.ensures)) c.requires c.set_unflushed.ensures.states (c.len.ensures ∙ c.pop_front.new.self.ok.0) c.pop_front.ensures.capacity c.push.ensures.entries c.push.ensures.spare).0.legal

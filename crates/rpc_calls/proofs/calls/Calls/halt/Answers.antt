@@ -6,9 +6,9 @@ use Rattle.rpc_calls.proofs.calls.Calls.halt.Goals as goal
 
 pub invariant_of-self : goal.invariant_of-self
 invariant_of-self g c =
-    subst (λ t. IsTable g.H.Acts.now g.H.Acts.can_act g.H.Handler.rule c.self.inside.setting c.push.new.self t c.self.inside.handlers.items c.self.inside.items.items (deque_capacity c.self.inside.items)) (sym c.halt.ensures)
-    (table_halted _ _ _ _ _ _ _ _ _ _ _ _ c.self.invariant (subst (λ t. is_some t.halted ≡ false) c.all.ensures c.if-is_none.ensures) c.requires c.push.ensures.entries c.push.ensures.spare)
+    rw c.halt.ensures.handlers (subst (λ t. IsTable g.H.Acts.now g.H.Acts.can_act g.H.Handler.rule c.self.inside.setting c.push.new.self t c.self.inside.calls.handlers c.self.inside.items.items (deque_capacity c.self.inside.items)) (sym c.halt.ensures.states)
+    (table_halted _ _ _ _ _ _ _ _ _ _ _ _ c.self.invariant (subst (λ o. is_some o ≡ false) c.halted.ensures c.if-is_none.ensures) c.requires c.push.ensures.entries c.push.ensures.spare))
 
 pub returns-then-is_none-clause-legal : goal.returns-then-is_none-clause-legal
 returns-then-is_none-clause-legal g c =
-    (table_halted _ _ _ _ _ _ _ _ _ _ _ _ c.self.invariant (subst (λ t. is_some t.halted ≡ false) c.all.ensures c.if-is_none.ensures) c.requires c.push.ensures.entries c.push.ensures.spare).legal
+    (table_halted _ _ _ _ _ _ _ _ _ _ _ _ c.self.invariant (subst (λ o. is_some o ≡ false) c.halted.ensures c.if-is_none.ensures) c.requires c.push.ensures.entries c.push.ensures.spare).legal

@@ -12,5 +12,5 @@ pub returns : goal.returns
 returns g c =
     subst (λ t. c.is_settled.result ≡ is_settled (past t)) c.self.view_is
     (c.is_settled.ensures ∙ ap (λ b. b && c.is_empty-flushed.result) (subst (λ t. c.idle-idle.result ≡ (input_ended (past t) && none_runs (past t) && all_below (call_count (past t)) (λ k. is_empty (waiting_of (past t) k)))) (sym c.self.view_is) c.idle-idle.ensures)
-    ∙ settled_is g.H.Acts.now g.H.Acts.can_act g.H.Handler.rule c.self.inside.setting (reverse c.self.inside.journal.entries) c.self.inside.states c.self.inside.handlers.items c.self.inside.items.items _ _
+    ∙ settled_is g.H.Acts.now g.H.Acts.can_act g.H.Handler.rule c.self.inside.setting (reverse c.self.inside.journal.entries) c.self.inside.calls.states c.self.inside.calls.handlers c.self.inside.items.items _ _
     c.self.invariant.legal.lawful.allowed c.self.invariant.stands c.self.inside.items.ok.0 c.is_empty-flushed.ensures)

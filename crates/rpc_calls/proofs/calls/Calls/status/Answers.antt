@@ -1,11 +1,22 @@
-use Rattle.std.proofs.Common.{◌≡◌, ◌∙◌, slice_get, ap, sym, subst}
-use Rattle.rpc_journal.specs.declared.table.call_states.CallStates.{CallStates}
-use Rattle.rpc_journal.specs.Calls.{end_of}
+use Rattle.std.proofs.Common.{◌≡◌, ◌∙◌, ◌<◌, length, slice_get, Some, IsSome, option_map, refl, ap, subst, sym, arith}
+use Rattle.rpc_journal.specs.Calls.{call_count, end_of}
 use Rattle.rpc_journal.specs.CallTable.{past}
+use Rattle.rpc_journal.proofs.PlaceLemmas.{get_some}
+use Rattle.rpc_calls.specs.declared.call_place.CallFacts.{CallFacts}
+use Rattle.rpc_calls.specs.Facts.{facts_of}
+use Rattle.rpc_calls.proofs.FactSteps.{facts_row}
 use Rattle.rpc_calls.proofs.Statuses.{end_is}
 use Rattle.rpc_calls.proofs.calls.Calls.status.Goals as goal
 
-pub returns-in-Some : goal.returns-in-Some
-returns-in-Some g c =
-    subst (λ t. c.in-Some.state.now.status ≡ end_of (past t) c.args.call) c.self.view_is
-    (sym (end_is _ _ _ (c.self.invariant.stands.agrees.calls.each _ _ (ap (λ (t : CallStates). slice_get t.calls.items c.args.call) (sym c.all.ensures) ∙ sym c.in-Some.ensures))))
+pub unwrap-requires : goal.unwrap-requires
+unwrap-requires g c =
+    let below = subst (λ t. c.args.call < call_count (past t)) (sym c.self.view_is) c.requires.below in
+    let row = get_some c.self.inside.calls.states.calls.items c.args.call (omega (arith, below, c.self.invariant.stands.agrees.calls.many)) in
+    subst IsSome (sym (c.facts.ensures ∙ ap (option_map facts_of) row.1)) refl
+
+pub returns : goal.returns
+returns g c =
+    let calls = c.self.invariant.stands.agrees.calls in
+    let row = facts_row _ c.unwrap.result (sym c.unwrap.ensures ∙ c.facts.ensures) in
+    subst (λ t. c.unwrap.result.status ≡ end_of (past t) c.args.call) c.self.view_is
+    (ap (λ (f : CallFacts). f.status) row.are ∙ sym (end_is _ _ _ (calls.each _ _ row.there)))

@@ -1,25 +1,17 @@
-use Rattle.std.proofs.Common.{◌<◌, length, sym, subst, arith}
+use Rattle.std.proofs.Common.{◌∙◌, refl}
 use Rattle.rpc_journal.specs.table.Touch.{completing}
-use Rattle.rpc_calls.specs.Places.{ChangesAt}
-use Rattle.rpc_journal.specs.table.Turns.{Turns}
-use Rattle.rpc_calls.proofs.IndexSteps.{can_reindex, index_changed}
+use Rattle.rpc_calls.proofs.EndSteps.{turns_anywhere}
+use Rattle.rpc_calls.proofs.InUseSteps.{live_used}
 use Rattle.rpc_calls.proofs.indexed_states.IndexedStates.complete.Goals as goal
 
-pub at-is-requires : goal.at-is-requires
-at-is-requires c =
-    let within = subst (λ t. c.args.call < length t.calls.items) (sym c.self.view_is) c.requires in
-    omega (arith, within, (c.complete_at.ensures.change 0).many)
+pub change-requires-clause-used : goal.change-requires-clause-used
+change-requires-clause-used g c = λ r is. live_used r (c.requires.live r is)
 
-pub change-requires : goal.change-requires
-change-requires c =
-    can_reindex c.self.inside.states.calls.items c.self.inside.index c.args.call c.at-was.result c.self.invariant
-    (subst (λ t. c.args.call < length t.calls.items) (sym c.self.view_is) c.requires) c.at-was.ensures
+pub change-requires-clause-can : goal.change-requires-clause-can
+change-requires-clause-can g c = λ r is. tt
 
-pub invariant_of-self : goal.invariant_of-self
-invariant_of-self c =
-    index_changed (Turns 0 completing) c.self.inside.states.calls.items c.complete_at.new.calls.items c.self.inside.index c.change.new.self c.args.call c.at-was.result c.at-is.result c.self.invariant
-    (subst (λ t. c.args.call < length t.calls.items) (sym c.self.view_is) c.requires) (c.complete_at.ensures.change 0) c.at-was.ensures c.at-is.ensures c.change.ensures
+pub change-requires-clause-stays : goal.change-requires-clause-stays
+change-requires-clause-stays g c = λ r x is turns. live_used x (turns.is.status ∙ c.requires.live r is)
 
 pub returns-clause-change : goal.returns-clause-change
-returns-clause-change c = λ at.
-    subst (λ t. ChangesAt c.args.call (Turns at completing) t.calls.items c.complete_at.new.calls.items) c.self.view_is (c.complete_at.ensures.change at)
+returns-clause-change g c = λ at. turns_anywhere c.args.call at (λ r. completing) _ _ (λ r. refl) c.change.ensures.changes.change

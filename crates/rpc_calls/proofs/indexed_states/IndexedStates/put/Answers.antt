@@ -1,15 +1,13 @@
-use Rattle.std.proofs.Common.{◌<◌, length, sym, subst}
+use Rattle.std.proofs.Common.{refl}
 use Rattle.rpc_journal.specs.table.Touch.{putting}
-use Rattle.rpc_journal.specs.table.Turns.{Turns}
-use Rattle.rpc_calls.proofs.IndexSteps.{can_reindex, index_changed}
+use Rattle.rpc_calls.proofs.InUseSteps.{live_used, put_used}
 use Rattle.rpc_calls.proofs.indexed_states.IndexedStates.put.Goals as goal
 
-pub change-requires : goal.change-requires
-change-requires c =
-    can_reindex c.self.inside.states.calls.items c.self.inside.index c.args.call c.at-was.result c.self.invariant
-    (subst (λ t. c.args.call < length t.calls.items) (sym c.self.view_is) c.requires.there) c.at-was.ensures
+pub change-requires-clause-used : goal.change-requires-clause-used
+change-requires-clause-used g c = λ r is. live_used r (c.requires.live r is)
 
-pub invariant_of-self : goal.invariant_of-self
-invariant_of-self c =
-    index_changed (Turns c.args.at (putting c.args.event)) c.self.inside.states.calls.items c.put_at.new.calls.items c.self.inside.index c.change.new.self c.args.call c.at-was.result c.at-is.result c.self.invariant
-    (subst (λ t. c.args.call < length t.calls.items) (sym c.self.view_is) c.requires.there) c.put_at.ensures c.at-was.ensures c.at-is.ensures c.change.ensures
+pub change-requires-clause-can : goal.change-requires-clause-can
+change-requires-clause-can g c = λ r is. c.requires.place r is
+
+pub change-requires-clause-stays : goal.change-requires-clause-stays
+change-requires-clause-stays g c = λ r x is turns. put_used c.args.at (putting c.args.event) _ _ r x refl refl turns

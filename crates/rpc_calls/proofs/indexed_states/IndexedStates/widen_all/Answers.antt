@@ -1,32 +1,47 @@
-use Rattle.std.proofs.Common.{◌≡◌, ◌∙◌, ◌<◌, length, slice_get, Some, sym, below_more, arith}
+use Rattle.std.proofs.Common.{◌≡◌, ◌∙◌, length, refl, sym, subst, arith}
 use Rattle.std.proofs.lemmas.Option.{slice_get_within}
-use Rattle.rpc_journal.specs.declared.table.call_state.CallState.{CallState}
-use Rattle.rpc_calls.specs.Widened.{HasTwoPlaces}
-use Rattle.rpc_calls.proofs.WiderSteps.{wider_more}
+use Rattle.rpc_calls.specs.Widened.{IsWider}
+use Rattle.std.proofs.Math.Facts.{Fits-of_lt}
+use Rattle.rpc_calls.proofs.TellSteps.{opens_two, room_more}
+use Rattle.rpc_calls.proofs.WiderSteps.{all_wider_refl, wider_more}
 use Rattle.rpc_calls.proofs.indexed_states.IndexedStates.widen_all.Goals as goal
 
-pub returns-in_err-widen-clause-same : goal.returns-in_err-widen-clause-same
-returns-in_err-widen-clause-same c = wider_more _ _ _ _ c.loop-call.invariant.same c.widen.ensures.same.change
+pub loop-step-init : goal.loop-step-init
+loop-step-init g c = record {
+  count = subst (λ t. c.len-count.result ≡ length t.states.calls.items) c.self.view_is c.len-count.ensures.many;
+  ahead = omega arith;
+  same = all_wider_refl c.args.self.now.states.calls.items;
+  outside = record { newest = refl; unflushed = refl; input = refl; halt = refl; closed = refl };
+  handlers = refl;
+  room = λ k r below is live. absurd (omega (arith, below));
+}
 
-pub loop-call-preserved : goal.loop-call-preserved
-loop-call-preserved c = record {
-  count = c.loop-call.invariant.count;
-  same = wider_more _ _ _ _ c.loop-call.invariant.same c.widen.ensures.same.change;
+pub returns-in_default-clause-room : goal.returns-in_default-clause-room
+returns-in_default-clause-room g c = opens_two c.loop-step.from c.loop-step.self.states.calls.items c.loop-step.invariant.room c.in_default.ensures.none
+
+pub returns-in_err-widen-clause-same : goal.returns-in_err-widen-clause-same
+returns-in_err-widen-clause-same g c = wider_more _ _ _ _ c.loop-step.invariant.same c.widen.ensures.same.change
+
+pub overflow_add-from : goal.overflow_add-from
+overflow_add-from g c = Fits-of_lt c.in-Some.ensures.small
+
+pub loop-step-preserved : goal.loop-step-preserved
+loop-step-preserved g c = record {
+  count = c.loop-step.invariant.count;
+  ahead = omega (arith, c.loop-step.invariant.ahead, c.in-Some.ensures.from);
+  same = wider_more _ _ _ _ c.loop-step.invariant.same c.widen.ensures.same.change;
   outside = record {
-    newest = c.widen.ensures.same.newest ∙ c.loop-call.invariant.outside.newest;
-    closed = c.widen.ensures.same.closed ∙ c.loop-call.invariant.outside.closed;
-    unflushed = c.widen.ensures.same.unflushed ∙ c.loop-call.invariant.outside.unflushed;
-    input = c.widen.ensures.same.input ∙ c.loop-call.invariant.outside.input;
-    halt = c.widen.ensures.same.halt ∙ c.loop-call.invariant.outside.halt;
+    newest = c.widen.ensures.same.newest ∙ c.loop-step.invariant.outside.newest;
+    closed = c.widen.ensures.same.closed ∙ c.loop-step.invariant.outside.closed;
+    unflushed = c.widen.ensures.same.unflushed ∙ c.loop-step.invariant.outside.unflushed;
+    input = c.widen.ensures.same.input ∙ c.loop-step.invariant.outside.input;
+    halt = c.widen.ensures.same.halt ∙ c.loop-step.invariant.outside.halt;
   };
-  room = below_more (λ k. (r : CallState) → slice_get c.widen.new.self.calls.items k ≡ Some r → HasTwoPlaces r) c.loop-call.call
-      (λ k below r is. c.loop-call.invariant.room k below r (sym (c.widen.ensures.same.change.others k (λ same. omega (arith, below, same))) ∙ is))
-      c.in_ok-widen.ensures.room;
+  handlers = c.widen.ensures.handlers ∙ c.loop-step.invariant.handlers;
+  room = room_more c.loop-step.from c.in-Some.call c.loop-step.self.states.calls.items c.widen.new.self.states.calls.items c.loop-step.invariant.room c.in-Some.ensures.first c.widen.ensures.same.change c.in_ok-widen.ensures.room;
 }
 
 pub returns-clause-room : goal.returns-clause-room
-returns-clause-room c = record {
-  free = λ k r is.
-      let within : k < length c.loop-call.self.calls.items = slice_get_within _ _ _ is in
-      c.loop-call.invariant.room k (omega (arith, within, c.loop-call.invariant.count, c.loop-call.invariant.same.many)) r is;
-}
+returns-clause-room g c =
+    opens_two c.loop-step.from c.loop-step.self.states.calls.items c.loop-step.invariant.room
+    (λ k r from is. absurd (omega (arith, from, c.loop-step.invariant.count, c.loop-step.invariant.ahead, c.loop-step.invariant.same.many, slice_get_within c.loop-step.self.states.calls.items k r is)))

@@ -6,6 +6,6 @@ use Rattle.rpc_calls.specs.First.{starts_since}
 use Rattle.rpc_calls.proofs.indexed_states.choosing.first_to_start.Goals as goal
 
 pub returns : goal.returns
-returns c =
-    IsFirst-from_position _ _ _ (λ (w : WaitingCall). starts_since c.args.states.now w ≡ true) (λ (w : WaitingCall). starts_since c.args.states.now w ≡ false) c.position.ensures.ran
+returns g c =
+    IsFirst-from_position _ _ _ (λ (w : WaitingCall). starts_since c.args.calls.now.states w ≡ true) (λ (w : WaitingCall). starts_since c.args.calls.now.states w ≡ false) c.position.ensures.ran
     (YieldsList-from_deque (deque_items c.args.listed.now) cc) (λ x q k. search (rules, tests, of_calls)) (λ x q k. search (rules, tests, of_calls))
