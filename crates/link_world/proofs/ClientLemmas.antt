@@ -49,14 +49,6 @@ module _ (k : Setup) where
     stored = moves.kept k.client_store shows.stored;
   }
 
-  -- the world then, and its link
-  pub client_goes : (v : World) (c new : ClientState) (x y : Wiring) (bytes more : List ℕ) → ClientShows k c v.client bytes → x ≡ wiring_of k v
-      → ClientMoves c x new y → ClientShows k new new.end.serving.table.entries more
-      → with_client k v new.end.serving.table.entries ≡ with_wiring y (record v { client = new.end.serving.table.entries })
-  client_goes v c new x y bytes more shows wires moves now =
-      let after : List Entry = new.end.serving.table.entries in
-      sent_since k Client (record v { client = after }) c.items new.items x y wires moves.out k.client v.client after (client_items c v.client bytes shows) (client_items new after more now)
-
   -- what holds at a moment of what is under way holds in the world
   pub in_world : (P : Setting → ℕ → List Entry → Option Tasked → Type 0) (commands : List Command) (w : World) (c : ClientState) (d : Course) (bytes : List ℕ)
       → ClientShows k c w.client bytes → CourseShows commands d w
@@ -82,7 +74,8 @@ module _ (k : Setup) where
       let v : World = with_task hears.next (with_frame_at_client w frame rest) in
       let after : List Entry = new.end.serving.table.entries in
       let now : ClientShows k new after (w.fed_client ++ frame) = client_moved c new x y w.client w.fed_client (w.fed_client ++ frame) shows moves rests.items fed in
-      let goes = client_goes v c new x y w.fed_client (w.fed_client ++ frame) shows wires moves now in
+      let goes = sent_since k Client (record v { client = after }) c.items new.items x y wires moves.out k.client v.client after (client_items c v.client w.fed_client shows)
+      (client_items new after (w.fed_client ++ frame) now) in
       record {
         mid = with_wiring y (record v { client = after });
         turn = record {
@@ -117,7 +110,8 @@ module _ (k : Setup) where
   cancelled commands w call c new x y d shows wires course rests settles fed moves =
       let after : List Entry = new.end.serving.table.entries in
       let now : ClientShows k new after w.fed_client = client_moved c new x y w.client w.fed_client w.fed_client shows moves rests.items fed in
-      let goes = client_goes w c new x y w.fed_client w.fed_client shows wires moves now in
+      let goes = sent_since k Client (record w { client = after }) c.items new.items x y wires moves.out k.client w.client after (client_items c w.client w.fed_client shows)
+      (client_items new after w.fed_client now) in
       record {
         mid = with_wiring y (record w { client = after });
         turn = record {
@@ -168,7 +162,8 @@ module _ (k : Setup) where
       let v : World = with_task asks.next (with_command w rest (starts k w command)) in
       let after : List Entry = new.end.serving.table.entries in
       let now : ClientShows k new after w.fed_client = client_moved c new x y w.client w.fed_client w.fed_client shows moves rests.items fed in
-      let goes = client_goes v c new x y w.fed_client w.fed_client shows wires moves now in
+      let goes = sent_since k Client (record v { client = after }) c.items new.items x y wires moves.out k.client v.client after (client_items c v.client w.fed_client shows)
+      (client_items new after w.fed_client now) in
       let mid : World = with_wiring y (record v { client = after }) in
       record {
         mid = mid;

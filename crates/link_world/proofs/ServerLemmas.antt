@@ -45,14 +45,6 @@ module _ (k : Setup) where
     stored = moves.kept k.server_store shows.stored;
   }
 
-  -- the world then, and its link
-  pub server_goes : (v : World) (s new : ServerState) (x y : Wiring) (bytes more : List ℕ) → ServerShows k s v.server bytes → x ≡ wiring_of k v
-      → ServerMoves s x new y → ServerShows k new new.end.serving.table.entries more
-      → with_server k v new.end.serving.table.entries ≡ with_wiring y (record v { server = new.end.serving.table.entries })
-  server_goes v s new x y bytes more shows wires moves now =
-      let after : List Entry = new.end.serving.table.entries in
-      sent_since k Server (record v { server = after }) s.items new.items x y wires moves.out k.server v.server after (items_by s v.server bytes shows) (items_by new after more now)
-
   -- what settles by the service's rule settles by that of the world
   pub ruled : (P : HandlerRule → Setting → List Entry → Type 0) (s : ServerState) (h : List Entry) (bytes : List ℕ) → ServerShows k s h bytes
       → P demo_rule s.end.serving.table.setting s.end.serving.table.entries → P k.rule k.server h
@@ -71,7 +63,8 @@ module _ (k : Setup) where
       let v : World = with_frame_at_server w frame rest in
       let after : List Entry = new.end.serving.table.entries in
       let now : ServerShows k new after (w.fed_server ++ frame) = moved_on s new x y w.server w.fed_server (w.fed_server ++ frame) shows moves rests.items fed in
-      let goes = server_goes v s new x y w.fed_server (w.fed_server ++ frame) shows wires moves now in
+      let goes = sent_since k Server (record v { server = after }) s.items new.items x y wires moves.out k.server v.server after (items_by s v.server w.fed_server shows)
+      (items_by new after (w.fed_server ++ frame) now) in
       record {
         mid = with_wiring y (record v { server = after });
         turn = record {
@@ -117,7 +110,8 @@ module _ (k : Setup) where
       let v : World = with_command w rest (starts k w (Close channel)) in
       let after : List Entry = new.end.serving.table.entries in
       let now : ServerShows k new after w.fed_server = moved_on s new x y w.server w.fed_server w.fed_server shows moves rests.items fed in
-      let goes = server_goes v s new x y w.fed_server w.fed_server shows wires moves now in
+      let goes = sent_since k Server (record v { server = after }) s.items new.items x y wires moves.out k.server v.server after (items_by s v.server w.fed_server shows)
+      (items_by new after w.fed_server now) in
       record {
         mid = with_wiring y (record v { server = after });
         turn = record {
