@@ -142,7 +142,7 @@ pub record Asks (k : Setup) (w : World) (command : Command) (rest : List Command
 -- the server's entry where it closes a channel; one that isn't in is refused
 abbrev pub closed_by : ℕ → Option ℕ → List Entry → List Entry
 closed_by channel None h = h
-closed_by channel (Some count) h = adding h run_seat (entry.Close channel)
+closed_by channel (Some ended) h = adding h run_seat (entry.Close channel)
 
 -- The server closes a channel, and settles.
 pub record Closes (k : Setup) (w : World) (channel : ℕ) (rest : List Command) (now : World) : Type 0 where
