@@ -212,13 +212,7 @@ fn flush_all(desk: &mut Desk, wires: &mut Wires) -> Result<(), AllocError>
     ensures fed { (bytes : List ℕ) → WasFed client_role desk.old.client bytes → WasFed client_role desk.new.client bytes }
 {
     'items: while let Some(item) = desk.client.next_out() {
-        take_out(
-            Role::Client,
-            item,
-            &mut desk.store,
-            &mut desk.items,
-            wires,
-        )?;
+        take_out(Role::Client, item, &mut desk.store, &mut desk.items, wires)?;
     }
     Ok(())
 }
