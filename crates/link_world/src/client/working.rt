@@ -206,6 +206,7 @@ fn flush_all(desk: &mut Desk, wires: &mut Wires) -> Result<(), AllocError>
     requires orderly { IsOrderly desk.old.client.serving }
     requires items { desk.old.items.items ≡ items_flushed (deeds desk.old.client.serving) }
     ensures flushes { OnOk result (ClientFlushes desk.old.client.serving desk.new.client.serving) }
+    ensures same { desk.new.events.items ≡ desk.old.events.items }
     ensures items { OnOk result (desk.new.items.items ≡ items_flushed (deeds desk.new.client.serving)) }
     ensures out { OnOk result (GoesOut client_role desk.old.items.items wires.old desk.new.items.items wires.new) }
     ensures holds { OnOk result ((st : Option Stored) → Holds desk.old.items.items st (Some desk.old.store) → Holds desk.new.items.items st (Some desk.new.store)) }

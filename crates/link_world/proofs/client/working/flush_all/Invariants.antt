@@ -13,6 +13,7 @@ abbrev pub invariant-items : goal.invariant-items
 invariant-items l = record {
   so : FlushesSo l.fn.desk.client.serving l.desk.client.serving;
   items : l.desk.items.items ≡ items_flushed (deeds l.desk.client.serving);
+  same : l.desk.events.items ≡ l.fn.desk.events.items;
   out : GoesOut client_role l.fn.desk.items.items l.fn.wires l.desk.items.items l.wires;
   holds : (st : Option Stored) → Holds l.fn.desk.items.items st (Some l.fn.desk.store) → Holds l.desk.items.items st (Some l.desk.store);
   fed : (bytes : List ℕ) → WasFed client_role l.fn.desk.client bytes → WasFed client_role l.desk.client bytes;

@@ -1,5 +1,7 @@
 use Rattle.std.proofs.Common.{◌<◌, subst}
-use Rattle.std.proofs.Common.{◌∙◌, ◌-◌, sym, ap, drop, length, take}
+use Rattle.std.proofs.Common.{ℕ, List, ◌∙◌, ◌-◌, sym, ap, drop, length, take}
+use Rattle.rpc_handlers.specs.declared.event.Event.{Event}
+use Rattle.link_world.specs.client.Working.{IsKept}
 use Rattle.link_world.proofs.client.SettleLemmas.{kept_then, rest_is, settled}
 use Rattle.link_laws.specs.world.Setup.{quiet_rule}
 use Rattle.link_world.proofs.client.IdleLemmas.{idle_then}
@@ -21,5 +23,7 @@ returns-clause-settled c =
 pub returns-clause-kept : goal.returns-clause-kept
 returns-clause-kept c =
     let before = c.args.desk.now.events.items in
-    kept_then c.args.now c.args.desk.now.client.serving c.run_all.new.client.serving before c.run_all.new.events.items c.in-Ok.ensures.ran c.args.desk.now.items.items c.flush_all.new.desk.items.items c.requires.kept
-    (take (length c.as_slice.result.now - c.len-from.result) (drop c.len-from.result c.as_slice.result.now)) c.speak.new.client.serving c.flush_all.new.desk.client.serving _ c.in-Ok-speak.ensures.says c.in_ok-flush_all.ensures.flushes c.in_ok-flush_all.ensures.items
+    subst (λ (events : List (ℕ × Event)). IsKept c.flush_all.new.desk.client.serving c.flush_all.new.desk.items.items events)
+    (sym c.flush_all.ensures.same)
+    (kept_then c.args.now c.args.desk.now.client.serving c.run_all.new.client.serving before c.run_all.new.events.items c.in-Ok.ensures.ran c.args.desk.now.items.items c.flush_all.new.desk.items.items c.requires.kept
+    (take (length c.as_slice.result.now - c.len-from.result) (drop c.len-from.result c.as_slice.result.now)) c.speak.new.client.serving c.flush_all.new.desk.client.serving _ c.in-Ok-speak.ensures.says c.in_ok-flush_all.ensures.flushes c.in_ok-flush_all.ensures.items)
