@@ -18,7 +18,7 @@ use Rattle.link_laws.specs.world.Lines.{finished}
 use Rattle.link_laws.specs.world.Setup.{client_setting}
 use Rattle.link_laws.specs.world.Starts.{starts, Asks, StartTurn, with_command}
 use Rattle.link_laws.specs.world.Turns.{cancelling, starting, to_client, with_frame_at_client}
-use Rattle.link_laws.specs.world.World.{task_of, task_under, under_with, with_task, wiring_of, with_wiring, Setup, Tasked, World, moment, with_client}
+use Rattle.link_laws.specs.world.World.{task_of, task_under, under_with, with_task, wiring_of, with_wiring, Setup, Tasked, World, moment}
 use Rattle.link_world.specs.declared.client.under.Under.{Under}
 use Rattle.link_world.specs.client.Asking.{ClientAsks, IsAsked, IsClientOf}
 use Rattle.link_world.specs.client.ClientSide.{ClientHeard, ClientMoves, ClientRests, ClientState}

@@ -7,7 +7,7 @@ use Rattle.rpc_ids.specs.declared.method.Role.TheVariants.{Server}
 use Rattle.rpc_journal.specs.declared.entry.Entry.{Entry}
 use Rattle.rpc_journal.specs.declared.setting.Setting.{Setting}
 use Rattle.rpc_journal.specs.History.{history}
-use Rattle.rpc_journal.specs.Items.{items_flushed, packets_of}
+use Rattle.rpc_journal.specs.Items.{items_flushed}
 use Rattle.rpc_handlers.specs.HandlerRule.{HandlerRule}
 use Rattle.rpc_schedule.specs.Serving.{deeds}
 use Rattle.rpc_schedule.specs.ends.EndState.{WasFed}
@@ -15,7 +15,7 @@ use Rattle.link_laws.specs.world.Lines.{finished}
 use Rattle.link_laws.specs.world.Starts.{ended_by_close, starts, closed_by, with_command}
 use Rattle.link_laws.specs.world.Turns.{starting, to_server, with_frame_at_server}
 use Rattle.link_laws.specs.world.Hearing.{ServerTakes}
-use Rattle.link_laws.specs.world.World.{Setup, World, closing, server_deeds, with_server, wiring_of, with_wiring}
+use Rattle.link_laws.specs.world.World.{Setup, World, closing, server_deeds, wiring_of, with_wiring}
 use Rattle.link_world.specs.declared.client.under.Under.TheVariants.{Closing}
 use Rattle.link_world.specs.server.ServerSide.{ServerHeard, ServerMoves, ServerRests, ServerState}
 use Rattle.rpc_schedule.specs.Schedule.{Settles}
