@@ -2,6 +2,7 @@ pub mod Growing
 pub mod Links
 pub mod Keeping
 pub mod Parts
+pub mod Along
 pub mod Ways
 pub mod Unknown
 pub mod Speaking

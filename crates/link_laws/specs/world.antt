@@ -1,9 +1,12 @@
+pub mod Wiring
 pub mod World
 pub mod Setup
 pub mod Committed
 pub mod Client
-pub mod Starts
 pub mod Lines
+pub mod Stops
+pub mod Hearing
+pub mod Starts
 pub mod Turns
 pub mod Limits
 pub mod Reports

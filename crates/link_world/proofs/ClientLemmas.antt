@@ -7,7 +7,7 @@ use Rattle.rpc_journal.specs.declared.entry.Entry.{Entry}
 use Rattle.rpc_journal.specs.declared.entry.EntryKind.TheVariants.{Cancel}
 use Rattle.rpc_journal.specs.declared.setting.Setting.{Setting}
 use Rattle.rpc_journal.specs.History.{adding, history}
-use Rattle.rpc_journal.specs.Items.{items_flushed, packets_of}
+use Rattle.rpc_journal.specs.Items.{items_flushed}
 use Rattle.rpc_schedule.specs.Kept.{kept}
 use Rattle.rpc_schedule.specs.Schedule.{run_seat}
 use Rattle.rpc_schedule.specs.Serving.{deeds}
@@ -16,19 +16,19 @@ use Rattle.link_laws.specs.declared.world.limits.TheConstants.{TURN_OF_TIME}
 use Rattle.link_laws.specs.world.Client.{ClientSettles, ClientTakes}
 use Rattle.link_laws.specs.world.Lines.{finished}
 use Rattle.link_laws.specs.world.Setup.{client_setting}
-use Rattle.link_laws.specs.world.Starts.{starts}
-use Rattle.link_laws.specs.world.Turns.{Asks, StartTurn, cancelling, starting, task_of, task_under, to_client, under_with, with_command, with_frame_at_client, with_task}
-use Rattle.link_laws.specs.world.World.{Setup, Tasked, World, moment, with_client}
+use Rattle.link_laws.specs.world.Starts.{starts, Asks, StartTurn, with_command}
+use Rattle.link_laws.specs.world.Turns.{cancelling, starting, to_client, with_frame_at_client}
+use Rattle.link_laws.specs.world.World.{task_of, task_under, under_with, with_task, wiring_of, with_wiring, Setup, Tasked, World, moment}
 use Rattle.link_world.specs.declared.client.under.Under.{Under}
 use Rattle.link_world.specs.client.Asking.{ClientAsks, IsAsked, IsClientOf}
-use Rattle.link_world.specs.client.ClientSide.{ClientHears, ClientMoves, ClientRests, ClientState}
+use Rattle.link_world.specs.client.ClientSide.{ClientHeard, ClientMoves, ClientRests, ClientState}
 use Rattle.link_world.specs.client.Underway.{task_seen, under_seen}
-use Rattle.link_world.specs.server.Wiring.{Wiring}
+use Rattle.link_laws.specs.world.Wiring.{Wiring}
 use Rattle.transfer_base.specs.declared.tuning.Tuning.{Tuning}
 use Rattle.link_world.specs.declared.course.Course.{Course}
 use Rattle.link_world.specs.Making.{ClientTurns, with_coming, with_rest_down}
-use Rattle.link_world.specs.Showing.{ClientShows, CourseShows, IsTuned, wiring_of}
-use Rattle.link_world.proofs.WireLemmas.{client_sent, losses_stay, with_wiring}
+use Rattle.link_world.specs.Showing.{ClientShows, CourseShows, IsTuned}
+use Rattle.link_world.proofs.WireLemmas.{sent_since, wires_since}
 
 module _ (k : Setup) where
   -- the items that have gone out, by the world's history
@@ -49,21 +49,6 @@ module _ (k : Setup) where
     stored = moves.kept k.client_store shows.stored;
   }
 
-  -- the world then
-  pub client_goes : (v : World) (c new : ClientState) (x y : Wiring) (bytes more : List ℕ) → ClientShows k c v.client bytes → x ≡ wiring_of k v
-      → ClientMoves c x new y → ClientShows k new new.end.serving.table.entries more
-      → with_client k v new.end.serving.table.entries ≡ with_wiring y (record v { client = new.end.serving.table.entries })
-  client_goes v c new x y bytes more shows wires moves now =
-      client_sent k v new.end.serving.table.entries c.items new.items x y wires (client_items c v.client bytes shows)
-      (client_items new new.end.serving.table.entries more now) moves.out
-
-  pub client_losses : (v : World) (c new : ClientState) (x y : Wiring) → x ≡ wiring_of k v → ClientMoves c x new y → y.losses ≡ k.losses
-  client_losses v c new x y wires moves =
-      ap (λ z. z.losses) moves.out.wires ∙ (losses_stay Client (packets_of moves.out.more) x ∙ ap (λ z. z.losses) wires)
-
-  pub client_wires : (v : World) (y : Wiring) (h : List Entry) → y.losses ≡ k.losses → y ≡ wiring_of k (with_wiring y (record v { client = h }))
-  client_wires v y h losses = ap (λ l. record y { losses = l }) losses
-
   -- what holds at a moment of what is under way holds in the world
   pub in_world : (P : Setting → ℕ → List Entry → Option Tasked → Type 0) (commands : List Command) (w : World) (c : ClientState) (d : Course) (bytes : List ℕ)
       → ClientShows k c w.client bytes → CourseShows commands d w
@@ -82,14 +67,15 @@ module _ (k : Setup) where
   -- A FRAME HAS COME TO THE CLIENT
   pub delivered_down : (commands : List Command) (w : World) (frame : List ℕ) (rest : List (List ℕ)) (c new : ClientState) (x y : Wiring) (d : Course) (under : Option Under)
       → ClientShows k c w.client w.fed_client → x ≡ wiring_of k (with_rest_down rest w) → CourseShows commands d w → ClientRests new
-      → ClientHears (TURN_OF_TIME * d.times) c.end.serving d.under new.end.serving under w.fed_client frame → WasFed Client new.end (w.fed_client ++ frame)
+      → ClientHeard (TURN_OF_TIME * d.times) c.end.serving d.under new.end.serving under w.fed_client frame → WasFed Client new.end (w.fed_client ++ frame)
       → ClientMoves c x new y
       → ClientTurns k commands w (to_client frame rest) new y (record d { under = under; delivered = d.delivered + 1 })
   delivered_down commands w frame rest c new x y d under shows wires course rests hears fed moves =
       let v : World = with_task hears.next (with_frame_at_client w frame rest) in
       let after : List Entry = new.end.serving.table.entries in
       let now : ClientShows k new after (w.fed_client ++ frame) = client_moved c new x y w.client w.fed_client (w.fed_client ++ frame) shows moves rests.items fed in
-      let goes = client_goes v c new x y w.fed_client (w.fed_client ++ frame) shows wires moves now in
+      let goes = sent_since k Client (record v { client = after }) c.items new.items x y wires moves.out k.client v.client after (client_items c v.client w.fed_client shows)
+      (client_items new after (w.fed_client ++ frame) now) in
       record {
         mid = with_wiring y (record v { client = after });
         turn = record {
@@ -98,13 +84,13 @@ module _ (k : Setup) where
           hears = record {
             packets = hears.hears.packets;
             heard = hears.hears.heard;
-            takes = in_world (λ set at h task. ClientTakes set at hears.hears.packets h task after hears.next) commands w c d w.fed_client shows course hears.hears.takes;
+            holds = in_world (λ set at h task. ClientTakes set at hears.hears.packets h task after hears.next) commands w c d w.fed_client shows course hears.hears.holds;
           };
           is = ap (finished k) (sym goes);
         };
         server = record { entries = refl; fed = refl };
         client = now;
-        wires = client_wires v y after (client_losses v c new x y wires moves);
+        wires = wires_since k Client (record v { client = after }) c.items new.items x y wires moves.out;
         course = record {
           coming = course.coming;
           under = under_then commands w d under hears.next course hears.under;
@@ -124,7 +110,8 @@ module _ (k : Setup) where
   cancelled commands w call c new x y d shows wires course rests settles fed moves =
       let after : List Entry = new.end.serving.table.entries in
       let now : ClientShows k new after w.fed_client = client_moved c new x y w.client w.fed_client w.fed_client shows moves rests.items fed in
-      let goes = client_goes w c new x y w.fed_client w.fed_client shows wires moves now in
+      let goes = sent_since k Client (record w { client = after }) c.items new.items x y wires moves.out k.client w.client after (client_items c w.client w.fed_client shows)
+      (client_items new after w.fed_client now) in
       record {
         mid = with_wiring y (record w { client = after });
         turn = record {
@@ -134,7 +121,7 @@ module _ (k : Setup) where
         };
         server = record { entries = refl; fed = refl };
         client = now;
-        wires = client_wires w y after (client_losses w c new x y wires moves);
+        wires = wires_since k Client (record w { client = after }) c.items new.items x y wires moves.out;
         course = record {
           coming = course.coming;
           under = course.under;
@@ -175,7 +162,8 @@ module _ (k : Setup) where
       let v : World = with_task asks.next (with_command w rest (starts k w command)) in
       let after : List Entry = new.end.serving.table.entries in
       let now : ClientShows k new after w.fed_client = client_moved c new x y w.client w.fed_client w.fed_client shows moves rests.items fed in
-      let goes = client_goes v c new x y w.fed_client w.fed_client shows wires moves now in
+      let goes = sent_since k Client (record v { client = after }) c.items new.items x y wires moves.out k.client v.client after (client_items c v.client w.fed_client shows)
+      (client_items new after w.fed_client now) in
       let mid : World = with_wiring y (record v { client = after }) in
       record {
         mid = mid;
@@ -183,7 +171,7 @@ module _ (k : Setup) where
             (record { after = after; task = asks.next; settles = asks.settles; is = ap (finished k) (sym goes) });
         server = record { entries = refl; fed = refl };
         client = now;
-        wires = client_wires v y after (client_losses v c new x y wires moves);
+        wires = wires_since k Client (record v { client = after }) c.items new.items x y wires moves.out;
         course = record {
           coming = course.coming;
           under = asks.under;

@@ -6,12 +6,12 @@ use Rattle.link_script.specs.declared.report.ReportLine.{ReportLine}
 use Rattle.link_script.specs.lossy.Link.{released}
 use Rattle.rpc_journal.specs.Kinds.{is_empty}
 use Rattle.link_laws.specs.world.Lines.{command_ended, finished, is_still, line_of, with_line, with_released}
-use Rattle.link_laws.specs.world.World.{Setup, Under as UnderWay, World}
+use Rattle.link_laws.specs.world.World.{Setup, Under as UnderWay, World, wiring_of}
 use Rattle.link_world.specs.client.ClientSide.{ClientState}
 use Rattle.link_world.specs.server.ServerSide.{ServerState}
-use Rattle.link_world.specs.server.Wiring.{Wiring}
+use Rattle.link_laws.specs.world.Wiring.{Wiring}
 use Rattle.link_world.specs.declared.course.Course.{Course}
-use Rattle.link_world.specs.Showing.{Shows, wiring_of}
+use Rattle.link_world.specs.Showing.{Shows}
 
 -- a test that says that a list is empty
 pub empty_is : {A : Type 0} (b : Bool) (xs : List A) → (b ≡ true) ↔ (xs ≡ []) → b ≡ is_empty xs

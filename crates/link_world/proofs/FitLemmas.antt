@@ -16,7 +16,7 @@ use Rattle.link_laws.proofs.transfers_fit.Stores.{WorkFits, look_up}
 use Rattle.link_laws.proofs.transfers_fit.Walking.{Stands, turns_stand}
 use Rattle.link_world.specs.client.ClientSide.{ClientState}
 use Rattle.link_world.specs.server.ServerSide.{ServerState}
-use Rattle.link_world.specs.server.Wiring.{Wiring}
+use Rattle.link_laws.specs.world.Wiring.{Wiring}
 use Rattle.link_world.specs.declared.course.Course.{Course}
 use Rattle.link_world.specs.Running.{ComesTo}
 use Rattle.link_world.proofs.ClientLemmas.{client_items}

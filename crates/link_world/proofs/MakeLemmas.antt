@@ -15,7 +15,7 @@ use Rattle.link_world.specs.declared.client.under.Under.{Under}
 use Rattle.link_world.specs.client.ClientSide.{Attends, ClientRests, ClientState}
 use Rattle.link_world.specs.client.Underway.{call_seen}
 use Rattle.link_world.specs.server.ServerSide.{ServerRests, ServerState}
-use Rattle.link_world.specs.server.Wiring.{Wiring}
+use Rattle.link_laws.specs.world.Wiring.{Wiring}
 use Rattle.link_world.specs.declared.course.Course.{Course}
 use Rattle.link_world.specs.declared.turn.NextTurn.{NextTurn}
 use Rattle.link_world.specs.declared.turn.NextTurn.TheVariants.{ToServer, ToClient, Start, Cancel, Time}

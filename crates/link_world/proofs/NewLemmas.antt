@@ -11,16 +11,16 @@ use Rattle.transfer_base.specs.declared.tuning.Tuning.{Tuning}
 use Rattle.link_laws.specs.world.Limits.{EndStops, IsPastJournal}
 use Rattle.link_laws.specs.world.Setup.{client_setting, setup_of}
 use Rattle.link_laws.specs.world.Turns.{ending}
-use Rattle.link_laws.specs.world.World.{Setup, first_world}
+use Rattle.link_laws.specs.world.World.{Setup, first_world, wiring_of}
 use Rattle.link_world.specs.client.ClientSide.{ClientState}
 use Rattle.link_world.specs.server.ServerSide.{ServerState}
-use Rattle.link_world.specs.server.Wiring.{Wiring}
+use Rattle.link_laws.specs.world.Wiring.{Wiring}
 use Rattle.link_world.specs.declared.course.Course.{Course}
 use Rattle.link_world.specs.declared.outcome.Outcome.{Outcome}
 use Rattle.link_world.specs.Outcomes.{IsRunBy, IsRunOf}
 use Rattle.link_world.specs.Over.{LeadsToEnd}
 use Rattle.link_world.specs.Running.{EndsWith, setup_by}
-use Rattle.link_world.specs.Showing.{Shows, wiring_of}
+use Rattle.link_world.specs.Showing.{Shows}
 use Rattle.link_world.specs.Starting.{IsNew}
 use Rattle.link_world.proofs.StopLemmas.{next_stops, past_journal}
 

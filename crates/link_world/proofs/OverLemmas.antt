@@ -19,17 +19,18 @@ use Rattle.link_laws.specs.world.Client.{ClientSettles}
 use Rattle.link_script.specs.text.Report.{report_text}
 use Rattle.link_laws.specs.world.Reports.{carries_chunk, report_of}
 use Rattle.link_laws.specs.world.Setup.{client_setting}
-use Rattle.link_laws.specs.world.World.{Setup, World, client_store, server_store, with_client, with_server}
+use Rattle.link_laws.specs.world.World.{Setup, World, client_store, server_store, with_client, with_server, wiring_of, with_wiring}
 use Rattle.link_world.specs.client.ClientSide.{ClientMoves, ClientState}
 use Rattle.link_world.specs.server.ServerSide.{ServerMoves, ServerState}
-use Rattle.link_world.specs.server.Wiring.{Wiring}
+use Rattle.link_laws.specs.world.Wiring.{Wiring}
 use Rattle.link_world.specs.declared.course.Course.{Course}
 use Rattle.link_world.specs.declared.outcome.Outcome.{Outcome}
 use Rattle.link_world.specs.Over.{LeadsToEnd, Tells}
-use Rattle.link_world.specs.Showing.{ClientShows, ServerShows, Shows, wiring_of}
+use Rattle.link_world.specs.Showing.{ClientShows, ServerShows, Shows}
 use Rattle.link_world.proofs.ClientLemmas.{client_items, in_world}
-use Rattle.link_world.proofs.ServerLemmas.{items_by, losses_by, ruled, wires_by}
-use Rattle.link_world.proofs.WireLemmas.{client_sent, server_sent, with_wiring}
+use Rattle.link_world.proofs.ServerLemmas.{items_by, ruled}
+use Rattle.link_world.proofs.WireLemmas.{sent_since, wires_since}
+use Rattle.rpc_ids.specs.declared.method.Role.TheVariants.{Server, Client}
 
 abbrev reported : List ReportLine → ℕ → ℕ → ℕ → Stored → Stored → Report
 reported lines frames delivered chunks server client = record {
@@ -64,10 +65,12 @@ module _ (k : Setup) (commands : List Command) (w : World) where
       let mid : World = with_wiring y (record w { server = after }) in
       let now : World = with_wiring z (record mid { client = then }) in
       let server_is : with_server k w after ≡ mid =
-      server_sent k w after s.items server.items x y shows.wires (items_by k s w.server w.fed_server shows.server) (server_items s server x y shows.server moves items) moves.out in
-      let mid_wires : y ≡ wiring_of k mid = wires_by k w y after (losses_by k w s server x y shows.wires moves) in
+      sent_since k Server (record w { server = after }) s.items server.items x y shows.wires moves.out k.server w.server after (items_by k s w.server w.fed_server shows.server)
+      (server_items s server x y shows.server moves items) in
+      let mid_wires : y ≡ wiring_of k mid = wires_since k Server (record w { server = after }) s.items server.items x y shows.wires moves.out in
       let client_is : with_client k mid then ≡ now =
-      client_sent k mid then c.items client.items y z mid_wires (client_items k c w.client w.fed_client shows.client) (last_items c client y z shows.client client_moves last) client_moves.out in
+      sent_since k Client (record mid { client = then }) c.items client.items y z mid_wires client_moves.out k.client mid.client then (client_items k c w.client w.fed_client shows.client)
+      (last_items c client y z shows.client client_moves last) in
       let server_stored : server.stored ≡ server_store k now =
       moves.kept k.server_store shows.server.stored ∙ ap (λ all. kept all k.server_store) (server_items s server x y shows.server moves items) in
       let client_stored : client.stored ≡ client_store k now =

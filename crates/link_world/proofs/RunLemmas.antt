@@ -14,19 +14,19 @@ use Rattle.link_laws.specs.world.Limits.{IsPastFrames}
 use Rattle.link_laws.specs.transfers_fit.Fits.{AreSmall}
 use Rattle.link_laws.specs.world.Turns.{Kind, Turns, ending, next_kind, starting, timing}
 use Rattle.link_laws.specs.world.Turns as world
-use Rattle.link_laws.specs.world.World.{Plain, Setup, World, calling, first_world}
+use Rattle.link_laws.specs.world.World.{Plain, Setup, World, calling, first_world, wiring_of}
 use Rattle.link_world.specs.declared.client.under.Under.{Under}
 use Rattle.link_world.specs.declared.client.under.Under.TheVariants.{Calling, Closing, Lacking, Transferring}
 use Rattle.link_world.specs.client.ClientSide.{Attends, ClientState}
 use Rattle.link_world.specs.client.Underway.{call_under, under_seen}
 use Rattle.link_world.specs.server.ServerSide.{ServerState}
-use Rattle.link_world.specs.server.Wiring.{Wiring}
+use Rattle.link_laws.specs.world.Wiring.{Wiring}
 use Rattle.link_world.specs.declared.course.Course.{Course}
 use Rattle.link_world.specs.declared.turn.NextTurn.{NextTurn}
 use Rattle.link_world.specs.declared.turn.NextTurn.TheVariants.{ToServer, ToClient, Start, Cancel, Time}
 use Rattle.link_world.specs.Making.{TakesTurn}
 use Rattle.link_world.specs.Running.{ComesTo, EndsWith, ShowsTurn}
-use Rattle.link_world.specs.Showing.{CanTurn, IsCalling, IsNext, IsOpen, Shows, wiring_of}
+use Rattle.link_world.specs.Showing.{CanTurn, IsCalling, IsNext, IsOpen, Shows}
 use Rattle.link_world.proofs.LineLemmas.{client_deeds_are}
 use Rattle.link_world.proofs.SizeLemmas.{IsLess, size_of, smaller, under_size, world_size}
 

@@ -12,18 +12,18 @@ use Rattle.rpc_handlers.specs.HandlerRule.{HandlerRule}
 use Rattle.rpc_schedule.specs.Serving.{deeds}
 use Rattle.rpc_schedule.specs.ends.EndState.{WasFed}
 use Rattle.link_laws.specs.world.Lines.{finished}
-use Rattle.link_laws.specs.world.Starts.{ended_by_close, starts}
-use Rattle.link_laws.specs.world.Turns.{ServerTakes, closed_by, starting, to_server, with_command, with_frame_at_server}
-use Rattle.link_laws.specs.world.World.{Setup, World, closing, server_deeds, with_server}
+use Rattle.link_laws.specs.world.Starts.{ended_by_close, starts, closed_by, with_command}
+use Rattle.link_laws.specs.world.Turns.{starting, to_server, with_frame_at_server}
+use Rattle.link_laws.specs.world.Hearing.{ServerTakes}
+use Rattle.link_laws.specs.world.World.{Setup, World, closing, server_deeds, wiring_of, with_wiring}
 use Rattle.link_world.specs.declared.client.under.Under.TheVariants.{Closing}
-use Rattle.link_world.specs.server.ServerSide.{ServerHears, ServerMoves, ServerRests, ServerState}
+use Rattle.link_world.specs.server.ServerSide.{ServerHeard, ServerMoves, ServerRests, ServerState}
 use Rattle.rpc_schedule.specs.Schedule.{Settles}
-use Rattle.link_world.specs.server.Wiring.{Wiring}
-use Rattle.rpc_journal.specs.Items.{packets_of}
+use Rattle.link_laws.specs.world.Wiring.{Wiring}
 use Rattle.link_world.specs.declared.course.Course.{Course}
 use Rattle.link_world.specs.Making.{ServerTurns, with_coming, with_rest_up}
-use Rattle.link_world.specs.Showing.{CourseShows, ServerShows, wiring_of}
-use Rattle.link_world.proofs.WireLemmas.{losses_stay, server_sent, with_wiring}
+use Rattle.link_world.specs.Showing.{CourseShows, ServerShows}
+use Rattle.link_world.proofs.WireLemmas.{sent_since, wires_since}
 
 module _ (k : Setup) where
   -- the items that have gone out, by the world's history
@@ -45,21 +45,6 @@ module _ (k : Setup) where
     stored = moves.kept k.server_store shows.stored;
   }
 
-  -- the world then
-  pub server_goes : (v : World) (s new : ServerState) (x y : Wiring) (bytes more : List ℕ) → ServerShows k s v.server bytes → x ≡ wiring_of k v
-      → ServerMoves s x new y → ServerShows k new new.end.serving.table.entries more
-      → with_server k v new.end.serving.table.entries ≡ with_wiring y (record v { server = new.end.serving.table.entries })
-  server_goes v s new x y bytes more shows wires moves now =
-      server_sent k v new.end.serving.table.entries s.items new.items x y wires (items_by s v.server bytes shows)
-      (items_by new new.end.serving.table.entries more now) moves.out
-
-  pub losses_by : (v : World) (s new : ServerState) (x y : Wiring) → x ≡ wiring_of k v → ServerMoves s x new y → y.losses ≡ k.losses
-  losses_by v s new x y wires moves =
-      ap (λ z. z.losses) moves.out.wires ∙ (losses_stay Server (packets_of moves.out.more) x ∙ ap (λ z. z.losses) wires)
-
-  pub wires_by : (v : World) (y : Wiring) (h : List Entry) → y.losses ≡ k.losses → y ≡ wiring_of k (with_wiring y (record v { server = h }))
-  wires_by v y h losses = ap (λ l. record y { losses = l }) losses
-
   -- what settles by the service's rule settles by that of the world
   pub ruled : (P : HandlerRule → Setting → List Entry → Type 0) (s : ServerState) (h : List Entry) (bytes : List ℕ) → ServerShows k s h bytes
       → P demo_rule s.end.serving.table.setting s.end.serving.table.entries → P k.rule k.server h
@@ -71,14 +56,15 @@ module _ (k : Setup) where
   -- A FRAME HAS COME TO THE SERVER
   pub delivered_up : (commands : List Command) (w : World) (frame : List ℕ) (rest : List (List ℕ)) (s new : ServerState) (x y : Wiring) (d : Course)
       → ServerShows k s w.server w.fed_server → x ≡ wiring_of k (with_rest_up rest w) → CourseShows commands d w
-      → ServerRests new → ServerHears demo_rule s.end.serving new.end.serving w.fed_server frame → WasFed Server new.end (w.fed_server ++ frame)
+      → ServerRests new → ServerHeard demo_rule s.end.serving new.end.serving w.fed_server frame → WasFed Server new.end (w.fed_server ++ frame)
       → ServerMoves s x new y
       → ServerTurns k commands w (to_server frame rest) new y (record d { delivered = d.delivered + 1 })
   delivered_up commands w frame rest s new x y d shows wires course rests hears fed moves =
       let v : World = with_frame_at_server w frame rest in
       let after : List Entry = new.end.serving.table.entries in
       let now : ServerShows k new after (w.fed_server ++ frame) = moved_on s new x y w.server w.fed_server (w.fed_server ++ frame) shows moves rests.items fed in
-      let goes = server_goes v s new x y w.fed_server (w.fed_server ++ frame) shows wires moves now in
+      let goes = sent_since k Server (record v { server = after }) s.items new.items x y wires moves.out k.server v.server after (items_by s v.server w.fed_server shows)
+      (items_by new after (w.fed_server ++ frame) now) in
       record {
         mid = with_wiring y (record v { server = after });
         turn = record {
@@ -86,12 +72,12 @@ module _ (k : Setup) where
           hears = record {
             packets = hears.packets;
             heard = hears.heard;
-            takes = ruled (λ rule set h. ServerTakes rule set hears.packets h after) s w.server w.fed_server shows hears.takes;
+            holds = ruled (λ rule set h. ServerTakes rule set hears.packets h after) s w.server w.fed_server shows hears.holds;
           };
           is = ap (finished k) (sym goes);
         };
         server = now;
-        wires = wires_by v y after (losses_by v s new x y wires moves);
+        wires = wires_since k Server (record v { server = after }) s.items new.items x y wires moves.out;
         course = record {
           coming = course.coming;
           under = course.under;
@@ -124,7 +110,8 @@ module _ (k : Setup) where
       let v : World = with_command w rest (starts k w (Close channel)) in
       let after : List Entry = new.end.serving.table.entries in
       let now : ServerShows k new after w.fed_server = moved_on s new x y w.server w.fed_server w.fed_server shows moves rests.items fed in
-      let goes = server_goes v s new x y w.fed_server w.fed_server shows wires moves now in
+      let goes = sent_since k Server (record v { server = after }) s.items new.items x y wires moves.out k.server v.server after (items_by s v.server w.fed_server shows)
+      (items_by new after w.fed_server now) in
       record {
         mid = with_wiring y (record v { server = after });
         turn = record {
@@ -135,7 +122,7 @@ module _ (k : Setup) where
         };
         server = now;
         client = record { entries = refl; fed = refl };
-        wires = wires_by v y after (losses_by v s new x y wires moves);
+        wires = wires_since k Server (record v { server = after }) s.items new.items x y wires moves.out;
         course = record {
           coming = course.coming;
           under = ap (λ count. Some (closing channel count)) counts;

@@ -1,6 +1,5 @@
 -- Each turn leaves less to do.
-use Rattle.std.proofs.Common.{◌≡◌, ℕ, ◌+◌, ◌-◌, ◌*◌, ◌<◌, ◌≤◌, Bool, true, false, List, [], ◌∷◌, length, reverse, Option, Some, None, if◌then◌else◌, refl, ap, sym, ◌∙◌, subst, arith, length-append}
-use Rattle.std.proofs.Common.{not, eq-eqb, slice_get}
+use Rattle.std.proofs.Common.{◌≡◌, ℕ, ◌+◌, ◌-◌, ◌*◌, ◌<◌, ◌≤◌, Bool, true, false, List, [], ◌∷◌, length, reverse, Option, Some, None, if◌then◌else◌, refl, ap, sym, ◌∙◌, subst, arith, length-append, not, eq-eqb, slice_get}
 use Rattle.std.specs.Prelude.{option_map}
 use Rattle.std.proofs.lemmas.Bool.{false≢true}
 use Rattle.std.proofs.lemmas.List.{reverse-append}
@@ -29,9 +28,9 @@ use Rattle.rpc_schedule.specs.Schedule.{flush_seat, run_seat}
 use Rattle.link_laws.specs.declared.world.limits.TheConstants.{MAX_DELIVERIES}
 use Rattle.link_laws.specs.world.Client.{ClientSettles}
 use Rattle.link_laws.specs.world.Lines.{command_ended, finished, is_still, line_of, plain_line, with_line, with_released}
-use Rattle.link_laws.specs.world.Turns.{Asks, Cancels, ClientHears, Closes, Kind, ServerHears, StartTurn, TimePasses, Turn, TurnOf, cancelling, closed_by, ended_under, ending, kind_by, later, next_kind, starting, timing, to_client, to_server, under_with, with_command, with_frame_at_client, with_frame_at_server, with_task}
-use Rattle.link_laws.specs.world.Starts.{starts}
-use Rattle.link_laws.specs.world.World.{Plain, Setup, Tasked, Under, World, calling, client_deeds, closing, lacking, moment, transferring, with_client, with_server}
+use Rattle.link_laws.specs.world.Turns.{Cancels, ClientHears, Kind, ServerHears, TimePasses, Turn, TurnOf, cancelling, ending, kind_by, later, next_kind, starting, timing, to_client, to_server, with_frame_at_client, with_frame_at_server}
+use Rattle.link_laws.specs.world.Starts.{Asks, Closes, StartTurn, closed_by, with_command, starts, ended_by_close}
+use Rattle.link_laws.specs.world.World.{under_with, with_task, Plain, Setup, Tasked, Under, World, calling, client_deeds, closing, lacking, moment, transferring, with_client, with_server, server_deeds}
 use Rattle.link_laws.proofs.one_run.Growing.{begins, client_settles_goes, server_takes_goes, settles_goes}
 use Rattle.link_laws.proofs.one_run.Keeping.{finish_keeps}
 use Rattle.link_laws.proofs.one_run.Parts.{client_keeps, finished_server, server_keeps}
@@ -221,7 +220,7 @@ module _ (k : Setup) where
         let delivered : now.delivered ≡ w.delivered + 1 = l.delivered in
         let coming : length now.coming ≡ length w.coming = ap length l.coming in
         let under : under_size now.under ≤ under_size w.under = l.under in
-        let server = server_longer t.after (begins w.server t.hears.packets t.after (server_takes_goes k.rule k.server t.hears.packets w.server t.after t.hears.takes)) l.server in
+        let server = server_longer t.after (begins w.server t.hears.packets t.after (server_takes_goes k.rule k.server t.hears.packets w.server t.after t.hears.holds)) l.server in
         let times : now.times ≡ w.times = l.times in
         record {
           smaller = omega (arith, delivered, coming, under, server, room);
@@ -267,7 +266,7 @@ module _ (k : Setup) where
     close_smaller : (channel : ℕ) (rest : List Command) → w.coming ≡ Close channel ∷ rest → Closes k w channel rest now → IsLess w now
     close_smaller channel rest is t =
         let v : World = with_command w rest (starts k w (Close channel)) in
-        let before : List Entry = closed_by channel (ended_under (starts k w (Close channel)).under) w.server in
+        let before : List Entry = closed_by channel (ended_by_close k.server (server_deeds k w) channel) w.server in
         let l = behind_server v t.after now t.is in
         let delivered : now.delivered ≡ w.delivered = l.delivered in
         let coming : length now.coming ≡ length rest = ap length l.coming in
@@ -275,7 +274,7 @@ module _ (k : Setup) where
         let under : under_size now.under ≤ under_size v.under = l.under in
         let few = some_size v.under in
         let goes = settles_goes k.rule k.server before t.after t.settles in
-        let first = closed_longer channel (ended_under (starts k w (Close channel)).under) w.server in
+        let first = closed_longer channel (ended_by_close k.server (server_deeds k w) channel) w.server in
         let more = longer before t.after (begins before [] t.after goes) in
         let server : length now.server ≡ length t.after = ap length l.server in
         let times : now.times ≡ w.times = l.times in

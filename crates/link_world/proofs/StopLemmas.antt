@@ -11,11 +11,13 @@ use Rattle.rpc_schedule.specs.Schedule.{flush_seat, input_seat, run_seat}
 use Rattle.rpc_schedule.specs.Serving.{deeds}
 use Rattle.link_laws.specs.declared.world.limits.TheConstants.{MAX_DELIVERIES, TURN_OF_TIME}
 use Rattle.link_laws.specs.world.Client.{ClientSettles}
-use Rattle.link_laws.specs.world.Limits.{AskingStops, ClientHearingStops, ClientStops, ClientTakingStops, ClosingStops, EndStops, IsPastJournal, ServerHearingStops, ServerStops, ServerStopsWith, ServerTakingStops, StartStops, StopsIn, TimeStops}
+use Rattle.link_laws.specs.world.Limits.{EndStops, IsPastJournal, StopsIn, TimeStops}
+use Rattle.link_laws.specs.world.Starts.{AskingStops, ClosingStops, StartStops, closed_by, ended_by_close}
+use Rattle.link_laws.specs.world.Hearing.{ClientHearingStops, ServerHearingStops}
+use Rattle.link_laws.specs.world.Stops.{ClientStops, ClientTakingStops, ServerStops, ServerStopsWith, ServerTakingStops}
 use Rattle.link_laws.specs.world.Setup.{client_setting}
-use Rattle.link_laws.specs.world.Starts.{ended_by_close}
-use Rattle.link_laws.specs.world.Turns.{Kind, cancelling, closed_by, ending, later, next_kind, task_of}
-use Rattle.link_laws.specs.world.World.{Setup, World, moment}
+use Rattle.link_laws.specs.world.Turns.{Kind, cancelling, ending, later, next_kind}
+use Rattle.link_laws.specs.world.World.{task_of, Setup, World, moment}
 use Rattle.link_world.specs.declared.client.under.Under.{Under}
 use Rattle.link_world.specs.client.Asking.{IsAsked}
 use Rattle.link_world.specs.client.ClientSide as client
@@ -25,7 +27,7 @@ use Rattle.link_world.specs.declared.server.stopped.Stopped.{Stopped}
 use Rattle.link_world.specs.declared.server.stopped.Stopped.TheVariants as stopped
 use Rattle.link_world.specs.server.ServerSide as server
 use Rattle.link_world.specs.server.ServerSide.{ServerState}
-use Rattle.link_world.specs.server.Wiring.{Wiring}
+use Rattle.link_laws.specs.world.Wiring.{Wiring}
 use Rattle.link_world.specs.declared.course.Course.{Course}
 use Rattle.link_world.specs.declared.outcome.WorldRefused.{WorldRefused}
 use Rattle.link_world.specs.declared.outcome.WorldRefused.TheVariants.{Journal}
@@ -63,7 +65,7 @@ module _ (k : Setup) where
   up_stops w frame s shows stops = record {
     packets = stops.packets;
     heard = stops.heard;
-    stops = ruled k (λ rule set h. ServerTakingStops rule set stops.packets h) s w.server w.fed_server shows stops.stops;
+    holds = ruled k (λ rule set h. ServerTakingStops rule set stops.packets h) s w.server w.fed_server shows stops.holds;
   }
 
   -- THE CLIENT, AT A FRAME
@@ -72,7 +74,7 @@ module _ (k : Setup) where
   down_stops commands w frame c d shows course stops = record {
     packets = stops.packets;
     heard = stops.heard;
-    stops = in_world k (λ set at h task. ClientTakingStops set at stops.packets h task) commands w c d w.fed_client shows course stops.stops;
+    holds = in_world k (λ set at h task. ClientTakingStops set at stops.packets h task) commands w c d w.fed_client shows course stops.holds;
   }
 
   -- A CHANNEL IS CLOSED

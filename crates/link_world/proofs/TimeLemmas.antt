@@ -11,18 +11,18 @@ use Rattle.rpc_schedule.specs.ends.EndState.{WasFed}
 use Rattle.link_laws.specs.declared.world.limits.TheConstants.{TURN_OF_TIME}
 use Rattle.link_laws.specs.world.Client.{ClientSettles}
 use Rattle.link_laws.specs.world.Lines.{finished}
-use Rattle.link_laws.specs.world.Turns.{later, timing, with_task}
-use Rattle.link_laws.specs.world.World.{Setup, World, moment, with_server}
+use Rattle.link_laws.specs.world.Turns.{later, timing}
+use Rattle.link_laws.specs.world.World.{with_task, wiring_of, with_wiring, Setup, World, moment, with_server}
 use Rattle.link_world.specs.declared.client.under.Under.{Under}
 use Rattle.link_world.specs.client.ClientSide.{ClientMoves, ClientRests, ClientState, ClientWorks}
 use Rattle.link_world.specs.server.ServerSide.{ServerMoves, ServerRests, ServerState}
-use Rattle.link_world.specs.server.Wiring.{Wiring}
+use Rattle.link_laws.specs.world.Wiring.{Wiring}
 use Rattle.link_world.specs.declared.course.Course.{Course}
 use Rattle.link_world.specs.Making.{WorldTurns}
-use Rattle.link_world.specs.Showing.{ClientShows, CourseShows, ServerShows, wiring_of}
-use Rattle.link_world.proofs.ClientLemmas.{client_goes, client_losses, client_moved, client_wires, in_world, under_then}
-use Rattle.link_world.proofs.ServerLemmas.{losses_by, moved_on, ruled, server_goes, wires_by}
-use Rattle.link_world.proofs.WireLemmas.{with_wiring}
+use Rattle.link_world.specs.Showing.{ClientShows, CourseShows, ServerShows}
+use Rattle.link_world.proofs.ClientLemmas.{client_items, client_moved, in_world, under_then}
+use Rattle.link_world.proofs.ServerLemmas.{items_by, moved_on, ruled}
+use Rattle.link_world.proofs.WireLemmas.{sent_since, wires_since}
 
 module _ (k : Setup) where
   pub later_shows : (commands : List Command) (d : Course) (w : World) → CourseShows commands d w → CourseShows commands (record d { times = d.times + 1 }) (later w)
@@ -52,10 +52,12 @@ module _ (k : Setup) where
       let after : List Entry = server.end.serving.table.entries in
       let now : ClientShows k client first w.fed_client = client_moved k c client x y w.client w.fed_client w.fed_client shown client_moves client_rests.items client_fed in
       let mid : World = with_wiring y (record v { client = first }) in
-      let client_is = client_goes k v c client x y w.fed_client w.fed_client shown wires client_moves now in
-      let mid_wires : y ≡ wiring_of k mid = client_wires k v y first (client_losses k v c client x y wires client_moves) in
+      let client_is = sent_since k Client (record v { client = first }) c.items client.items x y wires client_moves.out k.client v.client first (client_items k c v.client w.fed_client shown)
+      (client_items k client first w.fed_client now) in
+      let mid_wires : y ≡ wiring_of k mid = wires_since k Client (record v { client = first }) c.items client.items x y wires client_moves.out in
       let then : ServerShows k server after w.fed_server = moved_on k s server y z w.server w.fed_server w.fed_server shows moves rests.items fed in
-      let server_is = server_goes k mid s server y z w.fed_server w.fed_server shows mid_wires moves then in
+      let server_is = sent_since k Server (record mid { server = after }) s.items server.items y z mid_wires moves.out k.server mid.server after (items_by k s mid.server w.fed_server shows)
+      (items_by k server after w.fed_server then) in
       record {
         mid = with_wiring z (record mid { server = after });
         turn = record {
@@ -70,7 +72,7 @@ module _ (k : Setup) where
         };
         server = then;
         client = now;
-        wires = wires_by k mid z after (losses_by k mid s server y z mid_wires moves);
+        wires = wires_since k Server (record mid { server = after }) s.items server.items y z mid_wires moves.out;
         course = record {
           coming = course.coming;
           under = under_then k commands w d under works.next course works.under;

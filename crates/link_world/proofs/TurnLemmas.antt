@@ -4,12 +4,12 @@ use Rattle.std.specs.Prelude.{IfNone}
 use Rattle.link_script.specs.declared.command.Command.{Command}
 use Rattle.rpc_journal.proofs.PlaceLemmas.{some_same}
 use Rattle.link_laws.specs.world.Turns.{ending, kind_at_rest, kind_by, kind_under, next_kind, starting, to_client, to_server}
-use Rattle.link_laws.specs.world.World.{Setup, Under as UnderWay, World}
+use Rattle.link_laws.specs.world.World.{Setup, Under as UnderWay, World, wiring_of}
 use Rattle.link_world.specs.client.Underway.{under_seen}
-use Rattle.link_world.specs.server.Wiring.{Wiring}
+use Rattle.link_laws.specs.world.Wiring.{Wiring}
 use Rattle.link_world.specs.declared.course.Course.{Course}
 use Rattle.link_world.specs.Making.{with_rest_down, with_rest_up}
-use Rattle.link_world.specs.Showing.{CourseShows, wiring_of}
+use Rattle.link_world.specs.Showing.{CourseShows}
 
 pub if_none : {A : Type 0} (o : Option A) (P : Type 0) → P → IfNone o P
 if_none None P holds = holds

@@ -3,14 +3,14 @@ use Rattle.std.specs.Prelude.{◌≡◌, ℕ, List}
 use Rattle.link_script.specs.declared.command.Command.{Command}
 use Rattle.link_laws.specs.world.Lines.{finished}
 use Rattle.link_laws.specs.world.Turns.{Kind, TurnOf, cancelling, next_kind, starting, timing, to_client, to_server}
-use Rattle.link_laws.specs.world.World.{Setup, World}
+use Rattle.link_laws.specs.world.World.{Setup, World, wiring_of}
 use Rattle.link_world.specs.client.ClientSide.{ClientState}
 use Rattle.link_world.specs.server.ServerSide.{ServerState}
-use Rattle.link_world.specs.server.Wiring.{Wiring}
+use Rattle.link_laws.specs.world.Wiring.{Wiring}
 use Rattle.link_world.specs.declared.course.Course.{Course}
 use Rattle.link_world.specs.declared.turn.NextTurn.{NextTurn}
 use Rattle.link_world.specs.declared.turn.NextTurn.TheVariants.{ToServer, ToClient, Start, Cancel, Time}
-use Rattle.link_world.specs.Showing.{ClientShows, CourseShows, ServerShows, wiring_of}
+use Rattle.link_world.specs.Showing.{ClientShows, CourseShows, ServerShows}
 
 -- a frame was taken off the link, and these are left on it
 abbrev pub with_rest_up : List (List ℕ) → World → World

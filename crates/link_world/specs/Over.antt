@@ -7,7 +7,7 @@ use Rattle.link_laws.specs.world.Turns.{Ends, ending, next_kind}
 use Rattle.link_laws.specs.world.World.{Setup, World, client_store, server_store}
 use Rattle.link_world.specs.client.ClientSide.{ClientState}
 use Rattle.link_world.specs.server.ServerSide.{ServerState}
-use Rattle.link_world.specs.server.Wiring.{Wiring}
+use Rattle.link_laws.specs.world.Wiring.{Wiring}
 use Rattle.link_world.specs.declared.course.Course.{Course}
 use Rattle.link_world.specs.declared.outcome.Outcome.{Outcome}
 

@@ -10,7 +10,7 @@ use Rattle.link_laws.specs.world.Turns.{Turn, Turns, ending, next_kind, timing}
 use Rattle.link_laws.specs.world.World.{Setup, World, first_world}
 use Rattle.link_world.specs.client.ClientSide.{ClientState}
 use Rattle.link_world.specs.server.ServerSide.{ServerState}
-use Rattle.link_world.specs.server.Wiring.{Wiring}
+use Rattle.link_laws.specs.world.Wiring.{Wiring}
 use Rattle.link_world.specs.declared.course.Course.{Course}
 use Rattle.link_world.specs.declared.turn.NextTurn.{NextTurn}
 use Rattle.link_world.specs.declared.turn.NextTurn.TheVariants.{Time}

@@ -13,7 +13,7 @@ use Rattle.link_laws.specs.transfers_fit.Scripts.{IsScript}
 use Rattle.link_laws.specs.world.Setup.{made_resources, script_chunk, script_window, server_setting, stocked}
 use Rattle.link_world.specs.client.ClientSide.{ClientRests, ClientState}
 use Rattle.link_world.specs.server.ServerSide.{ServerRests, ServerState}
-use Rattle.link_world.specs.server.Wiring.{Wiring}
+use Rattle.link_laws.specs.world.Wiring.{Wiring}
 
 -- no resource stands twice under the same words, and the numbers of windows, chunks and commands fit
 pub record IsWithinBounds (script : Script) : Type 0 where

@@ -1,4 +1,4 @@
 pub mod Stops
-pub mod Wiring
+pub mod GoesOut
 pub mod Resting
 pub mod ServerSide

@@ -3,6 +3,7 @@
 //! Enter at [`ClientEnd`].
 mod asking;
 mod client_end;
+mod desk;
 mod polling;
 mod questions;
 mod quiet;

@@ -3,8 +3,8 @@ ghost use Rattle.std.specs.Prelude.{◌≡◌, ℕ, List, OnOk};
 ghost use Rattle.link_script.specs.declared.command.Command.{Command};
 ghost use Rattle.link_world.specs.client.ClientSide.{Attends, ClientRests};
 ghost use Rattle.link_laws.specs.world.Lines.{command_ended, finished, is_still, with_released};
-ghost use Rattle.link_laws.specs.world.World.{Setup, World};
-ghost use Rattle.link_world.specs.Showing.{IsOpen, Shows, wiring_of};
+ghost use Rattle.link_laws.specs.world.World.{Setup, World, wiring_of};
+ghost use Rattle.link_world.specs.Showing.{IsOpen, Shows};
 
 use crate::client::ClientEnd;
 use crate::course::Course;

@@ -11,9 +11,9 @@ ghost use Rattle.link_laws.specs.declared.world.limits.TheConstants.{TURN_OF_TIM
 ghost use Rattle.link_laws.specs.transfers_fit.Fits.{AreSmall};
 ghost use Rattle.link_laws.specs.world.Limits.{StopsIn};
 ghost use Rattle.link_laws.specs.world.Turns.{next_kind, starting};
-ghost use Rattle.link_laws.specs.world.World.{Setup, World};
+ghost use Rattle.link_laws.specs.world.World.{Setup, World, wiring_of};
 ghost use Rattle.link_world.specs.Making.{ClientTurns, ServerTurns, WorldTurns, with_coming};
-ghost use Rattle.link_world.specs.Showing.{ClientShows, CourseShows, IsTuned, ServerShows, Stands, wiring_of};
+ghost use Rattle.link_world.specs.Showing.{ClientShows, CourseShows, IsTuned, ServerShows, Stands};
 
 use crate::client::{ClientEnd, Under};
 use crate::course::Course;

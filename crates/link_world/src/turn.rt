@@ -2,9 +2,9 @@
 ghost use Rattle.std.specs.Prelude.{◌≡◌, ◌+◌, ◌<◌, ◌^◌, IfNone, IfSome, slice_get};
 ghost use Rattle.std.specs.Option.{option_copied};
 ghost use Rattle.link_laws.specs.world.Turns.{ending, next_kind};
-ghost use Rattle.link_laws.specs.world.World.{Setup, World};
+ghost use Rattle.link_laws.specs.world.World.{Setup, World, wiring_of};
 ghost use Rattle.link_world.specs.Making.{TakesTurn};
-ghost use Rattle.link_world.specs.Showing.{CourseShows, IsNext, wiring_of};
+ghost use Rattle.link_world.specs.Showing.{CourseShows, IsNext};
 
 use crate::client::Under;
 use crate::course::Course;

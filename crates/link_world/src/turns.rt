@@ -10,9 +10,9 @@ ghost use Rattle.link_world.specs.server.ServerSide.{ServerRests};
 ghost use Rattle.link_laws.specs.declared.world.limits.TheConstants.{MAX_DELIVERIES, TURN_OF_TIME};
 ghost use Rattle.link_laws.specs.world.Turns.{cancelling, timing, to_client, to_server};
 ghost use Rattle.link_laws.specs.world.Limits.{StopsIn};
-ghost use Rattle.link_laws.specs.world.World.{Setup, World};
+ghost use Rattle.link_laws.specs.world.World.{Setup, World, wiring_of};
 ghost use Rattle.link_world.specs.Making.{ClientTurns, ServerTurns, WorldTurns, with_rest_down, with_rest_up};
-ghost use Rattle.link_world.specs.Showing.{ClientShows, CourseShows, ServerShows, wiring_of};
+ghost use Rattle.link_world.specs.Showing.{ClientShows, CourseShows, ServerShows};
 
 use crate::client::ClientEnd;
 use crate::course::Course;

@@ -19,8 +19,8 @@ use Rattle.link_script.specs.lossy.Link.{Link}
 use Rattle.link_laws.specs.declared.world.limits.TheConstants.{TURN_OF_TIME}
 use Rattle.link_laws.specs.world.Lines.{finished}
 use Rattle.link_laws.specs.world.Sound.{AreSendable}
-use Rattle.link_laws.specs.world.Turns.{Turn, under_with, with_frame_at_client, with_task}
-use Rattle.link_laws.specs.world.World.{Setup, Tasked, Transfer, Under, World, all_sent_by, flushed_since, packets_flushed, transferring, with_client}
+use Rattle.link_laws.specs.world.Turns.{Turn, with_frame_at_client}
+use Rattle.link_laws.specs.world.World.{under_with, with_task, Setup, Tasked, Transfer, Under, World, all_sent_by, flushed_since, packets_flushed, transferring, with_client}
 use Rattle.link_laws.proofs.one_run.Links.{frame_of}
 use Rattle.link_laws.proofs.one_run.Parts.{client_keeps, closed_by_front, finished_client, flushed_later}
 use Rattle.link_laws.specs.rounds.Carrying.{carrying}

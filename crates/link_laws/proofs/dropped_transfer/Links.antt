@@ -10,7 +10,9 @@ use Rattle.rpc_packet.specs.declared.owned.Packet.{Packet}
 use Rattle.transfer_words.specs.Word.{Word}
 use Rattle.transfer_laws.specs.losses.Drops.{kept}
 use Rattle.link_laws.specs.world.Sound.{NoFlips}
-use Rattle.link_laws.specs.world.World.{Setup, World, all_sent_by, next_loss, sent_by}
+use Rattle.link_laws.specs.world.World.{Setup, World, all_sent_by, wiring_of}
+use Rattle.link_laws.specs.world.Wiring.{next_loss}
+use Rattle.link_laws.proofs.one_run.Keeping.{sent_by}
 use Rattle.link_laws.proofs.one_run.Links.{frame_of}
 use Rattle.link_laws.specs.rounds.Carrying.{carrying}
 use Rattle.link_laws.proofs.rounds.Carrying.{put_carrying}
@@ -52,9 +54,9 @@ put_or_not ps p (Some (Flip bit)) is = absurd is
 
 module _ (k : Setup) (drops : AreDrops k.losses) {A : Type 0} (packet : A → Packet) where
   one_put : (qs : List Packet) (a : A) (w : World) (frames : ℕ) (l : Link) → length w.numbered ≡ frames → l ≡ carrying qs
-      → put (next_loss k w) (frame_of (packet a)) l ≡ carrying (qs ++ (if is_dropped k (suc frames) then [] else packet a ∷ []))
+      → put (next_loss (wiring_of k w)) (frame_of (packet a)) l ≡ carrying (qs ++ (if is_dropped k (suc frames) then [] else packet a ∷ []))
   one_put qs a w frames l many on =
-      ap (λ (l : Link). put (next_loss k w) (frame_of (packet a)) l) on
+      ap (λ (l : Link). put (next_loss (wiring_of k w)) (frame_of (packet a)) l) on
       ∙ (ap (λ n. put (loss_of n k.losses) (frame_of (packet a)) (carrying qs)) number
       ∙ put_or_not qs (packet a) (loss_of (suc frames) k.losses) (drop_or_none k.losses (suc frames) drops))
     where

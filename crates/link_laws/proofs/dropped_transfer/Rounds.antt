@@ -13,9 +13,9 @@ use Rattle.transfer_laws.specs.losses.Drops.{LeadsTo, Lost, LossyPair, at_time, 
 use Rattle.transfer_laws.specs.pairs.Pair.{words_of}
 use Rattle.transfer_laws.specs.losses.Rounds.{is_lossy}
 use Rattle.link_laws.specs.world.Lines.{finished}
-use Rattle.link_laws.specs.world.Starts.{starts}
-use Rattle.link_laws.specs.world.Turns.{Asks, StartTurn, TimePasses, Turn, TurnOf, Turns, kind_by, later, with_command, with_frame_at_client, with_frame_at_server, with_task}
-use Rattle.link_laws.specs.world.World.{Setup, Under, World, calling, closing, lacking, transferring, with_client, with_server}
+use Rattle.link_laws.specs.world.Starts.{starts, Asks, StartTurn, with_command}
+use Rattle.link_laws.specs.world.Turns.{TimePasses, Turn, TurnOf, Turns, kind_by, later, with_frame_at_client, with_frame_at_server}
+use Rattle.link_laws.specs.world.World.{with_task, Setup, Under, World, calling, closing, lacking, transferring, with_client, with_server}
 use Rattle.link_laws.proofs.one_run.Keeping.{finish_keeps}
 use Rattle.link_laws.proofs.one_run.Parts.{client_keeps, server_keeps}
 use Rattle.link_laws.specs.dropped_transfer.Rounds.{IsNumberedAt}

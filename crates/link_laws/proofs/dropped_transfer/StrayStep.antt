@@ -31,8 +31,8 @@ use Rattle.link_laws.specs.declared.world.limits.TheConstants.{TURN_OF_TIME}
 use Rattle.link_laws.specs.world.Client.{ClientSettles, ClientTakes}
 use Rattle.link_laws.specs.world.Lines.{finished}
 use Rattle.link_laws.specs.world.Setup.{quiet_rule}
-use Rattle.link_laws.specs.world.Turns.{ClientHears, Turn, task_of, task_under, under_with, with_frame_at_client, with_task}
-use Rattle.link_laws.specs.world.World.{Setup, Tasked, Transfer, Under, World, all_sent_by, flushed_since, moment, with_client}
+use Rattle.link_laws.specs.world.Turns.{ClientHears, Turn, with_frame_at_client}
+use Rattle.link_laws.specs.world.World.{task_of, task_under, under_with, with_task, Setup, Tasked, Transfer, Under, World, all_sent_by, flushed_since, moment, with_client}
 use Rattle.link_laws.proofs.one_run.Links.{frame_of}
 use Rattle.link_laws.proofs.one_run.Parts.{closed_by_front, heard_front}
 use Rattle.link_laws.specs.rounds.Polls.{IsPoll, MaySay}
@@ -72,7 +72,7 @@ one_heard : (k : Setup) (at : ℕ) (big now : World) (p : Packet) (ps : List Pac
 one_heard k at big now p ps fits between time t =
     let packets : t.hears.packets ≡ p ∷ [] = heard_front Client big.fed_client (frame_of p) p t.hears.packets fits between refl t.hears.heard in
     let first : ClientTakes k.client (moment big) (p ∷ []) big.client (task_of big) t.after t.task =
-    subst (λ qs. ClientTakes k.client (moment big) qs big.client (task_of big) t.after t.task) packets t.hears.takes in
+    subst (λ qs. ClientTakes k.client (moment big) qs big.client (task_of big) t.after t.task) packets t.hears.holds in
     let arrived : List Entry = adding big.client input_seat (Arrive p) in
     let a : ClientSettles k.client (moment big) arrived (task_of big) t.after first.1 = subst (λ h. ClientSettles k.client (moment big) arrived (task_of big) h first.1) (sym first.3.0) first.2 in
     let b : ClientSettles k.client (moment big) arrived (task_of big) t.after t.task = subst (λ u. ClientSettles k.client (moment big) arrived (task_of big) t.after u) (sym first.3.1) a in

@@ -29,8 +29,8 @@ use Rattle.link_laws.specs.declared.world.limits.TheConstants.{TURN_OF_TIME}
 use Rattle.link_laws.specs.world.Client.{ClientSettles}
 use Rattle.link_laws.specs.world.Lines.{finished}
 use Rattle.link_laws.specs.world.Sound.{AreSendable}
-use Rattle.link_laws.specs.world.Turns.{TimePasses, Turn, TurnOf, kind_by, later, task_under, under_with, with_task}
-use Rattle.link_laws.specs.world.World.{Setup, Tasked, Transfer, Under, World, all_sent_by, flushed_since, moment, packets_flushed, transferring, with_client, with_server}
+use Rattle.link_laws.specs.world.Turns.{TimePasses, Turn, TurnOf, kind_by, later}
+use Rattle.link_laws.specs.world.World.{task_under, under_with, with_task, Setup, Tasked, Transfer, Under, World, all_sent_by, flushed_since, moment, packets_flushed, transferring, with_client, with_server}
 use Rattle.link_laws.proofs.one_run.Parts.{client_keeps, finished_client, finished_server, flushed_later, server_keeps}
 use Rattle.link_laws.specs.rounds.Carrying.{carrying}
 use Rattle.link_laws.proofs.rounds.Carrying.{all_numbered}

@@ -14,9 +14,9 @@ use Rattle.transfer_client.specs.Read.{new_download}
 use Rattle.transfer_client.specs.Write.{new_upload}
 use Rattle.transfer_resume.specs.declared.side.Side.TheVariants.{Read}
 use Rattle.link_laws.specs.world.Lines.{finished}
-use Rattle.link_laws.specs.world.Starts.{left_length, live_transfers, opens_with, starts, starts_write, transfer_by}
-use Rattle.link_laws.specs.world.Turns.{Asks, StartTurn, TimePasses, Turn, TurnOf, Turns, ending, kind_by, later, next_kind, starting, with_command, with_frame_at_client, with_frame_at_server, with_task}
-use Rattle.link_laws.specs.world.World.{Setup, Transfer, Under, World, calling, client_deeds, client_store, closing, lacking, reads, transferring, with_client, with_server, writes}
+use Rattle.link_laws.specs.world.Starts.{left_length, live_transfers, opens_with, starts, starts_write, transfer_by, Asks, StartTurn, with_command}
+use Rattle.link_laws.specs.world.Turns.{TimePasses, Turn, TurnOf, Turns, ending, kind_by, later, next_kind, starting, with_frame_at_client, with_frame_at_server}
+use Rattle.link_laws.specs.world.World.{with_task, Setup, Transfer, Under, World, calling, client_deeds, client_store, closing, lacking, reads, transferring, with_client, with_server, writes}
 use Rattle.link_laws.specs.plain_calls.Between.{asks_for}
 use Rattle.link_laws.proofs.one_run.Keeping.{finish_keeps}
 use Rattle.link_laws.proofs.one_run.Parts.{client_keeps, server_keeps}

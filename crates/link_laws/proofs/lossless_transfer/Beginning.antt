@@ -47,11 +47,11 @@ use Rattle.link_laws.specs.world.Lines.{finished}
 use Rattle.link_laws.specs.world.Setup.{quiet_rule}
 use Rattle.link_laws.specs.world.Reports.{carries_chunk}
 use Rattle.link_laws.specs.world.Sound.{AreSendable, NoFlips}
-use Rattle.link_laws.specs.world.Starts.{Started, all_added, request, starts}
-use Rattle.link_laws.specs.world.Turns.{Asks, StartTurn, Turn, TurnOf, ending, kind_by, next_kind, task_under, under_with, with_command, with_frame_at_server, with_task}
-use Rattle.link_laws.specs.world.World.{Setup, Tasked, Transfer, Under, World, all_sent_by, flushed_since, moment, packets_flushed, sent_by, transferring, with_client}
-use Rattle.link_laws.proofs.one_run.Keeping.{finish_keeps}
-use Rattle.link_laws.proofs.one_run.Links.{all_back, all_front}
+use Rattle.link_laws.specs.world.Starts.{Started, all_added, request, starts, Asks, StartTurn, with_command}
+use Rattle.link_laws.specs.world.Turns.{Turn, TurnOf, ending, kind_by, next_kind, with_frame_at_server}
+use Rattle.link_laws.specs.world.World.{task_under, under_with, with_task, Setup, Tasked, Transfer, Under, World, all_sent_by, flushed_since, moment, packets_flushed, transferring, with_client}
+use Rattle.link_laws.proofs.one_run.Keeping.{sent_by, finish_keeps}
+use Rattle.link_laws.proofs.one_run.Links.{all_back, all_front, frame_of}
 use Rattle.link_laws.proofs.one_run.Parts.{client_keeps, closed_by_front, finished_client, flushed_later}
 use Rattle.link_laws.specs.rounds.Polls.{IsPoll}
 use Rattle.link_laws.proofs.rounds.Opens.{calls_open}
@@ -60,7 +60,6 @@ use Rattle.link_laws.proofs.transfers_fit.Names.{settles_same}
 use Rattle.link_laws.specs.lossless_transfer.Begins.{AsksClient, Begins, BeginsOnNew, BeginsOnOld, IsIdle, started_with}
 use Rattle.link_laws.specs.lossless_transfer.Finishes.{IsOver, IsSetFor, Passes, RunsOut}
 use Rattle.link_laws.specs.rounds.Carrying.{carrying}
-use Rattle.link_laws.proofs.one_run.Links.{frame_of}
 use Rattle.link_laws.specs.lossless_transfer.Shows.{ArePlaces, AtClient, AtServer, GoesUp, IsKept, IsUnderWay, OthersStay, Places, ShowsPair, moment_at, tasked_with, up_packet}
 use Rattle.link_laws.proofs.lossless_transfer.Flushing.{client_words, none_complete, undone_more}
 use Rattle.link_laws.proofs.rounds.Carrying.{all_numbered, client_carries, gone_out}

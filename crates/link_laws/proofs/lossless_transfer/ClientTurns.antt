@@ -31,8 +31,8 @@ use Rattle.link_laws.specs.declared.world.limits.TheConstants.{TURN_OF_TIME}
 use Rattle.link_laws.specs.world.Client.{ClientSettles, ClientTakes, transfer_polled, transfer_says}
 use Rattle.link_laws.specs.world.Lines.{finished}
 use Rattle.link_laws.specs.world.Sound.{AreSendable}
-use Rattle.link_laws.specs.world.Turns.{ClientHears, Turn, TurnOf, kind_by, task_of, task_under, under_with, with_frame_at_client, with_task}
-use Rattle.link_laws.specs.world.World.{Setup, Tasked, Transfer, Under, World, flushed_since, moment, packets_flushed, transferring, with_client}
+use Rattle.link_laws.specs.world.Turns.{ClientHears, Turn, TurnOf, kind_by, with_frame_at_client}
+use Rattle.link_laws.specs.world.World.{task_of, task_under, under_with, with_task, Setup, Tasked, Transfer, Under, World, flushed_since, moment, packets_flushed, transferring, with_client}
 use Rattle.link_laws.proofs.one_run.Parts.{client_keeps, closed_by_front, finished_client, flushed_later, heard_front}
 use Rattle.link_laws.specs.rounds.Polls.{IsPoll}
 use Rattle.link_laws.proofs.rounds.Polling.{messages_are_polled}
@@ -70,7 +70,7 @@ pub worked : (k : Setup) (at : ℕ) (big now : World) (p : Packet) (ps : List Pa
 worked k at big now p ps task fits between time under t =
     let packets : t.hears.packets ≡ p ∷ [] = heard_front Client big.fed_client (frame_of p) p t.hears.packets fits between refl t.hears.heard in
     let first : ClientTakes k.client (moment big) (p ∷ []) big.client (task_of big) t.after t.task =
-    subst (λ qs. ClientTakes k.client (moment big) qs big.client (task_of big) t.after t.task) packets t.hears.takes in
+    subst (λ qs. ClientTakes k.client (moment big) qs big.client (task_of big) t.after t.task) packets t.hears.holds in
     let arrived : List Entry = adding big.client input_seat (Arrive p) in
     let a : ClientSettles k.client (moment big) arrived (task_of big) t.after first.1 = subst (λ h. ClientSettles k.client (moment big) arrived (task_of big) h first.1) (sym first.3.0) first.2 in
     let b : ClientSettles k.client (moment big) arrived (task_of big) t.after t.task = subst (λ u. ClientSettles k.client (moment big) arrived (task_of big) t.after u) (sym first.3.1) a in

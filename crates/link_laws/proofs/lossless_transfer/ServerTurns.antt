@@ -32,7 +32,8 @@ use Rattle.history_laws.proofs.messages.Members.{all_join}
 use Rattle.link_script.specs.lossy.Link.{Link}
 use Rattle.link_laws.specs.world.Lines.{finished}
 use Rattle.link_laws.specs.world.Sound.{AreSendable}
-use Rattle.link_laws.specs.world.Turns.{ServerHears, ServerTakes, Turn, TurnOf, kind_by, with_frame_at_server}
+use Rattle.link_laws.specs.world.Turns.{ServerHears, Turn, TurnOf, kind_by, with_frame_at_server}
+use Rattle.link_laws.specs.world.Hearing.{ServerTakes}
 use Rattle.link_laws.specs.world.World.{Setup, World, flushed_since, packets_flushed, with_server}
 use Rattle.link_laws.proofs.one_run.Parts.{closed_by_front, finished_server, flushed_later, heard_front, server_keeps}
 use Rattle.link_laws.specs.rounds.Carrying.{carrying}
@@ -65,7 +66,7 @@ pub settled : (k : Setup) (big now : World) (p : Packet) (ps : List Packet) → 
     → IsBetweenFrames big.fed_server → ServerHears k big (frame_of p) (map frame_of ps) now → Settled k big now p ps
 settled k big now p ps fits on between t =
     let packets : t.hears.packets ≡ p ∷ [] = heard_front Server big.fed_server (frame_of p) p t.hears.packets fits between refl t.hears.heard in
-    let takes : ServerTakes k.rule k.server (p ∷ []) big.server t.after = subst (λ qs. ServerTakes k.rule k.server qs big.server t.after) packets t.hears.takes in
+    let takes : ServerTakes k.rule k.server (p ∷ []) big.server t.after = subst (λ qs. ServerTakes k.rule k.server qs big.server t.after) packets t.hears.holds in
     record {
       after = t.after;
       settles = subst (λ h. Settles k.rule k.server (adding big.server input_seat (Arrive p)) h) (sym takes.2) takes.1;

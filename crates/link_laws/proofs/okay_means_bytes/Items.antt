@@ -43,7 +43,7 @@ use Rattle.demo_services.specs.Methods.{transfer_id}
 use Rattle.transfer_words.specs.Word.{Word}
 use Rattle.transfer_words.specs.Spoken.{FitsChunk, text_in}
 use Rattle.transfer_words.specs.Saying.{Saying, says}
-use Rattle.link_laws.specs.uploads.CallItems.{act_outs, item_outs, message_in, outs_by}
+use Rattle.link_laws.specs.uploads.CallItems.{act_outs, item_outs, streamed_out, outs_by}
 use Rattle.link_laws.specs.uploads.Uploads.{deed_in, deeds_by, deeds_in}
 use Rattle.history_laws.specs.messages.Messages.{IsIn}
 use Rattle.history_laws.proofs.messages.Members.{all_join, in_front}
@@ -217,7 +217,7 @@ plain_known n i ss (item ∷ items) all = (at item.act all.0, plain_known n i ss
     at (Keep out) plain = absurd plain
     at LeaveCall plain = tt
 
-no_message : (session : ℕ) (type : PacketType) (payload : List ℕ) → deeds_in session (message_in type payload) ≡ []
+no_message : (session : ℕ) (type : PacketType) (payload : List ℕ) → deeds_in session (streamed_out type payload) ≡ []
 no_message session Request payload = refl
 no_message session Response payload = refl
 no_message session ClientStream payload = refl

@@ -27,7 +27,7 @@ use Rattle.rpc_journal.specs.Rows.{method_named}
 use Rattle.rpc_journal.proofs.PlaceLemmas.{get_last}
 use Rattle.transfer_words.specs.Saying.{Saying}
 use Rattle.demo_services.specs.Methods.{demo_id, demo_method, demo_methods, transfer_id}
-use Rattle.link_laws.specs.uploads.CallItems.{act_outs, message_in}
+use Rattle.link_laws.specs.uploads.CallItems.{act_outs, streamed_out}
 use Rattle.link_laws.specs.uploads.Uploads.{deeds_by, deeds_in}
 use Rattle.link_laws.specs.world.Starts.{is_transfer_by, live_transfers}
 use Rattle.link_laws.proofs.okay_means_bytes.Items.{ClientInv, KnownAct, KnownItem, added_deed, deeds_more, one_deeds, session_of}
@@ -96,7 +96,7 @@ fresh_known n i ss (item ∷ items) all = (at item.act all.0, fresh_known n i ss
 pub fresh_inv : (set : Setting) (h : List Entry) (n i : ℕ) (ss : List Saying) → ClientInv set h n i ss → ClientInv set h (n + 1) (n + 1) []
 fresh_inv set h n i ss inv = record { items = fresh_known n i ss (items_sent (history set h)) inv.items; cuts = inv.cuts }
 
-no_message : (session : ℕ) (t : PacketType) (payload : List ℕ) → deeds_in session (message_in t payload) ≡ []
+no_message : (session : ℕ) (t : PacketType) (payload : List ℕ) → deeds_in session (streamed_out t payload) ≡ []
 no_message session type.Request payload = refl
 no_message session type.Response payload = refl
 no_message session type.ClientStream payload = refl

@@ -15,7 +15,7 @@ use Rattle.rpc_journal.specs.Items.{is_for}
 use Rattle.rpc_journal.specs.StoreSteps.{after_item, store_after}
 use Rattle.transfer_words.specs.Saying.{Saying, says, begins, appends, commits, leaves}
 use Rattle.transfer_resume.specs.Uploads.{joined_bytes}
-use Rattle.link_laws.specs.uploads.CallItems.{act_outs, item_outs, message_in, outs_by}
+use Rattle.link_laws.specs.uploads.CallItems.{act_outs, item_outs, streamed_out, outs_by}
 use Rattle.link_laws.specs.uploads.Uploads.{deed_in, deeds_by, deeds_in, is_commit}
 use Rattle.history_laws.specs.messages.Messages.{IsIn}
 use Rattle.transfer_laws.specs.words.Tasks.{MakesWhole}
@@ -39,7 +39,7 @@ fold_append : (ds es : List Saying) (p : Progress) → fold deed_step p (ds ++ e
 fold_append [] es p = refl
 fold_append (d ∷ ds) es p = fold_append ds es (deed_step p d)
 
-no_message : (session : ℕ) (type : PacketType) (payload : List ℕ) → deeds_in session (message_in type payload) ≡ []
+no_message : (session : ℕ) (type : PacketType) (payload : List ℕ) → deeds_in session (streamed_out type payload) ≡ []
 no_message session Request payload = refl
 no_message session Response payload = refl
 no_message session ClientStream payload = refl
@@ -80,7 +80,7 @@ module _ (session call : ℕ) where
   one_act : (x : ℕ) (act : Act) (p : Progress) → NotLeft call (Some x) act → after_item (progress_steps call session) (Some x) act p ≡ fold deed_step p (deeds_in session (if x == call then act_outs act else []))
   one_act x (Send packet) p still = at (x == call)
     where
-      at : (b : Bool) → p ≡ fold deed_step p (deeds_in session (if b then message_in packet.ptype packet.payload else []))
+      at : (b : Bool) → p ≡ fold deed_step p (deeds_in session (if b then streamed_out packet.ptype packet.payload else []))
       at true = ap (fold deed_step p) (sym (no_message session packet.ptype packet.payload))
       at false = refl
   one_act x (Keep out) p still = one_out x out p (x == call) refl

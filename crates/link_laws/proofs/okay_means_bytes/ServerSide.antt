@@ -34,7 +34,7 @@ use Rattle.transfer_chunk.specs.Reading.{chunk_of}
 use Rattle.transfer_words.specs.Saying.{Saying}
 use Rattle.transfer_words.proofs.SpokenLaws.{words_are_heard}
 use Rattle.demo_services.specs.Methods.{demo_methods, transfer_id, transfer_method}
-use Rattle.link_laws.specs.uploads.CallItems.{HandlersAct, act_outs, is_handlers_own, item_outs, message_in, outs_by}
+use Rattle.link_laws.specs.uploads.CallItems.{HandlersAct, act_outs, is_handlers_own, item_outs, streamed_out, outs_by}
 use Rattle.history_laws.specs.messages.Messages.{BringsTo, HasCall, IsIn, IsOfCall, is_stream}
 use Rattle.history_laws.proofs.messages.Arrived.{messages_arrived}
 use Rattle.history_laws.proofs.messages.Members.{all_join, all_weaken, in_all, in_made, in_taken, made_of}
@@ -42,7 +42,7 @@ use Rattle.history_laws.proofs.messages.Methods.{calls_have_their_methods}
 use Rattle.history_laws.proofs.messages.OfCalls.{items_are_of_calls}
 use Rattle.link_laws.specs.transfer_calls.Heard.{ComesFrom}
 use Rattle.link_laws.specs.transfer_calls.Transfers.{IsTransferCall}
-use Rattle.link_laws.specs.world.Turns.{ServerTakes}
+use Rattle.link_laws.specs.world.Hearing.{ServerTakes}
 use Rattle.link_laws.specs.world.World.{Setup, packets_flushed}
 use Rattle.link_laws.specs.okay_means_bytes.Okay.{IsDemo}
 use Rattle.link_laws.proofs.okay_means_bytes.Items.{Known, KnownAct, KnownItem}
@@ -228,7 +228,7 @@ module _ (k : Setup) (demo : IsDemo k) (server client : List Entry) (legal : IsL
           subst (λ o. IsIn (Say p.payload) (if is_for c o then act_outs item.act else [])) (sym call)
           (subst (λ b. IsIn (Say p.payload) (if b then act_outs item.act else [])) (sym (eq-eqb c c refl))
           (subst (λ x. IsIn (Say p.payload) (act_outs x)) (sym act)
-          (subst (λ y. IsIn (Say p.payload) (message_in y p.payload)) (sym type) (inl refl))))
+          (subst (λ y. IsIn (Say p.payload) (streamed_out y p.payload)) (sym type) (inl refl))))
 
   -- a call with the ids of a transfer method
   pub transfer_call : (name : List ℕ) (c : ℕ) (o : Opening) → call_at (history k.server server) c ≡ Some o → o.name.service ≡ transfer_id → o.name.method ≡ name_id name

@@ -35,9 +35,9 @@ use Rattle.transfer_laws.specs.words.Tasks.{HasToldOkay}
 use Rattle.link_laws.specs.world.Client.{ClientSettles, ClientTakes}
 use Rattle.link_laws.specs.world.Lines.{finished}
 use Rattle.link_laws.specs.world.Sound.{IsSound}
-use Rattle.link_laws.specs.world.Starts.{Started, all_added, left_length, live_transfers, message_kinds, next_name, opens_with, request, starts, starts_plain, starts_write, transfer_by}
-use Rattle.link_laws.specs.world.Turns.{Asks, Cancels, ClientHears, Closes, MakesTurn, ServerHears, StartTurn, TimePasses, Turn, TurnOf, Turns, closed_by, ended_under, kind_by, later, next_kind, starting, task_of, task_under, under_with, with_command, with_frame_at_client, with_frame_at_server, with_task}
-use Rattle.link_laws.specs.world.World.{Plain, Setup, Tasked, Transfer, Under, World, calling, chat, client_deeds, client_store, closing, count as plain_count, echo, first_world, lacking, moment, packets_flushed, reads, sum, transferring, with_client, with_server, writes}
+use Rattle.link_laws.specs.world.Starts.{Started, all_added, left_length, live_transfers, message_kinds, next_name, opens_with, request, starts, starts_plain, starts_write, transfer_by, Asks, Closes, StartTurn, closed_by, with_command, ended_by_close}
+use Rattle.link_laws.specs.world.Turns.{Cancels, ClientHears, MakesTurn, ServerHears, TimePasses, Turn, TurnOf, Turns, kind_by, later, next_kind, starting, with_frame_at_client, with_frame_at_server}
+use Rattle.link_laws.specs.world.World.{task_of, task_under, under_with, with_task, Plain, Setup, Tasked, Transfer, Under, World, calling, chat, client_deeds, client_store, closing, count as plain_count, echo, first_world, lacking, moment, packets_flushed, reads, sum, transferring, with_client, with_server, writes, server_deeds}
 use Rattle.link_laws.proofs.one_run.Growing.{GoesOnWith, all_added_go, begins, client_opened_goes, client_settles_goes, client_takes_goes, goes_then, opened_goes, server_takes_goes, settles_goes}
 use Rattle.link_laws.proofs.one_run.Parts.{client_keeps, finished_client, finished_server, server_keeps, starts_quiet}
 use Rattle.link_laws.specs.okay_means_bytes.Okay.{FitsStart, FitsTask, FitsTransfer, IsDemo, LinesHoldFrom, NextFits, OnTheWay}
@@ -141,8 +141,8 @@ module _ (k : Setup) (commands : List Command) (demo : IsDemo k) where
   server_hears w now frame rest t =
       let b : World = with_frame_at_server w frame rest in
       stepped w (with_server k b t.after) now t.after w.client w.sessions w.under t.is (server_at k b t.after)
-      (begins w.server t.hears.packets t.after (server_takes_goes k.rule k.server t.hears.packets w.server t.after t.hears.takes)) (same_prefix w.client)
-      (λ legal well sound i. (takes_serves k.rule k.server t.hears.packets w.server t.after t.hears.takes i.serves, i.side, i.out))
+      (begins w.server t.hears.packets t.after (server_takes_goes k.rule k.server t.hears.packets w.server t.after t.hears.holds)) (same_prefix w.client)
+      (λ legal well sound i. (takes_serves k.rule k.server t.hears.packets w.server t.after t.hears.holds i.serves, i.side, i.out))
 
   -- no task speaks, and what quiet entries keep is kept
   module _ (P : List Entry → Type 0) (keep : (h : List Entry) (seat : ℕ) (kind : EntryKind) → Quiet (history k.client h) kind → P h → P (adding h seat kind)) where
@@ -227,7 +227,7 @@ module _ (k : Setup) (commands : List Command) (demo : IsDemo k) where
   client_hears : (w now : World) (frame : List ℕ) (rest : List (List ℕ)) → ClientHears k w frame rest now → Steps w now
   client_hears w now frame rest t =
       let b : World = with_task t.task (with_frame_at_client w frame rest) in
-      let goes : GoesOnWith w.client t.hears.packets t.after = client_takes_goes k.client (moment w) t.hears.packets w.client (task_of w) t.after t.task t.hears.takes in
+      let goes : GoesOnWith w.client t.hears.packets t.after = client_takes_goes k.client (moment w) t.hears.packets w.client (task_of w) t.after t.task t.hears.holds in
       let at = client_at k b t.after in
       let now_server : now.server ≡ w.server = ap (λ x. x.server) t.is ∙ (finished_server k (with_client k b t.after) ∙ at.server_is) in
       let now_client : now.client ≡ t.after = ap (λ x. x.client) t.is ∙ (finished_client k (with_client k b t.after) ∙ at.client_is) in
@@ -236,8 +236,8 @@ module _ (k : Setup) (commands : List Command) (demo : IsDemo k) where
         i.serves,
         takes_side w legal well i (moment w) t.hears.packets t.after t.task
             (λ p is. subst (λ h. IsIn p (packets_flushed k.server h)) now_server
-            (came_down k now sound p (subst (λ h. IsIn p (arrivals h)) (sym now_client) (subst (IsIn p) (sym goes.arrived) (in_back p (arrivals w.client) t.hears.packets is))))) w.under i.side t.hears.takes,
-        takes_out (moment w) t.hears.packets w.client (task_of w) t.after t.task t.hears.takes i.out,
+            (came_down k now sound p (subst (λ h. IsIn p (arrivals h)) (sym now_client) (subst (IsIn p) (sym goes.arrived) (in_back p (arrivals w.client) t.hears.packets is))))) w.under i.side t.hears.holds,
+        takes_out (moment w) t.hears.packets w.client (task_of w) t.after t.task t.hears.holds i.out,
       ))
 
   -- Time passes.
@@ -272,8 +272,8 @@ module _ (k : Setup) (commands : List Command) (demo : IsDemo k) where
   closes w now channel rest t =
       let s : Started = starts k w (Close channel) in
       let b : World = with_command w rest s in
-      stepped w (with_server k b t.after) now t.after w.client w.sessions (Some s.under) t.is (server_at k b t.after) (goes_on (ended_under s.under) t.settles) (same_prefix w.client)
-      (λ legal well sound i. (closed_serves (ended_under s.under) t.settles i.serves, idle k commands demo w.client w.sessions (length w.lines) w.under i.side, i.out))
+      stepped w (with_server k b t.after) now t.after w.client w.sessions (Some s.under) t.is (server_at k b t.after) (goes_on (ended_by_close k.server (server_deeds k w) channel) t.settles) (same_prefix w.client)
+      (λ legal well sound i. (closed_serves (ended_by_close k.server (server_deeds k w) channel) t.settles i.serves, idle k commands demo w.client w.sessions (length w.lines) w.under i.side, i.out))
     where
       goes_on : (ended : Option ℕ) → Settles k.rule k.server (closed_by channel ended w.server) t.after → IsPrefix w.server t.after
       goes_on None settles = begins w.server [] t.after (settles_goes k.rule k.server w.server t.after settles)

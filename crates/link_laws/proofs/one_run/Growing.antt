@@ -20,7 +20,7 @@ use Rattle.rpc_schedule.proofs.ScheduleLemmas.{entries_of}
 use Rattle.link_laws.specs.world.Client.{ClientSettles, ClientTakes, FlushesTo, RunsTo, all_said_in, said_in, task_said, task_says}
 use Rattle.link_laws.specs.world.Setup.{quiet_rule}
 use Rattle.link_laws.specs.world.Starts.{all_added}
-use Rattle.link_laws.specs.world.Turns.{ServerTakes}
+use Rattle.link_laws.specs.world.Hearing.{ServerTakes}
 use Rattle.link_laws.specs.world.World.{Tasked}
 
 -- the entries go on, and just these packets have arrived

@@ -9,14 +9,20 @@ use Rattle.rpc_ids.specs.declared.method.Role.TheVariants.{Server, Client}
 use Rattle.rpc_packet.specs.declared.owned.Packet.{Packet}
 use Rattle.link_laws.specs.world.Lines.{command_ended, finished, is_still, line_of, with_line, with_released}
 use Rattle.link_laws.specs.world.Sound.{NoFlips}
-use Rattle.link_laws.specs.world.World.{Setup, Under, World, all_sent_by, sent_by}
+use Rattle.link_laws.specs.world.Wiring.{with_sent}
+use Rattle.link_laws.specs.world.World.{Setup, Under, World, all_sent_by, wiring_of, with_wiring}
 use Rattle.link_laws.proofs.one_run.Links.{IsCarrying, no_flip, put_carries}
+
+-- a packet goes out at this end
+abbrev pub sent_by : Setup → Role → World → Packet → World
+sent_by k role w p = with_wiring (with_sent role (wiring_of k w) p) w
 
 module _ (k : Setup) {A : Type 0} (f : World → A) where
   -- what each packet that goes out leaves as it is, all leave so
   pub sends_keep : (role : Role) → ((v : World) (p : Packet) → f (sent_by k role v p) ≡ f v) → (ps : List Packet) (w : World) → f (all_sent_by k role ps w) ≡ f w
   sends_keep role each [] w = refl
-  sends_keep role each (p ∷ ps) w = sends_keep role each ps (sent_by k role w p) ∙ each w p
+  sends_keep Server each (p ∷ ps) w = sends_keep Server each ps (sent_by k Server w p) ∙ each w p
+  sends_keep Client each (p ∷ ps) w = sends_keep Client each ps (sent_by k Client w p) ∙ each w p
 
   line_keeps : ((v : World) (lines : List ReportLine) → f (record v { under = None; lines = lines }) ≡ f v) → (o : Option ReportLine) (v : World) → f (with_line v o) ≡ f v
   line_keeps each None v = refl

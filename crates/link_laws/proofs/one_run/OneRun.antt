@@ -11,10 +11,11 @@ use Rattle.rpc_journal.specs.History.{adding}
 use Rattle.rpc_schedule.specs.Schedule.{flush_seat, input_seat, run_seat}
 use Rattle.rpc_schedule.proofs.ScheduleLemmas.{settles_same}
 use Rattle.link_laws.specs.world.Lines.{finished}
-use Rattle.link_laws.specs.world.Starts.{Started, all_added, starts}
-use Rattle.link_laws.specs.world.Turns.{Asks, Cancels, ClientHears, Closes, Ends, Kind, ServerHears, ServerTakes, StartTurn, TimePasses, Turn, TurnOf, Turns, cancelling, closed_by, ended_under, ending, later, next_kind, starting, task_of, task_under, timing, to_client, to_server, with_command, with_frame_at_client, with_frame_at_server, with_task}
+use Rattle.link_laws.specs.world.Starts.{Started, all_added, starts, Asks, Closes, StartTurn, closed_by, with_command, ended_by_close}
+use Rattle.link_laws.specs.world.Turns.{Cancels, ClientHears, Ends, Kind, ServerHears, TimePasses, Turn, TurnOf, Turns, cancelling, ending, later, next_kind, starting, timing, to_client, to_server, with_frame_at_client, with_frame_at_server}
+use Rattle.link_laws.specs.world.Hearing.{ServerTakes}
+use Rattle.link_laws.specs.world.World.{task_of, task_under, with_task, Setup, World, first_world, moment, with_client, with_server, server_deeds}
 use Rattle.link_laws.specs.world.Client.{ClientTakes}
-use Rattle.link_laws.specs.world.World.{Setup, World, first_world, moment, with_client, with_server}
 use Rattle.link_laws.specs.declared.world.limits.TheConstants.{MAX_DELIVERIES}
 use Rattle.link_laws.specs.one_run.OneRun.{RunsAreOne, RunsStayWithin, TurnsAreOne}
 use Rattle.link_laws.proofs.one_run.OneWork.{client_settles_same, client_takes_same, server_takes_same}
@@ -33,7 +34,7 @@ module _ (k : Setup) (ruled : IsTrue k.rule.ruled) (w a b : World) where
       let heard : x.hears.packets ≡ y.hears.packets = heard_same (heard_packets Server w.fed_server) (heard_packets Server (w.fed_server ++ frame)) x.hears.packets y.hears.packets x.hears.heard y.hears.heard in
       x.is
       ∙ (ap (λ h. finished k (with_server k (with_frame_at_server w frame rest) h))
-      (server_takes_same k.rule k.server ruled x.hears.packets w.server x.after y.after x.hears.takes (subst (λ ps. ServerTakes k.rule k.server ps w.server y.after) (sym heard) y.hears.takes))
+      (server_takes_same k.rule k.server ruled x.hears.packets w.server x.after y.after x.hears.holds (subst (λ ps. ServerTakes k.rule k.server ps w.server y.after) (sym heard) y.hears.holds))
       ∙ sym y.is)
 
   client_hears_same : (frame : List ℕ) (rest : List (List ℕ)) → ClientHears k w frame rest a → ClientHears k w frame rest b → a ≡ b
@@ -41,8 +42,8 @@ module _ (k : Setup) (ruled : IsTrue k.rule.ruled) (w a b : World) where
       let heard : x.hears.packets ≡ y.hears.packets = heard_same (heard_packets Client w.fed_client) (heard_packets Client (w.fed_client ++ frame)) x.hears.packets y.hears.packets x.hears.heard y.hears.heard in
       x.is
       ∙ (both_same (λ h t. finished k (with_client k (with_task t (with_frame_at_client w frame rest)) h))
-      (client_takes_same k.client (moment w) x.hears.packets w.client (task_of w) x.after y.after x.task y.task x.hears.takes
-      (subst (λ ps. ClientTakes k.client (moment w) ps w.client (task_of w) y.after y.task) (sym heard) y.hears.takes))
+      (client_takes_same k.client (moment w) x.hears.packets w.client (task_of w) x.after y.after x.task y.task x.hears.holds
+      (subst (λ ps. ClientTakes k.client (moment w) ps w.client (task_of w) y.after y.task) (sym heard) y.hears.holds))
       ∙ sym y.is)
 
   asks_same : (command : Command) (rest : List Command) → Asks k w command rest a → Asks k w command rest b → a ≡ b
@@ -58,7 +59,7 @@ module _ (k : Setup) (ruled : IsTrue k.rule.ruled) (w a b : World) where
       let s : Started = starts k w (Close channel) in
       x.is
       ∙ (ap (λ h. finished k (with_server k (with_command w rest s) h))
-      (settles_same k.rule k.server ruled (closed_by channel (ended_under s.under) w.server) (closed_by channel (ended_under s.under) w.server) x.after y.after refl x.settles y.settles)
+      (settles_same k.rule k.server ruled (closed_by channel (ended_by_close k.server (server_deeds k w) channel) w.server) (closed_by channel (ended_by_close k.server (server_deeds k w) channel) w.server) x.after y.after refl x.settles y.settles)
       ∙ sym y.is)
 
   starts_same : (command : Command) (rest : List Command) → StartTurn k w command rest a → StartTurn k w command rest b → a ≡ b

@@ -12,7 +12,7 @@ use Rattle.rpc_schedule.specs.Schedule.{NoneWaits, input_seat, next_item}
 use Rattle.rpc_schedule.proofs.ScheduleLemmas.{waits_and_not, ran_same, settles_same}
 use Rattle.link_laws.specs.world.Client.{ClientSettles, ClientTakes, FlushesTo, RunsTo, task_after, task_said}
 use Rattle.link_laws.specs.world.Setup.{quiet_rule}
-use Rattle.link_laws.specs.world.Turns.{ServerTakes}
+use Rattle.link_laws.specs.world.Hearing.{ServerTakes}
 use Rattle.link_laws.specs.world.World.{Tasked}
 
 module _ (rule : HandlerRule) (set : Setting) (ruled : IsTrue rule.ruled) where

@@ -23,12 +23,12 @@ use Rattle.rpc_journal.specs.Items.{arrivals, items_flushed, packet_of, packets_
 use Rattle.rpc_journal.proofs.ItemLemmas.{flushed_begin}
 use Rattle.rpc_schedule.specs.Schedule.{Settles, flush_seat, run_seat}
 use Rattle.link_laws.specs.world.Lines.{finished}
-use Rattle.link_laws.specs.world.Starts.{Started, all_added, starts}
-use Rattle.link_laws.specs.world.Turns.{Asks, Cancels, ClientHears, Closes, ServerHears, StartTurn, TimePasses, Turn, TurnOf, Turns, closed_by, ended_under, ending, kind_by, later, next_kind, task_of, task_under, with_command, with_frame_at_client, with_frame_at_server, with_task}
-use Rattle.link_laws.specs.world.World.{Setup, Under, World, all_sent_by, calling, closing, first_world, flushed_since, lacking, moment, packets_flushed, sent_by, transferring, with_client, with_server}
+use Rattle.link_laws.specs.world.Starts.{Started, all_added, starts, Asks, Closes, StartTurn, closed_by, with_command, ended_by_close}
+use Rattle.link_laws.specs.world.Turns.{Cancels, ClientHears, ServerHears, TimePasses, Turn, TurnOf, Turns, ending, kind_by, later, next_kind, with_frame_at_client, with_frame_at_server}
+use Rattle.link_laws.specs.world.World.{task_of, task_under, with_task, Setup, Under, World, all_sent_by, calling, closing, first_world, flushed_since, lacking, moment, packets_flushed, transferring, with_client, with_server, server_deeds}
+use Rattle.link_laws.proofs.one_run.Keeping.{sent_by, down_behind, finish_keeps, up_behind}
 use Rattle.link_laws.specs.one_run.InOrder.{HasAllArrived, NothingIsLost}
 use Rattle.link_laws.proofs.one_run.Growing.{GoesOnWith, all_added_go, begins, client_opened_goes, client_settles_goes, client_takes_goes, goes_then, opened_goes, server_takes_goes, settles_goes}
-use Rattle.link_laws.proofs.one_run.Keeping.{down_behind, finish_keeps, up_behind}
 use Rattle.link_laws.proofs.one_run.Links.{all_back, frame_of}
 use Rattle.link_laws.proofs.one_run.Parts.{GoesOn, client_keeps, closed_by_front, finished_client, finished_server, flushed_before, heard_front, ends_on, on_to, server_keeps, starts_quiet, then_on}
 
@@ -211,7 +211,7 @@ module _ (k : Setup) (calm : k.losses ≡ []) where
 
   server_hears : (w now : World) (frame : List ℕ) (rest : List (List ℕ)) → w.to_server.frames ≡ frame ∷ rest → ServerHears k w frame rest now → Keeps w now
   server_hears w now frame rest front t =
-      server_worked w (with_frame_at_server w frame rest) t.hears.packets t.after now (server_takes_goes k.rule k.server t.hears.packets w.server t.after t.hears.takes) t.is refl refl came
+      server_worked w (with_frame_at_server w frame rest) t.hears.packets t.after now (server_takes_goes k.rule k.server t.hears.packets w.server t.after t.hears.holds) t.is refl refl came
     where
       came : Fits k w → Ordered w → IsOrdered k (arrivals w.server ++ t.hears.packets) (arrivals w.client) (with_frame_at_server w frame rest)
       came fits o =
@@ -233,7 +233,7 @@ module _ (k : Setup) (calm : k.losses ≡ []) where
   client_hears : (w now : World) (frame : List ℕ) (rest : List (List ℕ)) → w.to_client.frames ≡ frame ∷ rest → ClientHears k w frame rest now → Keeps w now
   client_hears w now frame rest front t =
       client_worked w (with_task t.task (with_frame_at_client w frame rest)) t.hears.packets t.after now
-      (client_takes_goes k.client (moment w) t.hears.packets w.client (task_of w) t.after t.task t.hears.takes) t.is refl refl came
+      (client_takes_goes k.client (moment w) t.hears.packets w.client (task_of w) t.after t.task t.hears.holds) t.is refl refl came
     where
       came : Fits k w → Ordered w → IsOrdered k (arrivals w.server) (arrivals w.client ++ t.hears.packets) (with_task t.task (with_frame_at_client w frame rest))
       came fits o =
@@ -291,7 +291,7 @@ module _ (k : Setup) (calm : k.losses ≡ []) where
   closes : (w now : World) (channel : ℕ) (rest : List Command) → Closes k w channel rest now → Keeps w now
   closes w now channel rest t =
       let s : Started = starts k w (Close channel) in
-      server_worked w (with_command w rest s) [] t.after now (goes (ended_under s.under) t.settles)
+      server_worked w (with_command w rest s) [] t.after now (goes (ended_by_close k.server (server_deeds k w) channel) t.settles)
       t.is refl refl (λ fits o. none_up w (with_command w rest s) refl refl refl refl refl refl o)
     where
       goes : (ended : Option ℕ) → Settles k.rule k.server (closed_by channel ended w.server) t.after → GoesOnWith w.server [] t.after

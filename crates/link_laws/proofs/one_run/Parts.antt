@@ -33,9 +33,9 @@ use Rattle.transfer_client.specs.Read.{new_download}
 use Rattle.transfer_client.specs.Write.{new_upload}
 use Rattle.link_laws.specs.world.Starts.{left_length, live_transfers, next_name, request, starts, starts_write, transfer_by}
 use Rattle.link_laws.specs.world.Turns.{Ends}
-use Rattle.link_laws.specs.world.World.{Setup, Transfer, World, client_deeds, client_store, flushed_since, moment, packets_flushed, reads, sent_by, writes, with_client, with_server}
+use Rattle.link_laws.specs.world.World.{Setup, Transfer, World, client_deeds, client_store, flushed_since, moment, packets_flushed, reads, writes, with_client, with_server}
+use Rattle.link_laws.proofs.one_run.Keeping.{sent_by, finish_keeps, sends_keep}
 use Rattle.link_laws.proofs.one_run.Growing.{AreQuiet, begins, client_opened_goes, opened_goes}
-use Rattle.link_laws.proofs.one_run.Keeping.{finish_keeps, sends_keep}
 use Rattle.link_laws.proofs.one_run.Links.{all_back, all_front, frame_of}
 
 -- what holds of all packets that were flushed holds of those flushed in a beginning

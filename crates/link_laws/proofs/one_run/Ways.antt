@@ -17,9 +17,9 @@ use Rattle.rpc_journal.specs.Items.{arrivals}
 use Rattle.rpc_schedule.specs.Schedule.{Settles, flush_seat, input_seat, run_seat}
 use Rattle.link_laws.specs.world.Lines.{finished}
 use Rattle.link_laws.specs.world.Sound.{AreSendable, IsSound, NoFlips, SoundWithoutFlips}
-use Rattle.link_laws.specs.world.Starts.{Started, all_added, starts}
-use Rattle.link_laws.specs.world.Turns.{Asks, Cancels, ClientHears, Closes, Ends, ServerHears, StartTurn, TimePasses, Turn, TurnOf, Turned, Turns, closed_by, ended_under, kind_by, later, task_of, task_under, with_command, with_frame_at_client, with_frame_at_server, with_task}
-use Rattle.link_laws.specs.world.World.{Setup, Under, World, calling, closing, first_world, flushed_since, lacking, moment, packets_flushed, transferring, with_client, with_server}
+use Rattle.link_laws.specs.world.Starts.{Started, all_added, starts, Asks, Closes, StartTurn, closed_by, with_command, ended_by_close}
+use Rattle.link_laws.specs.world.Turns.{Cancels, ClientHears, Ends, ServerHears, TimePasses, Turn, TurnOf, Turned, Turns, kind_by, later, with_frame_at_client, with_frame_at_server}
+use Rattle.link_laws.specs.world.World.{task_of, task_under, with_task, Setup, Under, World, calling, closing, first_world, flushed_since, lacking, moment, packets_flushed, transferring, with_client, with_server, server_deeds}
 use Rattle.link_laws.proofs.one_run.Growing.{GoesOnWith, all_added_go, begins, client_opened_goes, client_settles_goes, client_takes_goes, goes_then, opened_goes, server_takes_goes, settles_goes}
 use Rattle.link_laws.proofs.one_run.Parts.{GoesOn, client_keeps, closed_by_front, finished_client, finished_server, flushed_before, flushed_later, heard_front, on_to, server_keeps, starts_quiet, then_on}
 use Rattle.link_laws.proofs.one_run.Keeping.{client_sends, down_behind, finish_keeps, server_sends, up_behind}
@@ -132,7 +132,7 @@ module _ (k : Setup) (calm : NoFlips k.losses) (up down : List Packet) (up_fits 
 
   server_hears : (w now : World) (frame : List ℕ) (rest : List (List ℕ)) → w.to_server.frames ≡ frame ∷ rest → ServerHears k w frame rest now → Carries w now
   server_hears w now frame rest front t =
-      server_worked w (with_frame_at_server w frame rest) t.hears.packets t.after now (server_takes_goes k.rule k.server t.hears.packets w.server t.after t.hears.takes) t.is refl before came
+      server_worked w (with_frame_at_server w frame rest) t.hears.packets t.after now (server_takes_goes k.rule k.server t.hears.packets w.server t.after t.hears.holds) t.is refl before came
     where
       first : AreWays up down w → IsFront up w.to_server frame rest
       first ways = front_of up w.to_server frame rest front ways.to_server
@@ -158,7 +158,7 @@ module _ (k : Setup) (calm : NoFlips k.losses) (up down : List Packet) (up_fits 
   client_hears : (w now : World) (frame : List ℕ) (rest : List (List ℕ)) → w.to_client.frames ≡ frame ∷ rest → ClientHears k w frame rest now → Carries w now
   client_hears w now frame rest front t =
       client_worked w (with_task t.task (with_frame_at_client w frame rest)) t.hears.packets t.after now
-      (client_takes_goes k.client (moment w) t.hears.packets w.client (task_of w) t.after t.task t.hears.takes) t.is refl before came
+      (client_takes_goes k.client (moment w) t.hears.packets w.client (task_of w) t.after t.task t.hears.holds) t.is refl before came
     where
       first : AreWays up down w → IsFront down w.to_client frame rest
       first ways = front_of down w.to_client frame rest front ways.to_client
@@ -193,7 +193,7 @@ module _ (k : Setup) (calm : NoFlips k.losses) (up down : List Packet) (up_fits 
   closes : (w now : World) (channel : ℕ) (rest : List Command) → Closes k w channel rest now → Carries w now
   closes w now channel rest t =
       let s : Started = starts k w (Close channel) in
-      server_worked w (with_command w rest s) [] t.after now (goes (ended_under s.under) t.settles)
+      server_worked w (with_command w rest s) [] t.after now (goes (ended_by_close k.server (server_deeds k w) channel) t.settles)
       t.is refl (λ ways. same_ways w (with_command w rest s) refl refl refl refl refl refl ways) (λ ways. tt)
     where
       goes : (ended : Option ℕ) → Settles k.rule k.server (closed_by channel ended w.server) t.after → GoesOnWith w.server [] t.after

@@ -23,8 +23,9 @@ use Rattle.history_laws.proofs.messages.Members.{all_join}
 use Rattle.link_laws.specs.world.Client.{ClientSettles, ClientTakes}
 use Rattle.link_laws.specs.world.Lines.{finished, plain_line, with_line}
 use Rattle.link_laws.specs.world.Setup.{quiet_rule}
-use Rattle.link_laws.specs.world.Turns.{Cancels, ClientHears, ServerHears, ServerTakes, task_of, task_under, with_frame_at_client, with_frame_at_server, with_task}
-use Rattle.link_laws.specs.world.World.{Plain, Setup, Tasked, Under, World, calling, client_deeds, flushed_since, moment, packets_flushed, server_deeds, with_client, with_server}
+use Rattle.link_laws.specs.world.Turns.{Cancels, ClientHears, ServerHears, with_frame_at_client, with_frame_at_server}
+use Rattle.link_laws.specs.world.Hearing.{ServerTakes}
+use Rattle.link_laws.specs.world.World.{task_of, task_under, with_task, Plain, Setup, Tasked, Under, World, calling, client_deeds, flushed_since, moment, packets_flushed, server_deeds, with_client, with_server}
 use Rattle.link_laws.proofs.one_run.Links.{frame_of}
 use Rattle.link_laws.proofs.one_run.Parts.{client_keeps, closed_by_front, finished_client, finished_server, flushed_later, heard_front, server_keeps}
 use Rattle.link_laws.specs.plain_calls.Between.{AreUpTo, HasChannel, MayTransfer}
@@ -321,7 +322,7 @@ module _ (k : Setup) (fits : Side → Book → Type 0) (n : ℕ) (base : List Pa
         let v : World = with_frame_at_server w frame rest in
         let y : World = with_server k v t.after in
         let heard : t.hears.packets ≡ old.packet ∷ [] = heard_front Server w.fed_server frame old.packet t.hears.packets fit.0 x.fed_server old.is t.hears.heard in
-        let takes : ServerTakes k.rule k.server (old.packet ∷ []) w.server t.after = subst (λ ps. ServerTakes k.rule k.server ps w.server t.after) heard t.hears.takes in
+        let takes : ServerTakes k.rule k.server (old.packet ∷ []) w.server t.after = subst (λ ps. ServerTakes k.rule k.server ps w.server t.after) heard t.hears.holds in
         let begun : List Entry = adding w.server input_seat (Arrive old.packet) in
         let first : IsBeside (plain_name n) k.rule k.server (history k.server w.server) (history k.server begun) = adding_beside (plain_name n) k.rule k.server w.server input_seat (Arrive old.packet) plain.0 in
         let settled : IsBeside (plain_name n) k.rule k.server (history k.server begun) (history k.server takes.0) =
@@ -330,7 +331,7 @@ module _ (k : Setup) (fits : Side → Book → Type 0) (n : ℕ) (base : List Pa
         subst (λ h. IsBeside (plain_name n) k.rule k.server (history k.server w.server) (history k.server h)) (sym takes.2)
         (beside_then (plain_name n) k.rule k.server (history k.server w.server) (history k.server begun) (history k.server takes.0) first settled) in
         let server_is : now.server ≡ t.after = ap (λ z. z.server) t.is ∙ (finished_server k y ∙ server_keeps k (λ z. z.server) (λ z p. refl) v t.after) in
-        let rested : IsAtRest (history k.server t.after) = server_takes_rest k.server k.rule t.hears.packets w.server t.after t.hears.takes (subst (IsLawful k.server) server_is good.server) x.server in
+        let rested : IsAtRest (history k.server t.after) = server_takes_rest k.server k.rule t.hears.packets w.server t.after t.hears.holds (subst (IsLawful k.server) server_is good.server) x.server in
         let sent : AllByRecursion (IsSendable Client) (flushed_since k.server w.server t.after) =
         flushed_later (IsSendable Client) k.server w.server t.after (subst (λ h. AllByRecursion (IsSendable Client) (packets_flushed k.server h)) server_is good.heard.server) in
         let delivered : Stands v = record {
@@ -377,7 +378,7 @@ module _ (k : Setup) (fits : Side → Book → Type 0) (n : ℕ) (base : List Pa
         let fit : AllByRecursion (IsSendable Client) (old.packet ∷ old.others) = subst (AllByRecursion (IsSendable Client)) old.are x.down_heard in
         let v : World = with_frame_at_client w frame rest in
         let heard : t.hears.packets ≡ old.packet ∷ [] = heard_front Client w.fed_client frame old.packet t.hears.packets fit.0 x.fed_client old.is t.hears.heard in
-        let untasked : ClientTakes k.client (moment w) t.hears.packets w.client None t.after t.task = subst (λ task. ClientTakes k.client (moment w) t.hears.packets w.client task t.after t.task) (no_task w c.goes.command) t.hears.takes in
+        let untasked : ClientTakes k.client (moment w) t.hears.packets w.client None t.after t.task = subst (λ task. ClientTakes k.client (moment w) t.hears.packets w.client task t.after t.task) (no_task w c.goes.command) t.hears.holds in
         let takes : ClientTakes k.client (moment w) (old.packet ∷ []) w.client None t.after t.task = subst (λ ps. ClientTakes k.client (moment w) ps w.client None t.after t.task) heard untasked in
         let begun : List Entry = adding w.client input_seat (Arrive old.packet) in
         let settles : ClientSettles k.client (moment w) begun None takes.0 takes.1 = takes.2 in

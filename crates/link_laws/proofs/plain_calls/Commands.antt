@@ -37,9 +37,9 @@ use Rattle.link_laws.specs.world.Client.{ClientSettles}
 use Rattle.link_laws.specs.world.Lines.{finished, plain_line}
 use Rattle.link_laws.specs.world.Setup.{client_setting, quiet_rule}
 use Rattle.link_laws.specs.world.Sound.{NoFlips}
-use Rattle.link_laws.specs.world.Starts.{Started, all_added, message_kinds, next_name, request, starts, starts_plain, starts_write, unasked}
-use Rattle.link_laws.specs.world.Turns.{MakesTurn, TurnOf, Turns, ending, kind_at_rest, kind_by, next_kind, starting, task_under, with_command, with_task}
-use Rattle.link_laws.specs.world.World.{Plain, Setup, Tasked, Under, World, calling, client_deeds, client_store, closing, flushed_since, lacking, moment, packets_flushed, server_deeds, transferring, with_client, echo, count as counting, sum, chat}
+use Rattle.link_laws.specs.world.Starts.{Started, all_added, message_kinds, next_name, request, starts, starts_plain, starts_write, unasked, with_command}
+use Rattle.link_laws.specs.world.Turns.{MakesTurn, TurnOf, Turns, ending, kind_at_rest, kind_by, next_kind, starting}
+use Rattle.link_laws.specs.world.World.{task_under, with_task, Plain, Setup, Tasked, Under, World, calling, client_deeds, client_store, closing, flushed_since, lacking, moment, packets_flushed, server_deeds, transferring, with_client, echo, count as counting, sum, chat}
 use Rattle.link_laws.proofs.one_run.Links.{frame_of}
 use Rattle.link_laws.proofs.one_run.Parts.{GoesOn, client_keeps, finished_client, flushed_before, flushed_later}
 use Rattle.rpc_journal.specs.Lawful.{IsLawful}

@@ -43,9 +43,10 @@ use Rattle.history_laws.proofs.rounds.RestLemmas.{settled_is_at_rest}
 use Rattle.link_laws.specs.world.Client.{ClientTakes}
 use Rattle.link_laws.specs.world.Lines.{finished}
 use Rattle.link_laws.specs.world.Sound.{NoFlips}
-use Rattle.link_laws.specs.world.Starts.{Started, all_added, left_length, live_transfers, next_name, request, starts, starts_write, transfer_by}
-use Rattle.link_laws.specs.world.Turns.{Asks, Cancels, ClientHears, Closes, ServerHears, ServerTakes, StartTurn, TimePasses, Turn, TurnOf, Turns, closed_by, ended_under, kind_by, later, task_of, task_under, with_command, with_frame_at_client, with_frame_at_server, with_task}
-use Rattle.link_laws.specs.world.World.{Setup, Tasked, Transfer, Under, World, calling, client_deeds, client_store, closing, first_world, lacking, moment, reads, transferring, with_client, with_server, writes}
+use Rattle.link_laws.specs.world.Starts.{Started, all_added, left_length, live_transfers, next_name, request, starts, starts_write, transfer_by, Asks, Closes, StartTurn, closed_by, with_command, ended_by_close}
+use Rattle.link_laws.specs.world.Turns.{Cancels, ClientHears, ServerHears, TimePasses, Turn, TurnOf, Turns, kind_by, later, with_frame_at_client, with_frame_at_server}
+use Rattle.link_laws.specs.world.Hearing.{ServerTakes}
+use Rattle.link_laws.specs.world.World.{task_of, task_under, with_task, Setup, Tasked, Transfer, Under, World, calling, client_deeds, client_store, closing, first_world, lacking, moment, reads, transferring, with_client, with_server, writes, server_deeds}
 use Rattle.link_laws.proofs.one_run.Growing.{begins, client_takes_goes, server_takes_goes}
 use Rattle.link_laws.proofs.one_run.Parts.{GoesOn, client_keeps, finished_client, finished_server, server_keeps}
 use Rattle.link_laws.proofs.one_run.Ways.{turns_go_on}
@@ -344,12 +345,12 @@ module _ (k : Setup) where
 
   server_hears : (w now : World) (frame : List ℕ) (rest : List (List ℕ)) → ServerHears k w frame rest now → LawfulOf now → RestOf w → RestOf now
   server_hears w now frame rest t lawful x =
-      server_worked (with_frame_at_server w frame rest) t.after now t.is lawful (λ fits. server_takes_rest k.server k.rule t.hears.packets w.server t.after t.hears.takes fits x.server) x.client
+      server_worked (with_frame_at_server w frame rest) t.after now t.is lawful (λ fits. server_takes_rest k.server k.rule t.hears.packets w.server t.after t.hears.holds fits x.server) x.client
 
   client_hears : (w now : World) (frame : List ℕ) (rest : List (List ℕ)) → ClientHears k w frame rest now → LawfulOf now → RestOf w → RestOf now
   client_hears w now frame rest t lawful x =
       client_worked (with_task t.task (with_frame_at_client w frame rest)) t.after now t.is lawful
-      (λ fits. client_takes_rest k.client (moment w) t.hears.packets w.client (task_of w) t.after t.task t.hears.takes fits x.client) x.server
+      (λ fits. client_takes_rest k.client (moment w) t.hears.packets w.client (task_of w) t.after t.task t.hears.holds fits x.client) x.server
 
   asks : (w now : World) (command : Command) (rest : List Command) → Asks k w command rest now → LawfulOf now → RestOf w → RestOf now
   asks w now command rest t lawful x =
@@ -361,7 +362,7 @@ module _ (k : Setup) where
   closes : (w now : World) (channel : ℕ) (rest : List Command) → Closes k w channel rest now → LawfulOf now → RestOf w → RestOf now
   closes w now channel rest t lawful x =
       let s : Started = starts k w (Close channel) in
-      server_worked (with_command w rest s) t.after now t.is lawful (λ fits. at (ended_under s.under) t.settles fits) x.client
+      server_worked (with_command w rest s) t.after now t.is lawful (λ fits. at (ended_by_close k.server (server_deeds k w) channel) t.settles fits) x.client
     where
       at : (ended : Option ℕ) → Settles k.rule k.server (closed_by channel ended w.server) t.after → IsLawful k.server t.after → IsAtRest (history k.server t.after)
       at None settles fits = settled_is_at_rest k.rule k.server w.server t.after x.server.idle x.server.unhalted settles fits

@@ -8,12 +8,14 @@ use Rattle.rpc_packet.specs.declared.owned.Packet.{Packet}
 use Rattle.rpc_journal.specs.declared.entry.Entry.{Entry}
 use Rattle.link_laws.specs.world.Lines.{finished}
 use Rattle.link_laws.specs.world.Reports.{carries_chunk}
-use Rattle.link_laws.specs.world.World.{Setup, World, all_sent_by, flushed_since, next_loss, sent_by, with_client, with_server}
+use Rattle.link_laws.specs.world.World.{Setup, World, all_sent_by, flushed_since, with_client, with_server, wiring_of}
+use Rattle.link_laws.specs.world.Wiring.{next_loss}
+use Rattle.link_laws.proofs.one_run.Keeping.{sent_by}
 use Rattle.link_laws.proofs.one_run.Links.{frame_of}
 use Rattle.link_laws.specs.rounds.Carrying.{carrying}
 use Rattle.link_laws.proofs.rounds.Carrying.{all_numbered, put_carrying}
 use Rattle.link_laws.specs.plain_calls.Commands.{SparesOthers}
-use Rattle.link_laws.proofs.plain_calls.Numbers.{Grows, finished_numbered}
+use Rattle.link_laws.proofs.plain_calls.Numbers.{NumbersMore, finished_numbered}
 
 -- the packets carry no chunk
 abbrev pub AreQuiet : List Packet → Type 0
@@ -28,7 +30,7 @@ module _ (k : Setup) where
   pub record IsSpared (w : World) : Type 0 where
     pub end : World
     pub spares : SparesOthers k end
-    pub grows : Grows w end
+    pub grows : NumbersMore w end
 
   -- before the end of the turn as behind it
   pub unfinished : (now y : World) → now ≡ finished k y → IsSpared now → IsSpared y
@@ -52,21 +54,21 @@ module _ (k : Setup) where
         subst (λ n. PassAll n qs) (omega (arith, length-append base (q ∷ []))) (pass_all end (base ++ q ∷ []) qs more spares next quiet.1),
       )
 
-  none_next : (w : World) → loss_of (suc (length w.numbered)) k.losses ≡ None → next_loss k w ≡ None
+  none_next : (w : World) → loss_of (suc (length w.numbered)) k.losses ≡ None → next_loss (wiring_of k w) ≡ None
   none_next w none = ap (λ n. loss_of n k.losses) (omega arith) ∙ none
 
   server_carries : (qs ps : List Packet) (w : World) → PassAll (length w.numbered) qs → w.to_client ≡ carrying ps → (all_sent_by k Server qs w).to_client ≡ carrying (ps ++ qs)
   server_carries [] ps w all on = on ∙ ap carrying (sym (append-nil ps))
   server_carries (q ∷ qs) ps w all on =
       server_carries qs (ps ++ q ∷ []) (sent_by k Server w q) (subst (λ n. PassAll n qs) (omega (arith, length-append w.numbered (q ∷ []))) all.1)
-      (ap (λ (l : Link). put (next_loss k w) (frame_of q) l) on ∙ put_carrying ps q (next_loss k w) (none_next w all.0))
+      (ap (λ (l : Link). put (next_loss (wiring_of k w)) (frame_of q) l) on ∙ put_carrying ps q (next_loss (wiring_of k w)) (none_next w all.0))
       ∙ ap carrying (append_assoc ps (q ∷ []) qs)
 
   client_carries : (qs ps : List Packet) (w : World) → PassAll (length w.numbered) qs → w.to_server ≡ carrying ps → (all_sent_by k Client qs w).to_server ≡ carrying (ps ++ qs)
   client_carries [] ps w all on = on ∙ ap carrying (sym (append-nil ps))
   client_carries (q ∷ qs) ps w all on =
       client_carries qs (ps ++ q ∷ []) (sent_by k Client w q) (subst (λ n. PassAll n qs) (omega (arith, length-append w.numbered (q ∷ []))) all.1)
-      (ap (λ (l : Link). put (next_loss k w) (frame_of q) l) on ∙ put_carrying ps q (next_loss k w) (none_next w all.0))
+      (ap (λ (l : Link). put (next_loss (wiring_of k w)) (frame_of q) l) on ∙ put_carrying ps q (next_loss (wiring_of k w)) (none_next w all.0))
       ∙ ap carrying (append_assoc ps (q ∷ []) qs)
 
   -- WHAT AN END SAYS IS ON THE LINK, where it carries no chunk

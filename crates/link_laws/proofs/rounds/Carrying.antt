@@ -15,7 +15,9 @@ use Rattle.rpc_journal.specs.History.{history}
 use Rattle.rpc_journal.specs.Items.{items_flushed, items_sent, packets_of}
 use Rattle.history_laws.specs.rounds.Streams.{IsAtRest}
 use Rattle.link_laws.specs.world.Lines.{command_ended, finished, is_still, with_released}
-use Rattle.link_laws.specs.world.World.{Setup, Under, World, all_sent_by, flushed_since, next_loss, sent_by}
+use Rattle.link_laws.specs.world.World.{Setup, Under, World, all_sent_by, flushed_since, wiring_of}
+use Rattle.link_laws.specs.world.Wiring.{next_loss}
+use Rattle.link_laws.proofs.one_run.Keeping.{sent_by}
 use Rattle.link_laws.proofs.one_run.Links.{frame_of}
 use Rattle.link_laws.specs.rounds.Carrying.{carrying}
 
@@ -31,32 +33,27 @@ released_carrying : (ps : List Packet) → released (carrying ps) ≡ carrying p
 released_carrying ps = ap link_of (append-nil (map frame_of ps))
 
 module _ (k : Setup) (calm : k.losses ≡ []) where
-  no_loss : (w : World) → next_loss k w ≡ None
+  no_loss : (w : World) → next_loss (wiring_of k w) ≡ None
   no_loss w = ap (loss_of (length w.numbered + 1)) calm
 
   pub server_carries : (qs ps : List Packet) (w : World) → w.to_client ≡ carrying ps → (all_sent_by k Server qs w).to_client ≡ carrying (ps ++ qs)
   server_carries [] ps w on = on ∙ ap carrying (sym (append-nil ps))
   server_carries (q ∷ qs) ps w on =
-      server_carries qs (ps ++ q ∷ []) (sent_by k Server w q) (ap (λ (l : Link). put (next_loss k w) (frame_of q) l) on ∙ put_carrying ps q (next_loss k w) (no_loss w))
+      server_carries qs (ps ++ q ∷ []) (sent_by k Server w q) (ap (λ (l : Link). put (next_loss (wiring_of k w)) (frame_of q) l) on ∙ put_carrying ps q (next_loss (wiring_of k w)) (no_loss w))
       ∙ ap carrying (append_assoc ps (q ∷ []) qs)
 
   pub client_carries : (qs ps : List Packet) (w : World) → w.to_server ≡ carrying ps → (all_sent_by k Client qs w).to_server ≡ carrying (ps ++ qs)
   client_carries [] ps w on = on ∙ ap carrying (sym (append-nil ps))
   client_carries (q ∷ qs) ps w on =
-      client_carries qs (ps ++ q ∷ []) (sent_by k Client w q) (ap (λ (l : Link). put (next_loss k w) (frame_of q) l) on ∙ put_carrying ps q (next_loss k w) (no_loss w))
+      client_carries qs (ps ++ q ∷ []) (sent_by k Client w q) (ap (λ (l : Link). put (next_loss (wiring_of k w)) (frame_of q) l) on ∙ put_carrying ps q (next_loss (wiring_of k w)) (no_loss w))
       ∙ ap carrying (append_assoc ps (q ∷ []) qs)
 
 module _ (k : Setup) where
-  one_numbered : (role : Role) (w : World) (p : Packet) → (sent_by k role w p).numbered ≡ w.numbered ++ p ∷ []
-  one_numbered Server w p = refl
-  one_numbered Client w p = refl
-
   -- each packet that goes out is numbered
   pub all_numbered : (role : Role) (qs : List Packet) (w : World) → (all_sent_by k role qs w).numbered ≡ w.numbered ++ qs
   all_numbered role [] w = sym (append-nil w.numbered)
-  all_numbered role (q ∷ qs) w =
-      all_numbered role qs (sent_by k role w q)
-      ∙ (ap (λ (ps : List Packet). ps ++ qs) (one_numbered role w q) ∙ append_assoc w.numbered (q ∷ []) qs)
+  all_numbered Server (q ∷ qs) w = all_numbered Server qs (sent_by k Server w q) ∙ append_assoc w.numbered (q ∷ []) qs
+  all_numbered Client (q ∷ qs) w = all_numbered Client qs (sent_by k Client w q) ∙ append_assoc w.numbered (q ∷ []) qs
 
 -- Where nothing is kept back the end of a turn leaves the links.
 module _ (k : Setup) (w : World) (ups downs : List Packet) (to_server : w.to_server ≡ carrying ups) (to_client : w.to_client ≡ carrying downs) where

@@ -15,8 +15,8 @@ use Rattle.transfer_base.specs.declared.limits.TheConstants.{MAX_RESOURCE}
 use Rattle.transfer_client.specs.Read.{new_download}
 use Rattle.transfer_client.specs.Write.{new_upload}
 use Rattle.link_laws.specs.world.Starts.{left_length, live_transfers, starts, starts_write, transfer_by}
-use Rattle.link_laws.specs.world.Turns.{Turns, kind_by, task_under}
-use Rattle.link_laws.specs.world.World.{Setup, Transfer, Under, World, calling, client_deeds, client_store, closing, first_world, lacking, reads, transferring, writes}
+use Rattle.link_laws.specs.world.Turns.{Turns, kind_by}
+use Rattle.link_laws.specs.world.World.{task_under, Setup, Transfer, Under, World, calling, client_deeds, client_store, closing, first_world, lacking, reads, transferring, writes}
 use Rattle.link_laws.specs.okay_means_bytes.Okay.{FitsStart, FitsTask, FitsTransfer, NextFits, OnTheWay}
 use Rattle.link_laws.proofs.okay_means_bytes.Lines.{all_flushed}
 use Rattle.link_laws.specs.transfers_fit.Fits.{AreSmall, BeginsSmall, FitsThroughout, IsSmall, StoresStaySmall}

@@ -28,9 +28,9 @@ use Rattle.history_laws.proofs.sends.Sending.{sends_are_heard}
 use Rattle.link_laws.specs.world.Lines.{finished}
 use Rattle.link_laws.specs.world.Setup.{quiet_rule}
 use Rattle.link_laws.specs.world.Sound.{AreSendable, NoFlips}
-use Rattle.link_laws.specs.world.Starts.{Started, all_added, left_length, live_transfers, message_kinds, opens_with, starts, starts_plain, starts_write, transfer_by}
-use Rattle.link_laws.specs.world.Turns.{Asks, Cancels, ClientHears, Closes, Ends, ServerHears, StartTurn, TimePasses, Turn, TurnOf, Turns, closed_by, ended_under, kind_by, later, task_of, task_under, with_command, with_frame_at_client, with_frame_at_server, with_task}
-use Rattle.link_laws.specs.world.World.{Plain, Setup, Transfer, Under, World, calling, chat, client_deeds, client_store, closing, count as plain_count, echo, first_world, lacking, moment, packets_flushed, reads, sum, transferring, with_client, with_server, writes}
+use Rattle.link_laws.specs.world.Starts.{Started, all_added, left_length, live_transfers, message_kinds, opens_with, starts, starts_plain, starts_write, transfer_by, Asks, Closes, StartTurn, closed_by, with_command, ended_by_close}
+use Rattle.link_laws.specs.world.Turns.{Cancels, ClientHears, Ends, ServerHears, TimePasses, Turn, TurnOf, Turns, kind_by, later, with_frame_at_client, with_frame_at_server}
+use Rattle.link_laws.specs.world.World.{task_of, task_under, with_task, Plain, Setup, Transfer, Under, World, calling, chat, client_deeds, client_store, closing, count as plain_count, echo, first_world, lacking, moment, packets_flushed, reads, sum, transferring, with_client, with_server, writes, server_deeds}
 use Rattle.link_laws.proofs.one_run.Growing.{GoesOnWith, all_added_go, client_opened_goes, client_settles_goes, client_takes_goes, goes_then, opened_goes, server_takes_goes, settles_goes}
 use Rattle.link_laws.proofs.one_run.Keeping.{finish_keeps}
 use Rattle.link_laws.proofs.one_run.Parts.{GoesOn, client_keeps, ends_on, finished_client, finished_server, server_keeps, starts_quiet}
@@ -165,7 +165,7 @@ module _ (k : Setup) (server_role : k.server.role ≡ Server) (client_role : k.c
         let st : Started = starts k w (Close channel) in
         let b : World = with_command w rest st in
         there (with_server k b t.after) now t.after w.client rest t.is (server_keeps k (λ x. x.server) (λ x p. refl) b t.after) (server_keeps k (λ x. x.client) (λ x p. refl) b t.after)
-        (server_keeps k (λ x. x.coming) (λ x p. refl) b t.after) (arrived_then w.server t.after [] (goes (ended_under st.under) t.settles) knows.server tt) knows.client knows.names
+        (server_keeps k (λ x. x.coming) (λ x p. refl) b t.after) (arrived_then w.server t.after [] (goes (ended_by_close k.server (server_deeds k w) channel) t.settles) knows.server tt) knows.client knows.names
         (omega (arith, subst (λ l. length (CalledBy w.client) + length l ≤ total) c knows.room))
       where
         goes : (ended : Option ℕ) → Settles k.rule k.server (closed_by channel ended w.server) t.after → GoesOnWith w.server [] t.after
@@ -186,15 +186,15 @@ module _ (k : Setup) (server_role : k.server.role ≡ Server) (client_role : k.c
         let b : World = with_frame_at_server w frame rest in
         there (with_server k b t.after) now t.after w.client w.coming t.is (server_keeps k (λ x. x.server) (λ x p. refl) b t.after) (server_keeps k (λ x. x.client) (λ x p. refl) b t.after)
         (server_keeps k (λ x. x.coming) (λ x p. refl) b t.after)
-        (arrived_then w.server t.after t.hears.packets (server_takes_goes k.rule k.server t.hears.packets w.server t.after t.hears.takes) knows.server (names_in Server t.hears.packets came)) knows.client knows.names knows.room
+        (arrived_then w.server t.after t.hears.packets (server_takes_goes k.rule k.server t.hears.packets w.server t.after t.hears.holds) knows.server (names_in Server t.hears.packets came)) knows.client knows.names knows.room
 
     client_hears : (w now : World) (frame : List ℕ) (rest : List (List ℕ)) (t : ClientHears k w frame rest now) → AllByRecursion (IsSendable Client) t.hears.packets → Knows w → Knows now
     client_hears w now frame rest t came knows =
         let b : World = with_task t.task (with_frame_at_client w frame rest) in
-        let names = same_names w t.after (takes_same k.client client_role (moment w) t.hears.packets w.client (task_of w) t.after t.task t.hears.takes) knows in
+        let names = same_names w t.after (takes_same k.client client_role (moment w) t.hears.packets w.client (task_of w) t.after t.task t.hears.holds) knows in
         there (with_client k b t.after) now w.server t.after w.coming t.is (client_keeps k (λ x. x.server) (λ x p. refl) b t.after) (client_keeps k (λ x. x.client) (λ x p. refl) b t.after)
         (client_keeps k (λ x. x.coming) (λ x p. refl) b t.after) knows.server
-        (arrived_then w.client t.after t.hears.packets (client_takes_goes k.client (moment w) t.hears.packets w.client (task_of w) t.after t.task t.hears.takes) knows.client (names_in Client t.hears.packets came)) names.0 names.1
+        (arrived_then w.client t.after t.hears.packets (client_takes_goes k.client (moment w) t.hears.packets w.client (task_of w) t.after t.task t.hears.holds) knows.client (names_in Client t.hears.packets came)) names.0 names.1
 
     cancels : (w now : World) (call : ℕ) → Cancels k w call now → Knows w → Knows now
     cancels w now call t knows =

@@ -25,9 +25,9 @@ use Rattle.transfer_client.specs.Read.{new_download}
 use Rattle.transfer_client.specs.Write.{new_upload}
 use Rattle.link_laws.specs.world.Client.{ClientSettles, ClientTakes, all_said_in, mail_between, task_after, task_said, transfer_polled}
 use Rattle.link_laws.specs.world.Lines.{command_ended, finished, is_still, line_of, with_line}
-use Rattle.link_laws.specs.world.Starts.{Started, all_added, left_length, live_transfers, message_kinds, opens_with, starts, starts_plain, starts_write, transfer_by}
-use Rattle.link_laws.specs.world.Turns.{Asks, Cancels, ClientHears, ServerHears, StartTurn, TimePasses, Turn, TurnOf, Turns, kind_by, later, task_of, task_under, under_with, with_command, with_frame_at_client, with_frame_at_server, with_task}
-use Rattle.link_laws.specs.world.World.{Plain, count as plain_count, echo, chat, sum, Setup, Tasked, Transfer, Under, World, calling, client_deeds, client_store, closing, lacking, moment, reads, transferring, with_client, with_server, writes}
+use Rattle.link_laws.specs.world.Starts.{Started, all_added, left_length, live_transfers, message_kinds, opens_with, starts, starts_plain, starts_write, transfer_by, Asks, StartTurn, with_command}
+use Rattle.link_laws.specs.world.Turns.{Cancels, ClientHears, ServerHears, TimePasses, Turn, TurnOf, Turns, kind_by, later, with_frame_at_client, with_frame_at_server}
+use Rattle.link_laws.specs.world.World.{task_of, task_under, under_with, with_task, Plain, count as plain_count, echo, chat, sum, Setup, Tasked, Transfer, Under, World, calling, client_deeds, client_store, closing, lacking, moment, reads, transferring, with_client, with_server, writes}
 use Rattle.history_laws.proofs.messages.Members.{all_weaken}
 use Rattle.link_laws.proofs.one_run.Parts.{client_keeps, server_keeps}
 use Rattle.link_laws.proofs.okay_means_bytes.Items.{Quiet}
@@ -339,9 +339,9 @@ module _ (k : Setup) (role : k.client.role ≡ Client) where
     client_hears w now frame rest t s =
         let b : World = with_task t.task (with_frame_at_client w frame rest) in
         there (with_client k b t.after) now t.after w.sessions (under_with t.task w.under) w.coming t.is (client_at b t.after)
-        (under_holds w.sessions t.after t.task w.under (takes_alike t.hears.packets (task_of w) (moment w) w.client t.after t.task t.hears.takes)
-        (takes_holds w.sessions t.hears.packets (task_of w) (moment w) w.client t.after t.task t.hears.takes s.holds))
-        (takes_out t.hears.packets (task_of w) (moment w) w.client t.after t.task t.hears.takes s.out) s.coming s.room
+        (under_holds w.sessions t.after t.task w.under (takes_alike t.hears.packets (task_of w) (moment w) w.client t.after t.task t.hears.holds)
+        (takes_holds w.sessions t.hears.packets (task_of w) (moment w) w.client t.after t.task t.hears.holds s.holds))
+        (takes_out t.hears.packets (task_of w) (moment w) w.client t.after t.task t.hears.holds s.out) s.coming s.room
 
     time_passes : (w now : World) → TimePasses k w now → Stands w → Stands now
     time_passes w now t s =

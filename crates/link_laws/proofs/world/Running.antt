@@ -24,9 +24,10 @@ use Rattle.link_laws.specs.world.Lines.{finished}
 use Rattle.link_laws.specs.world.Reports.{report_of}
 use Rattle.link_laws.specs.world.Rows.{HasRun}
 use Rattle.link_laws.specs.world.Setup.{quiet_rule, setup_of}
-use Rattle.link_laws.specs.world.Starts.{Started, all_added, starts}
-use Rattle.link_laws.specs.world.Turns.{Asks, Cancels, ClientHears, Closes, Ends, Kind, ServerHears, ServerTakes, StartTurn, TimePasses, TurnOf, Turns, cancelling, closed_by, ended_under, ending, later, next_kind, starting, task_of, task_under, timing, to_client, to_server, with_command, with_frame_at_client, with_frame_at_server, with_task}
-use Rattle.link_laws.specs.world.World.{Setup, Tasked, World, first_world, moment, with_client, with_server}
+use Rattle.link_laws.specs.world.Starts.{Started, all_added, starts, Asks, Closes, StartTurn, closed_by, with_command, ended_by_close}
+use Rattle.link_laws.specs.world.Turns.{Cancels, ClientHears, Ends, Kind, ServerHears, TimePasses, TurnOf, Turns, cancelling, ending, later, next_kind, starting, timing, to_client, to_server, with_frame_at_client, with_frame_at_server}
+use Rattle.link_laws.specs.world.Hearing.{ServerTakes}
+use Rattle.link_laws.specs.world.World.{task_of, task_under, with_task, Setup, Tasked, World, first_world, moment, with_client, with_server, server_deeds}
 use Rattle.link_laws.proofs.world.Working.{all_flushed, all_flushed_is, all_run, all_run_is, settled, settled_is}
 
 -- where there is one, the next step goes on from it
@@ -131,7 +132,7 @@ module _ (n : ℕ) where
           hears = record {
             packets = heard_with Server w.fed_server frame;
             heard = heard_more Server w.fed_server frame;
-            takes = server_takes_is k.rule k.server (heard_with Server w.fed_server frame) w.server taken.0 taken.1;
+            holds = server_takes_is k.rule k.server (heard_with Server w.fed_server frame) w.server taken.0 taken.1;
           };
           is = sym taken.2;
         }
@@ -151,7 +152,7 @@ module _ (n : ℕ) where
           hears = record {
             packets = heard_with Client w.fed_client frame;
             heard = heard_more Client w.fed_client frame;
-            takes = client_takes_is k.client (moment w) (heard_with Client w.fed_client frame) before taken.0 taken.1;
+            holds = client_takes_is k.client (moment w) (heard_with Client w.fed_client frame) before taken.0 taken.1;
           };
           is = sym taken.2;
         }
@@ -175,12 +176,12 @@ module _ (n : ℕ) where
     abbrev pub closed : ℕ → Started → List Command → Option World
     closed channel s rest =
         option_map (λ after. finished k (with_server k (with_command w rest s) after))
-        (settled k.rule k.server n (closed_by channel (ended_under s.under) w.server))
+        (settled k.rule k.server n (closed_by channel (ended_by_close k.server (server_deeds k w) channel) w.server))
 
     closed_is : (channel : ℕ) (rest : List Command) (now : World) → closed channel (starts k w (Close channel)) rest ≡ Some now → Closes k w channel rest now
     closed_is channel rest now is =
         let s : Started = starts k w (Close channel) in
-        let before : List Entry = closed_by channel (ended_under s.under) w.server in
+        let before : List Entry = closed_by channel (ended_by_close k.server (server_deeds k w) channel) w.server in
         let done = mapped_is (settled k.rule k.server n before) (λ after. finished k (with_server k (with_command w rest s) after)) now is in
         record { after = done.0; settles = settled_is k.rule k.server n before done.0 done.1; is = sym done.2 }
 

@@ -17,8 +17,8 @@ use Rattle.transfer_laws.specs.words.Tasks.{MakesWhole}
 use Rattle.link_laws.specs.world.Setup.{client_setting, server_setting}
 use Rattle.link_laws.specs.world.Sound.{AreSendable, IsSound, NoFlips}
 use Rattle.link_laws.specs.world.Starts.{starts}
-use Rattle.link_laws.specs.world.Turns.{Kind, Turned, Turns, cancelling, ending, next_kind, starting, task_under, timing, to_client, to_server}
-use Rattle.link_laws.specs.world.World.{Setup, Tasked, Transfer, World, client_deeds, client_store, first_world, reads, server_deeds, writes}
+use Rattle.link_laws.specs.world.Turns.{Kind, Turned, Turns, cancelling, ending, next_kind, starting, timing, to_client, to_server}
+use Rattle.link_laws.specs.world.World.{task_under, Setup, Tasked, Transfer, World, client_deeds, client_store, first_world, reads, server_deeds, writes}
 
 -- A world of the demo services, as a script makes it: each end with its setting, and windows and chunks as they may be.
 pub record IsDemo (k : Setup) : Type 0 where

@@ -26,13 +26,13 @@ use Rattle.rpc_journal.specs.States.{finished_since}
 use Rattle.rpc_journal.specs.table.Touch.{is_message}
 
 -- a packet of a server's stream is a message
-abbrev pub message_in : PacketType → List ℕ → List Out
-message_in ServerStream payload = Say payload ∷ []
-message_in _ payload = []
+abbrev pub streamed_out : PacketType → List ℕ → List Out
+streamed_out ServerStream payload = Say payload ∷ []
+streamed_out _ payload = []
 
 -- the item of an answer that goes out so: a message, or a store action
 abbrev pub act_outs : Act → List Out
-act_outs (Send p) = message_in p.ptype p.payload
+act_outs (Send p) = streamed_out p.ptype p.payload
 act_outs (Keep out) = out ∷ []
 act_outs LeaveCall = []
 

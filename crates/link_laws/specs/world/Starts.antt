@@ -1,5 +1,6 @@
--- What the client does as a command starts, and what is under way then.
-use Rattle.std.specs.Prelude.{ℕ, ◌+◌, ◌==◌, ◌&&◌, not, Bool, min, List, [], ◌∷◌, ◌++◌, codes, fold, length, map, Option, Some, None, unwrap_or, if◌then◌else◌}
+-- A START: what the client does as a command starts, or the server as a channel is closed, what is under way then, and where an entry
+-- of it has no room.
+use Rattle.std.specs.Prelude.{◌≡◌, ℕ, ◌+◌, ◌==◌, ◌&&◌, ◌||◌, ◌⊎◌, not, Bool, true, false, min, List, [], ◌∷◌, ◌++◌, codes, fold, length, map, Option, Some, None, unwrap_or, if◌then◌else◌}
 use Rattle.link_io.specs.Resources.{found}
 use Rattle.link_script.specs.declared.command.Command.{Command}
 use Rattle.link_script.specs.declared.command.Command.TheVariants.{Read, Write, Echo, Count, Sum, Chat, Close}
@@ -12,18 +13,23 @@ use Rattle.rpc_handlers.specs.HandlerRule.{empty_memo}
 use Rattle.rpc_journal.specs.declared.entry.Entry.{Entry}
 use Rattle.rpc_journal.specs.declared.entry.EntryKind.{EntryKind}
 use Rattle.rpc_journal.specs.declared.entry.EntryKind.TheVariants.{Invoke, Say, Done}
+use Rattle.rpc_journal.specs.declared.entry.EntryKind.TheVariants as entry
 use Rattle.rpc_journal.specs.declared.setting.Setting.{Setting}
 use Rattle.rpc_journal.specs.Calls.{call_count, calls, has_end}
 use Rattle.rpc_journal.specs.Effect.{Deed, Opening}
 use Rattle.rpc_journal.specs.Entries.{close_effect, made_from}
 use Rattle.rpc_journal.specs.History.{adding}
+use Rattle.rpc_journal.specs.Refusals.{is_full}
 use Rattle.rpc_journal.specs.Rows.{channels_in}
 use Rattle.rpc_channel.specs.Rising.{has_id}
-use Rattle.rpc_schedule.specs.Schedule.{run_seat}
+use Rattle.rpc_schedule.specs.Schedule.{Settles, run_seat}
 use Rattle.demo_services.specs.Methods.{demo_id, transfer_id}
 use Rattle.transfer_client.specs.Read.{new_download}
 use Rattle.transfer_client.specs.Write.{new_upload}
-use Rattle.link_laws.specs.world.World.{Setup, Transfer, Under, World, Plain, calling, client_deeds, client_store, closing, lacking, reads, server_deeds, transferring, writes, echo, count, sum, chat}
+use Rattle.link_laws.specs.world.Client.{ClientSettles}
+use Rattle.link_laws.specs.world.Lines.{finished}
+use Rattle.link_laws.specs.world.Stops.{ClientStops, ServerStops}
+use Rattle.link_laws.specs.world.World.{Setup, Tasked, Transfer, Under, World, Plain, calling, client_deeds, client_store, closing, lacking, moment, reads, server_deeds, task_under, transferring, with_client, with_server, with_task, writes, echo, count, sum, chat}
 
 -- these entries of the client's owner, in order
 abbrev pub all_added : List EntryKind → List Entry → List Entry
@@ -119,3 +125,51 @@ module _ (k : Setup) (w : World) where
   starts (Sum bytes) = starts_plain sum (codes "Sum") [] (Some bytes)
   starts (Chat bytes) = starts_plain chat (codes "Chat") [] (Some bytes)
   starts (Close channel) = unasked w (closing channel (ended_by_close k.server (server_deeds k w) channel))
+
+-- a command is under way
+abbrev pub with_command : World → List Command → Started → World
+with_command w rest s = record w { coming = rest; under = Some s.under; sessions = s.sessions }
+
+-- The client starts a command: its owner adds the entries of the start, and it does its work; the task of a transfer is
+-- polled for the first time.
+pub record Asks (k : Setup) (w : World) (command : Command) (rest : List Command) (now : World) : Type 0 where
+  pub after : List Entry
+  pub task : Option Tasked
+  pub settles :
+      ClientSettles k.client (moment w) (all_added (starts k w command).adds w.client) (task_under (Some (starts k w command).under)) after task
+  pub is : now ≡ finished k (with_client k (with_task task (with_command w rest (starts k w command))) after)
+
+-- the server's entry where it closes a channel; one that isn't in is refused
+abbrev pub closed_by : ℕ → Option ℕ → List Entry → List Entry
+closed_by channel None h = h
+closed_by channel (Some ended) h = adding h run_seat (entry.Close channel)
+
+-- The server closes a channel, and settles.
+pub record Closes (k : Setup) (w : World) (channel : ℕ) (rest : List Command) (now : World) : Type 0 where
+  pub after : List Entry
+  pub settles : Settles k.rule k.server (closed_by channel (ended_by_close k.server (server_deeds k w) channel) w.server) after
+  pub is : now ≡ finished k (with_server k (with_command w rest (starts k w (Close channel))) after)
+
+abbrev pub StartTurn : Setup → World → Command → List Command → World → Type 0
+StartTurn k w (Close channel) rest now = Closes k w channel rest now
+StartTurn k w command rest now = Asks k w command rest now
+
+-- of the entries of a start one has no room
+abbrev pub adding_stops : List EntryKind → List Entry → Bool
+adding_stops [] h = false
+adding_stops (kind ∷ kinds) h = is_full h || adding_stops kinds (adding h run_seat kind)
+
+-- the client comes to one as it starts a command
+abbrev pub AskingStops : Setup → World → Command → Type 0
+AskingStops k w command =
+    (adding_stops (starts k w command).adds w.client ≡ true)
+    ⊎ ClientStops k.client (moment w) (all_added (starts k w command).adds w.client) (task_under (Some (starts k w command).under))
+
+-- a channel that isn't in is refused only where there is room for the entry
+abbrev pub ClosingStops : Setup → World → ℕ → Type 0
+ClosingStops k w channel =
+    (is_full w.server ≡ true) ⊎ ServerStops k.rule k.server (closed_by channel (ended_by_close k.server (server_deeds k w) channel) w.server)
+
+abbrev pub StartStops : Setup → World → Command → Type 0
+StartStops k w (Close channel) = ClosingStops k w channel
+StartStops k w command = AskingStops k w command

@@ -1,22 +1,16 @@
 -- The turns of a world, and a run as a list of turns.
 use Rattle.std.specs.Prelude.{◌≡◌, ℕ, zero, suc, ◌+◌, List, [], ◌∷◌, ◌++◌, Option, Some, None, ◌<◌}
 use Rattle.link_script.specs.declared.command.Command.{Command}
-use Rattle.link_script.specs.declared.command.Command.TheVariants.{Close}
-use Rattle.rpc_ids.specs.declared.method.Role.TheVariants.{Server, Client}
-use Rattle.rpc_packet.specs.declared.owned.Packet.{Packet}
-use Rattle.rpc_frames.specs.Heard.{heard_packets}
-use Rattle.rpc_handlers.specs.HandlerRule.{HandlerRule}
 use Rattle.rpc_journal.specs.declared.entry.Entry.{Entry}
-use Rattle.rpc_journal.specs.declared.entry.EntryKind.TheVariants.{Arrive, Cancel, Tick, EndIn}
-use Rattle.rpc_journal.specs.declared.entry.EntryKind.TheVariants as entry
-use Rattle.rpc_journal.specs.declared.setting.Setting.{Setting}
+use Rattle.rpc_journal.specs.declared.entry.EntryKind.TheVariants.{Cancel, Tick, EndIn}
 use Rattle.rpc_journal.specs.History.{adding}
 use Rattle.rpc_schedule.specs.Schedule.{Settles, flush_seat, input_seat, run_seat}
 use Rattle.link_laws.specs.declared.world.limits.TheConstants.{MAX_DELIVERIES}
-use Rattle.link_laws.specs.world.Client.{ClientSettles, ClientTakes}
+use Rattle.link_laws.specs.world.Client.{ClientSettles}
+use Rattle.link_laws.specs.world.Hearing.{HeardAtClient, HeardAtServer}
 use Rattle.link_laws.specs.world.Lines.{finished}
-use Rattle.link_laws.specs.world.Starts.{Started, all_added, starts}
-use Rattle.link_laws.specs.world.World.{Setup, Tasked, Under, World, calling, closing, first_world, lacking, moment, transferring, with_client, with_server}
+use Rattle.link_laws.specs.world.Starts.{StartTurn}
+use Rattle.link_laws.specs.world.World.{Setup, Tasked, Under, World, calling, closing, first_world, lacking, moment, task_of, transferring, with_client, with_server, with_task}
 
 -- what the next turn is
 pub data Kind : Type 0 where
@@ -51,28 +45,6 @@ kind_by [] [] under coming = kind_at_rest under coming
 abbrev pub next_kind : World → Kind
 next_kind w = kind_by w.to_server.frames w.to_client.frames w.under w.coming
 
--- the task that speaks
-abbrev pub task_under : Option Under → Option Tasked
-task_under (Some (transferring t)) = Some t
-task_under _ = None
-
-abbrev pub task_of : World → Option Tasked
-task_of w = task_under w.under
-
-abbrev pub under_with : Option Tasked → Option Under → Option Under
-under_with (Some t) (Some (transferring old)) = Some (transferring t)
-under_with _ under = under
-
--- the task stands so then
-abbrev pub with_task : Option Tasked → World → World
-with_task task w = record w { under = under_with task w.under }
-
--- each of these packets arrives at the server, and all is settled behind it by the one schedule of its thread
-abbrev pub ServerTakes : HandlerRule → Setting → List Packet → List Entry → List Entry → Type 0
-ServerTakes rule set [] before after = after ≡ before
-ServerTakes rule set (p ∷ ps) before after =
-    (mid : List Entry) × Settles rule set (adding before input_seat (Arrive p)) mid × ServerTakes rule set ps mid after
-
 -- the frame has come to its end of the link
 abbrev pub with_frame_at_server : World → List ℕ → List (List ℕ) → World
 with_frame_at_server w frame rest =
@@ -81,19 +53,6 @@ with_frame_at_server w frame rest =
 abbrev pub with_frame_at_client : World → List ℕ → List (List ℕ) → World
 with_frame_at_client w frame rest =
     record w { to_client = record w.to_client { frames = rest }; fed_client = w.fed_client ++ frame; delivered = w.delivered + 1 }
-
--- Behind these bytes a frame comes to the server. The packets that are heard with it arrive: those heard in all bytes so far
--- behind those heard without it.
-pub record HeardAtServer (rule : HandlerRule) (set : Setting) (before after : List Entry) (fed frame : List ℕ) : Type 0 where
-  pub packets : List Packet
-  pub heard : heard_packets Server (fed ++ frame) ≡ heard_packets Server fed ++ packets
-  pub takes : ServerTakes rule set packets before after
-
--- the same at the client, at a moment, while this task speaks
-pub record HeardAtClient (set : Setting) (now : ℕ) (before : List Entry) (task : Option Tasked) (after : List Entry) (next : Option Tasked) (fed frame : List ℕ) : Type 0 where
-  pub packets : List Packet
-  pub heard : heard_packets Client (fed ++ frame) ≡ heard_packets Client fed ++ packets
-  pub takes : ClientTakes set now packets before task after next
 
 -- a frame is delivered to the server
 pub record ServerHears (k : Setup) (w : World) (frame : List ℕ) (rest : List (List ℕ)) (now : World) : Type 0 where
@@ -107,39 +66,6 @@ pub record ClientHears (k : Setup) (w : World) (frame : List ℕ) (rest : List (
   pub task : Option Tasked
   pub hears : HeardAtClient k.client (moment w) w.client (task_of w) after task w.fed_client frame
   pub is : now ≡ finished k (with_client k (with_task task (with_frame_at_client w frame rest)) after)
-
--- a command is under way
-abbrev pub with_command : World → List Command → Started → World
-with_command w rest s = record w { coming = rest; under = Some s.under; sessions = s.sessions }
-
--- The client starts a command: its owner adds the entries of the start, and it does its work; the task of a transfer is
--- polled for the first time.
-pub record Asks (k : Setup) (w : World) (command : Command) (rest : List Command) (now : World) : Type 0 where
-  pub after : List Entry
-  pub task : Option Tasked
-  pub settles :
-      ClientSettles k.client (moment w) (all_added (starts k w command).adds w.client) (task_under (Some (starts k w command).under)) after task
-  pub is : now ≡ finished k (with_client k (with_task task (with_command w rest (starts k w command))) after)
-
--- the server's entry where it closes a channel; one that isn't in is refused
-abbrev pub closed_by : ℕ → Option ℕ → List Entry → List Entry
-closed_by channel None h = h
-closed_by channel (Some count) h = adding h run_seat (entry.Close channel)
-
--- what the closing of a channel ended
-abbrev pub ended_under : Under → Option ℕ
-ended_under (closing channel ended) = ended
-ended_under _ = None
-
--- The server closes a channel, and settles.
-pub record Closes (k : Setup) (w : World) (channel : ℕ) (rest : List Command) (now : World) : Type 0 where
-  pub after : List Entry
-  pub settles : Settles k.rule k.server (closed_by channel (ended_under (starts k w (Close channel)).under) w.server) after
-  pub is : now ≡ finished k (with_server k (with_command w rest (starts k w (Close channel))) after)
-
-abbrev pub StartTurn : Setup → World → Command → List Command → World → Type 0
-StartTurn k w (Close channel) rest now = Closes k w channel rest now
-StartTurn k w command rest now = Asks k w command rest now
 
 -- The plain call of the command under way is cancelled.
 pub record Cancels (k : Setup) (w : World) (call : ℕ) (now : World) : Type 0 where

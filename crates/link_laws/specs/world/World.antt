@@ -1,5 +1,5 @@
 -- The world between two turns: both ends by their histories, the link between them, and the commands.
-use Rattle.std.specs.Prelude.{ℕ, ◌+◌, ◌*◌, List, [], ◌∷◌, ◌++◌, length, drop, fold, Option, None}
+use Rattle.std.specs.Prelude.{ℕ, ◌*◌, List, [], length, drop, Option, Some, None}
 use Rattle.link_io.specs.Stored.{Stored}
 use Rattle.link_script.specs.declared.command.Command.{Command}
 use Rattle.link_script.specs.declared.loss.Loss.{Loss}
@@ -7,8 +7,6 @@ use Rattle.link_script.specs.declared.report.ReportLine.{ReportLine}
 use Rattle.rpc_ids.specs.declared.method.Role.{Role}
 use Rattle.rpc_ids.specs.declared.method.Role.TheVariants.{Server, Client}
 use Rattle.rpc_packet.specs.declared.owned.Packet.{Packet}
-use Rattle.rpc_packet.specs.Message.{message_of}
-use Rattle.rpc_frames.specs.Written.{frame_of_packet}
 use Rattle.rpc_handlers.specs.HandlerRule.{HandlerRule}
 use Rattle.rpc_journal.specs.declared.entry.Entry.{Entry}
 use Rattle.rpc_journal.specs.declared.setting.Setting.{Setting}
@@ -19,7 +17,8 @@ use Rattle.rpc_schedule.specs.Kept.{kept}
 use Rattle.transfer_client.specs.Read.{Download}
 use Rattle.transfer_client.specs.Write.{Upload}
 use Rattle.link_laws.specs.declared.world.limits.TheConstants.{TURN_OF_TIME}
-use Rattle.link_script.specs.lossy.Link.{Link, loss_of, new_link, put}
+use Rattle.link_script.specs.lossy.Link.{Link, new_link}
+use Rattle.link_laws.specs.world.Wiring.{Wiring, with_all_sent}
 
 -- what is fixed with a world
 pub record Setup : Type 0 where
@@ -133,19 +132,18 @@ abbrev pub flushed_since : Setting → List Entry → List Entry → List Packet
 flushed_since set before after = packets_of (drop (length (items_flushed (history set before))) (items_flushed (history set after)))
 
 module _ (k : Setup) where
-  -- the loss of the frame that is numbered next
-  abbrev pub next_loss : World → Option Loss
-  next_loss w = loss_of (length w.numbered + 1) k.losses
+  -- both directions of the link
+  abbrev pub wiring_of : World → Wiring
+  wiring_of w = record { losses = k.losses; to_server = w.to_server; to_client = w.to_client; numbered = w.numbered }
 
-  -- a packet goes out at this end: its frame is numbered, and put on the link to the other end
-  abbrev pub sent_by : Role → World → Packet → World
-  sent_by Server w p =
-      record w { numbered = w.numbered ++ p ∷ []; to_client = put (next_loss w) (frame_of_packet (message_of p)) w.to_client }
-  sent_by Client w p =
-      record w { numbered = w.numbered ++ p ∷ []; to_server = put (next_loss w) (frame_of_packet (message_of p)) w.to_server }
+-- the link is so then
+abbrev pub with_wiring : Wiring → World → World
+with_wiring x w = record w { to_server = x.to_server; to_client = x.to_client; numbered = x.numbered }
 
+module _ (k : Setup) where
+  -- these packets go out at this end
   abbrev pub all_sent_by : Role → List Packet → World → World
-  all_sent_by role packets w = fold (sent_by role) w packets
+  all_sent_by role packets w = with_wiring (with_all_sent role packets (wiring_of k w)) w
 
   -- an end has come to these entries, and what was flushed on the way goes out
   abbrev pub with_server : World → List Entry → World
@@ -153,3 +151,19 @@ module _ (k : Setup) where
 
   abbrev pub with_client : World → List Entry → World
   with_client w after = all_sent_by Client (flushed_since k.client w.client after) (record w { client = after })
+
+-- THE TASK THAT SPEAKS
+abbrev pub task_under : Option Under → Option Tasked
+task_under (Some (transferring t)) = Some t
+task_under _ = None
+
+abbrev pub task_of : World → Option Tasked
+task_of w = task_under w.under
+
+abbrev pub under_with : Option Tasked → Option Under → Option Under
+under_with (Some t) (Some (transferring old)) = Some (transferring t)
+under_with _ under = under
+
+-- the task stands so then
+abbrev pub with_task : Option Tasked → World → World
+with_task task w = record w { under = under_with task w.under }

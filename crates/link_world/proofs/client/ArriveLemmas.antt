@@ -30,14 +30,13 @@ use Rattle.rpc_schedule.proofs.EntryLemmas.{arrivals-push, length-push}
 use Rattle.rpc_schedule.proofs.ServingLemmas.{below_full, input_steps}
 use Rattle.link_laws.specs.world.Client.{ClientSettles, ClientTakes, task_after}
 use Rattle.link_laws.specs.world.Setup.{client_setting}
-use Rattle.link_laws.specs.world.Turns.{task_under, under_with}
+use Rattle.link_laws.specs.world.World.{task_under, under_with, Tasked}
 use Rattle.link_laws.specs.world.World as world
-use Rattle.link_laws.specs.world.World.{Tasked}
 use Rattle.link_world.specs.server.Resting.{IsResting}
 use Rattle.link_world.specs.declared.client.under.Under.{Under}
 use Rattle.link_world.specs.client.ClientSide.{ClientWorks}
 use Rattle.link_world.specs.client.Underway.{call_seen, call_under, task_seen, under_seen}
-use Rattle.link_world.specs.client.Working.{IsKept, Settled, TakesMore}
+use Rattle.link_world.specs.client.Working.{IsKept, Settled, ClientTakesMore}
 use Rattle.link_world.proofs.RoomLemmas.{within_adding}
 use Rattle.link_world.proofs.client.NumberLemmas.{numbered_entry}
 
@@ -159,7 +158,7 @@ seen_twice (Some (world.lacking resource)) = refl
 seen_twice (Some (world.calling plain call)) = refl
 seen_twice (Some (world.closing channel ended)) = refl
 
-pub takes_none : (now : ℕ) (s : Serving) (under : Option Under) → TakesMore now s under s under
+pub takes_none : (now : ℕ) (s : Serving) (under : Option Under) → ClientTakesMore now s under s under
 takes_none now s under = record {
   packets = [];
   next = task_seen under;
@@ -171,7 +170,7 @@ takes_none now s under = record {
 }
 
 takes_packet : (now : ℕ) (first : Serving) (u0 : Option Under) (old : Serving) (u1 : Option Under) (new : Serving) (u2 : Option Under) (p : Packet)
-    → old.table.setting ≡ client_setting → TakesMore now first u0 old u1 → Settled now (with_entry old input_seat (Arrive p)) u1 new u2 → TakesMore now first u0 new u2
+    → old.table.setting ≡ client_setting → ClientTakesMore now first u0 old u1 → Settled now (with_entry old input_seat (Arrive p)) u1 new u2 → ClientTakesMore now first u0 new u2
 takes_packet now first u0 old u1 new u2 p setting takes settled =
     let h = adding old.table.entries input_seat (Arrive p) in
     let w = settled.works in
@@ -219,7 +218,7 @@ pub fed_calls : (old mid : Serving) → TakesPacket old mid → old.table.settin
 fed_calls old mid takes setting = ap (λ s. calls (deeds s)) takes.adds ∙ arrived_calls old takes.packet setting
 
 pub fed_takes : (now : ℕ) (first : Serving) (u0 : Option Under) (old : Serving) (u1 : Option Under) (mid new : Serving) (u2 : Option Under)
-    → old.table.setting ≡ client_setting → TakesMore now first u0 old u1 → TakesPacket old mid → Settled now mid u1 new u2 → TakesMore now first u0 new u2
+    → old.table.setting ≡ client_setting → ClientTakesMore now first u0 old u1 → TakesPacket old mid → Settled now mid u1 new u2 → ClientTakesMore now first u0 new u2
 fed_takes now first u0 old u1 mid new u2 setting takes packet settled =
     takes_packet now first u0 old u1 new u2 packet.packet setting takes (subst (λ s. Settled now s u1 new u2) packet.adds settled)
 

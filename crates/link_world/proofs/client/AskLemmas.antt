@@ -39,13 +39,12 @@ use Rattle.rpc_schedule.specs.Settling.{IsOrderly}
 use Rattle.rpc_schedule.specs.ends.EndState.{EndState, KeepsAside}
 use Rattle.link_script.specs.declared.command.Command.{Command}
 use Rattle.link_laws.specs.world.Client.{ClientSettles}
-use Rattle.link_laws.specs.world.Limits.{ClientStops, adding_stops}
+use Rattle.link_laws.specs.world.Stops.{ClientStops}
+use Rattle.link_laws.specs.world.Starts.{adding_stops, Started, all_added, live_transfers, opens_with, starts, starts_transfer, transfer_by}
 use Rattle.link_laws.specs.world.Setup.{client_setting}
-use Rattle.link_laws.specs.world.Starts.{Started, all_added, live_transfers, opens_with, starts, starts_transfer, transfer_by}
-use Rattle.link_laws.specs.world.Turns.{task_under, under_with}
-use Rattle.link_laws.specs.world.World.{Setup, Tasked, Transfer, World, client_deeds, moment, transferring}
+use Rattle.link_laws.specs.world.World.{task_under, under_with, Setup, Tasked, Transfer, World, client_deeds, moment, transferring}
 use Rattle.link_world.proofs.server.RestLemmas.{entered_is, enters}
-use Rattle.link_world.specs.client.Asking.{Begins, ClientAdds, ClientAsks, IsClientOf, adds_by, call_by, byte_messages}
+use Rattle.link_world.specs.client.Asking.{HasBegun, ClientAdds, ClientAsks, IsClientOf, adds_by, call_by, byte_messages}
 use Rattle.link_world.specs.declared.client.under.Under.{Under}
 use Rattle.link_world.specs.client.ClientSide.{ClientState, ClientWorks}
 use Rattle.link_world.specs.client.Underway.{task_seen, under_of}
@@ -263,7 +262,7 @@ transfer_begins k w s begun tuning at is setting method t after task session add
         ∙ started_by w (live_transfers (name_id method) (deeds s.end.serving)) (opens_with transfer_id (name_id method) [] (deeds s.end.serving)) (call_count (deeds s.end.serving)) t
 
 -- the command has started
-pub asks_by : (k : Setup) (w : World) (command : Command) (now : ℕ) (mid after : List Entry) (begins way : Under) (begun : ℕ) → Begins k w command mid begins begun
+pub asks_by : (k : Setup) (w : World) (command : Command) (now : ℕ) (mid after : List Entry) (begins way : Under) (begun : ℕ) → HasBegun k w command mid begins begun
     → k.client ≡ client_setting → moment w ≡ now → ClientWorks now mid (Some begins) after (Some way) → ClientAsks k w command after way begun
 asks_by k w command now mid after begins way begun b setting at works = record {
   next = works.next;
@@ -316,7 +315,7 @@ stops_sending c (x ∷ bytes) (suc i) h within full =
     (stops_sending c bytes i (adding h run_seat (Say c (Message (x ∷ [])))) (omega (arith, within)) full)
 
 -- the work behind the start has no room
-pub stops_by_work : (k : Setup) (w : World) (command : Command) (now : ℕ) (mid : List Entry) (begins : Under) (begun : ℕ) → Begins k w command mid begins begun
+pub stops_by_work : (k : Setup) (w : World) (command : Command) (now : ℕ) (mid : List Entry) (begins : Under) (begun : ℕ) → HasBegun k w command mid begins begun
     → k.client ≡ client_setting → moment w ≡ now → ClientStops client_setting now mid (task_seen (Some begins))
     → ClientStops k.client (moment w) (all_added (starts k w command).adds w.client) (task_under (Some (starts k w command).under))
 stops_by_work k w command now mid begins begun b setting at stops =

@@ -34,7 +34,8 @@ use Rattle.rpc_schedule.specs.Serving.{Serving, deeds, with_entry}
 use Rattle.link_laws.specs.world.Client.{ClientSettles}
 use Rattle.link_laws.specs.world.Setup.{client_setting}
 use Rattle.link_world.specs.server.Resting.{IsResting}
-use Rattle.link_world.specs.server.Wiring.{GoesOut, Wiring}
+use Rattle.link_world.specs.server.GoesOut.{GoesOut}
+use Rattle.link_laws.specs.world.Wiring.{Wiring}
 use Rattle.link_world.proofs.server.RestLemmas.{entered_is, enters}
 use Rattle.link_world.specs.declared.client.under.Under.{Under}
 use Rattle.link_world.specs.client.ClientSide.{ClientMoves, ClientRests, ClientState, ClientWorks}

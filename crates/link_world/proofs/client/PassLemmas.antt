@@ -36,7 +36,7 @@ use Rattle.rpc_schedule.proofs.LoopLemmas.{stays_itself, stays_then}
 use Rattle.rpc_schedule.proofs.ServingLemmas.{StepsFlush, flush_steps}
 use Rattle.link_world.proofs.server.RestLemmas.{entered_is, enters, unentered_is}
 use Rattle.link_laws.specs.world.Client.{FlushesTo, all_said_in, said_in}
-use Rattle.link_laws.specs.world.Limits.{saying_stops}
+use Rattle.link_laws.specs.world.Stops.{saying_stops}
 use Rattle.link_world.specs.declared.server.stopped.Stopped.TheVariants.{Journal}
 use Rattle.link_world.specs.Room.{StaysWithin}
 use Rattle.link_world.specs.client.Working.{ClientFlushes, ClientSays, PassesBy, stop_of}

@@ -20,10 +20,9 @@ use Rattle.rpc_schedule.specs.Serving.{Serving, deeds, is_idle, none_waiting}
 use Rattle.rpc_schedule.proofs.EntryLemmas.{none_ready}
 use Rattle.rpc_schedule.proofs.LoopLemmas.{stays_then}
 use Rattle.link_laws.specs.world.Client.{ClientSettles, FlushesTo, all_said_in, mail_between, mail_of, task_after, task_polled, task_said, transfer_says}
-use Rattle.link_laws.specs.world.Limits.{ClientStops, TaskStops, saying_stops}
+use Rattle.link_laws.specs.world.Stops.{ClientStops, TaskStops, saying_stops}
 use Rattle.link_laws.specs.world.Setup.{client_setting, quiet_rule}
-use Rattle.link_laws.specs.world.Turns.{under_with}
-use Rattle.link_laws.specs.world.World.{Tasked}
+use Rattle.link_laws.specs.world.World.{under_with, Tasked}
 use Rattle.link_world.specs.declared.client.under.Under.{Under}
 use Rattle.link_world.specs.client.Speaking.{SayingStops, mail_among, polled_with, said_with}
 use Rattle.link_world.specs.client.Underway.{task_seen, under_seen}

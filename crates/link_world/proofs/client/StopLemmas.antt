@@ -15,14 +15,14 @@ use Rattle.rpc_schedule.specs.Schedule.{input_seat}
 use Rattle.rpc_schedule.specs.Serving.{HasHeard, Serving, TakesPacket, refusing}
 use Rattle.rpc_schedule.proofs.EntryLemmas.{arrivals-push}
 use Rattle.link_laws.specs.world.Client.{ClientTakes}
-use Rattle.link_laws.specs.world.Limits.{ClientStops, ClientTakingStops}
+use Rattle.link_laws.specs.world.Stops.{ClientStops, ClientTakingStops}
 use Rattle.link_laws.specs.world.Setup.{client_setting}
 use Rattle.link_laws.specs.world.World.{Tasked}
 use Rattle.link_world.proofs.server.HeardLemmas.{heard_further}
 use Rattle.link_world.specs.declared.client.under.Under.{Under}
 use Rattle.link_world.specs.client.ClientSide.{ClientStopsHearing}
 use Rattle.link_world.specs.client.Underway.{task_seen}
-use Rattle.link_world.specs.client.Working.{TakesMore}
+use Rattle.link_world.specs.client.Working.{ClientTakesMore}
 
 -- this packet has no room, or the work behind it has none
 abbrev StopsAt : Setting → ℕ → Packet → List Entry → Option Tasked → Type 0
@@ -41,7 +41,7 @@ taking_stops set now (first ∷ packets) p more a t b u takes stops =
 
 -- So much of a frame was fed behind these bytes, and the packets that were heard with it were taken but for the last.
 module _ (now : ℕ) (first : Serving) (u0 : Option Under) (old : Serving) (u1 : Option Under) (fed frame : List ℕ) (count : ℕ)
-    (before : HasHeard (heard_packets Client fed) first) (accepts : first.refused ≡ None) (takes : TakesMore now first u0 old u1) where
+    (before : HasHeard (heard_packets Client fed) first) (accepts : first.refused ≡ None) (takes : ClientTakesMore now first u0 old u1) where
   heard_upto : (p : Packet) → heard_packets Client (fed ++ take count frame) ≡ arrivals old.table.entries ++ p ∷ []
       → heard_packets Client (fed ++ take count frame) ≡ heard_packets Client fed ++ (takes.packets ++ p ∷ [])
   heard_upto p upto =
@@ -55,7 +55,7 @@ module _ (now : ℕ) (first : Serving) (u0 : Option Under) (old : Serving) (u1 :
       record {
         packets = (takes.packets ++ p ∷ []) ++ all.0;
         heard = ap (λ bytes. heard_packets Client (fed ++ bytes)) (sym (take-append-drop count frame)) ∙ all.1;
-        stops = taking_stops client_setting now takes.packets p all.0 first.table.entries (task_seen u0) old.table.entries takes.next takes.takes
+        holds = taking_stops client_setting now takes.packets p all.0 first.table.entries (task_seen u0) old.table.entries takes.next takes.takes
             (subst (StopsAt client_setting now p old.table.entries) takes.task stops);
       }
 

@@ -10,7 +10,8 @@ use Rattle.rpc_journal.proofs.PlaceLemmas.{some_same}
 use Rattle.rpc_ids.specs.declared.method.Role.TheVariants.{Server}
 use Rattle.rpc_schedule.specs.Kept.{Holds, kept}
 use Rattle.link_world.specs.server.ServerSide.{ServerMoves, ServerState}
-use Rattle.link_world.specs.server.Wiring.{GoesOut, Wiring, with_all_sent, with_sent}
+use Rattle.link_world.specs.server.GoesOut.{GoesOut}
+use Rattle.link_laws.specs.world.Wiring.{Wiring, with_all_sent, with_sent}
 
 pub all_sent_then : (role : Role) (first more : List Packet) (w : Wiring)
     → with_all_sent role (first ++ more) w ≡ with_all_sent role more (with_all_sent role first w)

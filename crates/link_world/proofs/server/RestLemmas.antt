@@ -24,9 +24,9 @@ use Rattle.rpc_schedule.specs.ends.EndState.{EndState, KeepsAside}
 use Rattle.rpc_schedule.specs.Settling.{IsOrderly, SettlesAll}
 use Rattle.rpc_schedule.proofs.EntryLemmas.{arrivals-push, room-push}
 use Rattle.rpc_schedule.proofs.ScheduleLemmas.{over_stays}
-use Rattle.link_laws.specs.world.Turns.{ServerTakes}
+use Rattle.link_laws.specs.world.Hearing.{ServerTakes}
 use Rattle.link_world.specs.Room.{StaysWithin}
-use Rattle.link_world.specs.server.Resting.{IsResting, TakesMore}
+use Rattle.link_world.specs.server.Resting.{IsResting, ServerTakesMore}
 use Rattle.link_world.proofs.RoomLemmas.{settled_within, within_adding}
 
 -- a settled server is at rest, where nothing was refused and the input goes on
@@ -58,10 +58,10 @@ pub takes_then : (rule : HandlerRule) (set : Setting) (packets : List Packet) (p
 takes_then rule set [] p a b c same settles = (c, subst (λ h. Settles rule set (adding h input_seat (Arrive p)) c) same settles, refl)
 takes_then rule set (first ∷ packets) p a b c takes settles = (takes.0, takes.1, takes_then rule set packets p takes.0 b c takes.2 settles)
 
-pub takes_none : (rule : HandlerRule) (s : Serving) → TakesMore rule s s
+pub takes_none : (rule : HandlerRule) (s : Serving) → ServerTakesMore rule s s
 takes_none rule s = record { packets = []; takes = refl; arrived = sym (append-nil (arrivals s.table.entries)); setting = refl }
 
-takes_same : (rule : HandlerRule) (first old new : Serving) → IsResting old → TakesMore rule first old → SettlesAll rule old new → TakesMore rule first new
+takes_same : (rule : HandlerRule) (first old new : Serving) → IsResting old → ServerTakesMore rule first old → SettlesAll rule old new → ServerTakesMore rule first new
 takes_same rule first old new rest takes settles =
     let same : old.table.entries ≡ new.table.entries =
     over_stays rule old.table.setting settles.settles.reaches.0 old.table.entries new.table.entries rest.over settles.settles.reaches.1 in
@@ -72,8 +72,8 @@ takes_same rule first old new rest takes settles =
       setting = settles.stays.setting ∙ takes.setting;
     }
 
-takes_packet : (rule : HandlerRule) (first old new : Serving) (p : Packet) → TakesMore rule first old → SettlesAll rule (with_entry old input_seat (Arrive p)) new
-    → TakesMore rule first new
+takes_packet : (rule : HandlerRule) (first old new : Serving) (p : Packet) → ServerTakesMore rule first old → SettlesAll rule (with_entry old input_seat (Arrive p)) new
+    → ServerTakesMore rule first new
 takes_packet rule first old new p takes settles = record {
   packets = takes.packets ++ p ∷ [];
   takes = takes_then rule first.table.setting takes.packets p first.table.entries old.table.entries new.table.entries takes.takes
@@ -83,8 +83,8 @@ takes_packet rule first old new p takes settles = record {
   setting = settles.stays.setting ∙ takes.setting;
 }
 
-pub takes_fed : (rule : HandlerRule) (first old mid new : Serving) (n : ℕ) → IsResting old → TakesMore rule first old → Feeds old (Ok n) mid → SettlesAll rule mid new
-    → TakesMore rule first new
+pub takes_fed : (rule : HandlerRule) (first old mid new : Serving) (n : ℕ) → IsResting old → ServerTakesMore rule first old → Feeds old (Ok n) mid → SettlesAll rule mid new
+    → ServerTakesMore rule first new
 takes_fed rule first old mid new n rest takes (accepts, inl same) settles =
     takes_same rule first old new rest takes (subst (λ s. SettlesAll rule s new) same settles)
 takes_fed rule first old mid new n rest takes (accepts, inr packet) settles =

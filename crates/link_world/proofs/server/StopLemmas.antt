@@ -18,11 +18,11 @@ use Rattle.rpc_schedule.specs.Serving.{Feeds, HasHeard, Serving, with_entry}
 use Rattle.rpc_schedule.specs.Settling.{StopsFull}
 use Rattle.rpc_schedule.proofs.EntryLemmas.{arrivals-push}
 use Rattle.rpc_schedule.proofs.ScheduleLemmas.{none_run_on}
-use Rattle.link_laws.specs.world.Limits.{ServerStops, ServerStopsWith, ServerTakingStops}
-use Rattle.link_laws.specs.world.Turns.{ServerTakes}
+use Rattle.link_laws.specs.world.Stops.{ServerStops, ServerStopsWith, ServerTakingStops}
+use Rattle.link_laws.specs.world.Hearing.{ServerTakes}
 use Rattle.link_world.specs.declared.server.stopped.Stopped.TheVariants.{Journal}
 use Rattle.link_world.specs.server.Stops.{stopped_by}
-use Rattle.link_world.specs.server.Resting.{IsResting, StopsWithin, TakesMore}
+use Rattle.link_world.specs.server.Resting.{IsResting, StopsWithin, ServerTakesMore}
 use Rattle.link_world.specs.server.ServerSide.{ServerStopsHearing}
 use Rattle.link_world.proofs.server.HeardLemmas.{heard_further}
 
@@ -61,7 +61,7 @@ settling_stops rule s new stops = record {
 }
 
 module _ (rule : HandlerRule) (heard : List ℕ → List Packet) (first now : Serving) (fed piece : List ℕ) (count : ℕ)
-    (before : HasHeard (heard fed) first) (accepts : first.refused ≡ None) (takes : TakesMore rule first now) where
+    (before : HasHeard (heard fed) first) (accepts : first.refused ≡ None) (takes : ServerTakesMore rule first now) where
   -- behind the packets that were taken it stops at the next one
   stops_at : (p : Packet) → heard (fed ++ take count piece) ≡ arrivals now.table.entries ++ p ∷ []
       → ServerStopsWith rule now.table.setting now.table.entries input_seat (Arrive p) → StopsWithin rule heard first fed piece
@@ -101,5 +101,5 @@ hearing_stops rule s fed frame within =
     record {
       packets = within.packets ++ further.0;
       heard = ap (λ bytes. heard_packets Server (fed ++ bytes)) (sym (take-append-drop within.count frame)) ∙ further.1;
-      stops = stops_before rule s.table.setting within.packets further.0 s.table.entries within.stops;
+      holds = stops_before rule s.table.setting within.packets further.0 s.table.entries within.stops;
     }

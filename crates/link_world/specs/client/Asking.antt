@@ -21,8 +21,7 @@ use Rattle.transfer_base.specs.declared.tuning.Tuning.{Tuning}
 use Rattle.link_laws.specs.world.Client.{ClientSettles}
 use Rattle.link_laws.specs.world.Setup.{client_setting}
 use Rattle.link_laws.specs.world.Starts.{starts, all_added}
-use Rattle.link_laws.specs.world.Turns.{task_under, under_with}
-use Rattle.link_laws.specs.world.World.{Setup, Tasked, World, client_store, moment}
+use Rattle.link_laws.specs.world.World.{task_under, under_with, Setup, Tasked, World, client_store, moment}
 use Rattle.link_world.specs.declared.client.under.Plain.{Plain}
 use Rattle.link_world.specs.declared.client.under.Plain.TheVariants as plain
 use Rattle.link_world.specs.declared.client.under.Under.{Under}
@@ -54,7 +53,7 @@ pub record ClientAsks (k : Setup) (w : World) (command : Command) (after : List 
   pub sessions : begun ≡ (starts k w command).sessions
 
 -- its entries were added, and this is under way
-pub record Begins (k : Setup) (w : World) (command : Command) (after : List Entry) (way : Under) (begun : ℕ) : Type 0 where
+pub record HasBegun (k : Setup) (w : World) (command : Command) (after : List Entry) (way : Under) (begun : ℕ) : Type 0 where
   pub added : after ≡ all_added (starts k w command).adds w.client
   pub under : under_of way ≡ (starts k w command).under
   pub sessions : begun ≡ (starts k w command).sessions

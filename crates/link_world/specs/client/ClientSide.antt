@@ -15,12 +15,13 @@ use Rattle.rpc_schedule.specs.Kept.{kept}
 use Rattle.rpc_schedule.specs.Serving.{Serving, deeds}
 use Rattle.rpc_schedule.specs.ends.EndState.{EndState}
 use Rattle.link_laws.specs.world.Client.{ClientSettles}
-use Rattle.link_laws.specs.world.Limits.{ClientHearingStops}
+use Rattle.link_laws.specs.world.Hearing.{ClientHearingStops, HeardAtClient}
 use Rattle.link_laws.specs.world.Setup.{client_setting}
-use Rattle.link_laws.specs.world.Turns.{HeardAtClient, under_with}
-use Rattle.link_laws.specs.world.World.{Tasked}
+use Rattle.link_laws.specs.world.World.{under_with, Tasked}
 use Rattle.link_world.specs.server.Resting.{IsResting}
-use Rattle.link_world.specs.server.Wiring.{GoesOut, Wiring}
+use Rattle.link_world.specs.server.GoesOut.{GoesOut}
+use Rattle.link_laws.specs.world.Wiring.{Wiring}
+use Rattle.link_world.specs.declared.client.desk.Desk.{Desk}
 use Rattle.link_world.specs.declared.client.under.Under.{Under}
 use Rattle.link_world.specs.client.Underway.{call_seen, last_poll, task_seen, under_seen}
 
@@ -31,6 +32,10 @@ pub record ClientState : Type 0 where
   pub stored : Stored
   pub items : List Item
   pub events : List (ℕ × Event)
+
+-- what the client works with shows this
+abbrev pub state_of : Desk → ClientState
+state_of desk = record { end = desk.client; stored = desk.store; items = desk.items.items; events = desk.events.items }
 
 -- the list has the events that the runs of each call took, in order
 abbrev pub HasEvents : Serving → List (ℕ × Event) → Type 0
@@ -68,7 +73,7 @@ pub record ClientWorks (now : ℕ) (before : List Entry) (old : Option Under) (a
 
 -- Behind these bytes a frame was fed, at a moment: the packets that are heard with it arrived, and the client did its work
 -- behind each.
-pub record ClientHears (now : ℕ) (before : Serving) (old : Option Under) (after : Serving) (new : Option Under) (fed frame : List ℕ) : Type 0 where
+pub record ClientHeard (now : ℕ) (before : Serving) (old : Option Under) (after : Serving) (new : Option Under) (fed frame : List ℕ) : Type 0 where
   pub next : Option Tasked
   pub hears : HeardAtClient client_setting now before.table.entries (task_seen old) after.table.entries next fed frame
   pub under : under_seen new ≡ under_with next (under_seen old)

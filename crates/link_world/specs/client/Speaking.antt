@@ -16,7 +16,7 @@ use Rattle.transfer_client.specs.Read.{new_download, read_offset}
 use Rattle.transfer_client.specs.Write.{write_offset}
 use Rattle.transfer_client.specs.Tasks.{PollsRead, PollsWrite}
 use Rattle.link_laws.specs.world.Client.{all_said_in, mail_of, task_polled, transfer_says}
-use Rattle.link_laws.specs.world.Limits.{saying_stops}
+use Rattle.link_laws.specs.world.Stops.{saying_stops}
 use Rattle.link_laws.specs.world.Lines.{transfer_end}
 use Rattle.link_laws.specs.world.World.{Tasked, Transfer, reads, writes}
 use Rattle.link_world.specs.declared.client.transfer_task.TransferTask.{TransferTask}

@@ -1,7 +1,7 @@
 -- The command under way, as the client keeps it.
 use Rattle.std.specs.Prelude.{ℕ, Option, Some, None, option_map, option_and_then}
 use Rattle.link_laws.specs.world.World as world
-use Rattle.link_laws.specs.world.Turns.{task_under}
+use Rattle.link_laws.specs.world.World.{task_under}
 use Rattle.link_world.specs.declared.client.under.Plain.{Plain}
 use Rattle.link_world.specs.declared.client.under.Plain.TheVariants.{Echo, Count, Sum, Chat}
 use Rattle.link_world.specs.declared.client.under.Under.{Under}

@@ -17,10 +17,9 @@ use Rattle.rpc_schedule.specs.Schedule.{IsOver, NoneWaits}
 use Rattle.rpc_schedule.specs.Serving.{Serving, deeds, is_idle}
 use Rattle.rpc_schedule.specs.Settling.{IsOrderly, Stays}
 use Rattle.link_laws.specs.world.Client.{ClientTakes, FlushesTo, RunsTo}
-use Rattle.link_laws.specs.world.Limits.{HasNoRoom}
+use Rattle.link_laws.specs.world.Stops.{HasNoRoom}
 use Rattle.link_laws.specs.world.Setup.{client_setting, quiet_rule}
-use Rattle.link_laws.specs.world.Turns.{under_with}
-use Rattle.link_laws.specs.world.World.{Tasked}
+use Rattle.link_laws.specs.world.World.{under_with, Tasked}
 use Rattle.link_world.specs.declared.server.stopped.Stopped.{Stopped}
 use Rattle.link_world.specs.declared.server.stopped.Stopped.TheVariants.{Journal, Memory}
 use Rattle.link_world.specs.declared.client.under.Under.{Under}
@@ -90,7 +89,7 @@ pub record Settled (now : ℕ) (old : Serving) (under : Option Under) (new : Ser
   pub works : ClientWorks now old.table.entries under new.table.entries next
 
 -- so many packets arrived, and the client did its work behind each
-pub record TakesMore (now : ℕ) (old : Serving) (under : Option Under) (new : Serving) (after : Option Under) : Type 0 where
+pub record ClientTakesMore (now : ℕ) (old : Serving) (under : Option Under) (new : Serving) (after : Option Under) : Type 0 where
   pub packets : List Packet
   pub next : Option Tasked
   pub takes : ClientTakes client_setting now packets old.table.entries (task_seen under) new.table.entries next

@@ -6,8 +6,8 @@ use Rattle.rpc_journal.specs.Items.{arrivals, input_ended}
 use Rattle.rpc_schedule.specs.Schedule.{IsOver}
 use Rattle.rpc_schedule.specs.Serving.{Serving, deeds, is_idle}
 use Rattle.rpc_schedule.specs.Settling.{IsOrderly}
-use Rattle.link_laws.specs.world.Limits.{ServerTakingStops}
-use Rattle.link_laws.specs.world.Turns.{ServerTakes}
+use Rattle.link_laws.specs.world.Stops.{ServerTakingStops}
+use Rattle.link_laws.specs.world.Hearing.{ServerTakes}
 use Rattle.link_world.specs.Room.{StaysWithin}
 
 -- nothing is left to do, nothing was refused, more may come, and each entry had room
@@ -20,7 +20,7 @@ pub record IsResting (s : Serving) : Type 0 where
   pub room : StaysWithin s.table.entries
 
 -- so many packets arrived, and each was settled before the next one
-pub record TakesMore (rule : HandlerRule) (old new : Serving) : Type 0 where
+pub record ServerTakesMore (rule : HandlerRule) (old new : Serving) : Type 0 where
   pub packets : List Packet
   pub takes : ServerTakes rule old.table.setting packets old.table.entries new.table.entries
   pub arrived : arrivals new.table.entries ≡ arrivals old.table.entries ++ packets

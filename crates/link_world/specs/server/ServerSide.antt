@@ -8,10 +8,10 @@ use Rattle.rpc_journal.specs.Items.{items_flushed}
 use Rattle.rpc_schedule.specs.Kept.{kept}
 use Rattle.rpc_schedule.specs.Serving.{Serving, deeds}
 use Rattle.rpc_schedule.specs.ends.EndState.{EndState}
-use Rattle.link_laws.specs.world.Limits.{ServerHearingStops}
-use Rattle.link_laws.specs.world.Turns.{HeardAtServer}
+use Rattle.link_laws.specs.world.Hearing.{ServerHearingStops, HeardAtServer}
 use Rattle.link_world.specs.server.Resting.{IsResting}
-use Rattle.link_world.specs.server.Wiring.{GoesOut, Wiring}
+use Rattle.link_world.specs.server.GoesOut.{GoesOut}
+use Rattle.link_laws.specs.world.Wiring.{Wiring}
 
 -- the end of the link, what its store holds, and the items that have gone out, in order
 pub record ServerState : Type 0 where
@@ -31,8 +31,8 @@ pub record ServerMoves (before : ServerState) (old : Wiring) (after : ServerStat
   pub kept : (st : Stored) → before.stored ≡ kept before.items st → after.stored ≡ kept after.items st
 
 -- behind these bytes a frame was fed: the packets that are heard with it arrived, and each was settled
-abbrev pub ServerHears : HandlerRule → Serving → Serving → List ℕ → List ℕ → Type 0
-ServerHears rule before after fed frame = HeardAtServer rule before.table.setting before.table.entries after.table.entries fed frame
+abbrev pub ServerHeard : HandlerRule → Serving → Serving → List ℕ → List ℕ → Type 0
+ServerHeard rule before after fed frame = HeardAtServer rule before.table.setting before.table.entries after.table.entries fed frame
 
 -- behind these bytes the frame was fed up to a packet that has no room, or behind which the settling has none
 abbrev pub ServerStopsHearing : HandlerRule → Serving → List ℕ → List ℕ → Type 0

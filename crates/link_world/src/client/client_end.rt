@@ -11,16 +11,17 @@ ghost use Rattle.rpc_schedule.specs.Serving.{deeds};
 ghost use Rattle.rpc_schedule.specs.ends.EndState.{WasFed};
 ghost use Rattle.link_laws.specs.transfers_fit.Fits.{AreSmall};
 ghost use Rattle.link_laws.specs.world.Client.{ClientSettles};
-ghost use Rattle.link_laws.specs.world.Limits.{AskingStops, ClientStops};
+ghost use Rattle.link_laws.specs.world.Starts.{AskingStops};
+ghost use Rattle.link_laws.specs.world.Stops.{ClientStops};
 ghost use Rattle.link_laws.specs.world.Setup.{client_setting, quiet_rule};
 ghost use Rattle.link_laws.specs.world.World.{Setup, World};
 ghost use Rattle.link_world.specs.Room.{StaysWithin};
 ghost use Rattle.link_world.specs.client.Asking.{ClientAsks, IsAsked, IsClientOf};
-ghost use Rattle.link_world.specs.client.ClientSide.{Attends, ClientHears, ClientMoves, ClientRests, ClientStopsHearing, ClientWorks};
+ghost use Rattle.link_world.specs.client.ClientSide.{Attends, ClientHeard, ClientMoves, ClientRests, ClientStopsHearing, ClientWorks};
 ghost use Rattle.link_world.specs.client.Working.{IsKept, Settled};
 ghost use Rattle.link_world.specs.client.Underway.{task_seen};
 
-use crate::client::quiet::Quiet;
+use crate::client::desk::Desk;
 use crate::client::starting::begin;
 use crate::client::under::Under;
 use crate::client::working::{feed_all, settle};
@@ -28,8 +29,7 @@ use crate::server::{Stopped, Wires, WorldStore, world_channels};
 use demo_services::demo_registry;
 use link_script::Command;
 use rpc_client::Client;
-use rpc_handlers::Event;
-use rpc_journal::{Item, Journal};
+use rpc_journal::Journal;
 use std::alloc::{AllocError, Global};
 use std::marker::Model;
 use transfer_base::Tuning;
@@ -38,18 +38,15 @@ use transfer_base::Tuning;
 #[derive(Drop)]
 pub struct ClientEnd {
     pub(crate) alloc: Global,
-    pub(crate) client: Client<Quiet>,
-    pub(crate) store: WorldStore,
-    pub(crate) items: Vec<Item>,
-    pub(crate) events: Vec<(u32, Event)>,
+    pub(crate) desk: Desk,
 }
 
 impl Model for ClientEnd {
-    ghost use Rattle.link_world.specs.client.ClientSide.{ClientState};
+    ghost use Rattle.link_world.specs.client.ClientSide.{ClientState, state_of};
 
     ghost Value = { ClientState };
 
-    ghost view = { λ s. record { end = s.client; stored = s.store; items = s.items.items; events = s.events.items } };
+    ghost view = { λ s. state_of s.desk };
 }
 
 impl ClientEnd {
@@ -60,13 +57,13 @@ impl ClientEnd {
         ensures unfed { IfOk result (λ s. WasFed client_role s.end []) }
     {
         let client = Client::new(alloc, world_channels(alloc)?, demo_registry(alloc)?)?;
-        Ok(ClientEnd {
-            alloc,
+        let desk = Desk {
             client,
             store,
             items: Vec::new(alloc),
             events: Vec::new(alloc),
-        })
+        };
+        Ok(ClientEnd { alloc, desk })
     }
 
     /// The journal and the store.
@@ -75,13 +72,13 @@ impl ClientEnd {
         ensures legal { IsLegal quiet_rule self.end.serving.table.setting self.end.serving.table.entries }
         ensures store { result.1 ≡ self.stored }
     {
-        let ClientEnd {
-            alloc: _,
+        let ClientEnd { alloc: _, desk } = self;
+        let Desk {
             client,
             store,
             items: _,
             events: _,
-        } = self;
+        } = desk;
         (client.into_calls().into_journal(), store)
     }
 
@@ -98,21 +95,12 @@ impl ClientEnd {
         requires attends { Attends self.old under.old now }
         ensures rest { OnOk result (ClientRests self.new) }
         ensures attends { OnOk result (Attends self.new under.new now) }
-        ensures hears { OnOk result ((fed : List ℕ) → WasFed client_role self.old.end fed → ClientHears now self.old.end.serving under.old self.new.end.serving under.new fed frame.now) }
+        ensures hears { OnOk result ((fed : List ℕ) → WasFed client_role self.old.end fed → ClientHeard now self.old.end.serving under.old self.new.end.serving under.new fed frame.now) }
         ensures fed { OnOk result ((fed : List ℕ) → WasFed client_role self.old.end fed → WasFed client_role self.new.end (fed ++ frame.now)) }
         ensures moves { OnOk result (ClientMoves self.old wires.old self.new wires.new) }
         ensures full { IfErr result (λ why. why ≡ Stopped.Journal → (fed : List ℕ) → WasFed client_role self.old.end fed → ClientStopsHearing now self.old.end.serving under.old fed frame.now) }
     {
-        feed_all(
-            &mut self.client,
-            frame,
-            &mut self.store,
-            &mut self.items,
-            &mut self.events,
-            under,
-            now,
-            wires,
-        )
+        feed_all(&mut self.desk, frame, under, now, wires)
     }
 
     /// The client does its work at this moment: its calls run, the task that speaks is polled once, and all goes out.
@@ -156,8 +144,8 @@ impl ClientEnd {
     {
         let begun = begin(
             self.alloc,
-            &mut self.client,
-            &self.store,
+            &mut self.desk.client,
+            &self.desk.store,
             command,
             sessions,
             tuning,
@@ -190,8 +178,8 @@ impl ClientEnd {
         ensures full { IfErr result (λ why. why ≡ Stopped.Journal → ClientStops client_setting now (adding self.old.end.serving.table.entries run_seat (Cancel call)) None) }
     {
         // Its journal is legal, so a call without an end wasn't cancelled before.
-        let _legal = self.client.calls();
-        let _ = self.client.cancel(call);
+        let _legal = self.desk.client.calls();
+        let _ = self.desk.client.cancel(call);
         self.work_alone(now, wires)
     }
 
@@ -204,7 +192,7 @@ impl ClientEnd {
         ensures moves { OnOk result (ClientMoves self.old wires.old self.new wires.new) }
         ensures full { IfErr result (λ why. why ≡ Stopped.Journal → ClientStops client_setting now (adding self.old.end.serving.table.entries input_seat EndIn) None) }
     {
-        self.client.end_in();
+        self.desk.client.end_in();
         self.work_alone(now, wires)
     }
 
@@ -238,14 +226,6 @@ impl ClientEnd {
         ensures moves { OnOk result (ClientMoves self.old wires.old self.new wires.new) }
         ensures full { IfErr result (λ why. why ≡ Stopped.Journal → ClientStops client_setting now self.old.end.serving.table.entries (task_seen under.old)) }
     {
-        settle(
-            &mut self.client,
-            &mut self.store,
-            &mut self.items,
-            &mut self.events,
-            under,
-            now,
-            wires,
-        )
+        settle(&mut self.desk, under, now, wires)
     }
 }

@@ -18,7 +18,7 @@ impl ClientEnd {
     pub fn end_of(&self, call: u32) -> Option<Status>
         ensures { result ≡ end_of (deeds self.now.end.serving) call }
     {
-        let calls = self.client.calls();
+        let calls = self.desk.client.calls();
         if call < calls.count() {
             calls.status(call)
         } else {
@@ -30,7 +30,7 @@ impl ClientEnd {
     pub fn name(&self, call: u32) -> Option<CallName>
         ensures { result ≡ option_map (λ o. o.name) (call_at (deeds self.now.end.serving) call) }
     {
-        let calls = self.client.calls();
+        let calls = self.desk.client.calls();
         if call < calls.count() {
             Some(calls.name(call))
         } else {
@@ -42,21 +42,21 @@ impl ClientEnd {
     pub fn messages(&self, call: u32) -> u64
         ensures { result ≡ length (flat_map message_in (of_call call self.now.events)) }
     {
-        count_messages(self.events.as_slice(), call)
+        count_messages(self.desk.events.as_slice(), call)
     }
 
     /// The bytes of the first message that came to a call; none where none came.
     pub fn first_message(&self, call: u32) -> Result<Bytes, AllocError>
         ensures { IfOk result (λ bytes. bytes ≡ unwrap_or (slice_get (flat_map message_in (of_call call self.now.events)) 0) []) }
     {
-        first_message(self.events.as_slice(), call)
+        first_message(self.desk.events.as_slice(), call)
     }
 
     /// The length that a session of a call has committed, or 0.
     pub fn length_read(&self, session: u32, call: u32) -> u64
         ensures { result ≡ unwrap_or (committed self.now.items session call) 0 }
     {
-        committed(self.items.as_slice(), session, call).unwrap_or(0)
+        committed(self.desk.items.as_slice(), session, call).unwrap_or(0)
     }
 }
 

@@ -10,11 +10,10 @@ ghost use Rattle.rpc_schedule.specs.Settling.{IsOrderly};
 ghost use Rattle.rpc_schedule.specs.ends.EndState.{WasFed};
 ghost use Rattle.transfer_base.specs.declared.limits.TheConstants.{MAX_RESOURCE};
 ghost use Rattle.link_laws.specs.transfers_fit.Fits.{AreSmall};
-ghost use Rattle.link_laws.specs.world.Limits.{adding_stops};
+ghost use Rattle.link_laws.specs.world.Starts.{adding_stops, starts};
 ghost use Rattle.link_laws.specs.world.Setup.{client_setting};
-ghost use Rattle.link_laws.specs.world.Starts.{starts};
 ghost use Rattle.link_laws.specs.world.World.{Setup, World};
-ghost use Rattle.link_world.specs.client.Asking.{Begins, ClientAdds, IsAsked, IsClientOf};
+ghost use Rattle.link_world.specs.client.Asking.{HasBegun, ClientAdds, IsAsked, IsClientOf};
 ghost use Rattle.link_world.specs.client.ClientSide.{IsNumbered};
 ghost use Rattle.link_world.specs.client.Underway.{call_seen, last_poll};
 
@@ -47,7 +46,7 @@ pub(crate) fn begin(
     requires asked { IsAsked command.now }
     requires room { sessions.old + 1 < 2 ^ 32 }
     requires small { AreSmall store.now.full }
-    ensures begins { IfOk result (λ way. (k : Setup) (w : World) (at : ℕ) → IsClientOf k w (record { end = client.old; stored = store.now; items = []; events = [] }) sessions.old tuning at → Begins k w (command.now) client.new.serving.table.entries way sessions.new) }
+    ensures begins { IfOk result (λ way. (k : Setup) (w : World) (at : ℕ) → IsClientOf k w (record { end = client.old; stored = store.now; items = []; events = [] }) sessions.old tuning at → HasBegun k w (command.now) client.new.serving.table.entries way sessions.new) }
     ensures adds { OnOk result (ClientAdds client.old.serving client.new.serving.table.entries client.new.serving) }
     ensures there { IfOk result (λ way. IfSome (call_seen (Some way)) (λ c. c < call_count (deeds client.new.serving))) }
     ensures unpolled { IfOk result (λ way. last_poll (Some way) ≡ 0) }
@@ -108,7 +107,7 @@ fn begin_read(
     requires numbered { IsNumbered (deeds client.old.serving) }
     requires offset { offset ≤ MAX_RESOURCE }
     requires room { sessions.old + 1 < 2 ^ 32 }
-    ensures begins { IfOk result (λ way. (k : Setup) (w : World) (at : ℕ) → IsClientOf k w (record { end = client.old; stored = store.now; items = []; events = [] }) sessions.old tuning at → Begins k w (Read resource offset) client.new.serving.table.entries way sessions.new) }
+    ensures begins { IfOk result (λ way. (k : Setup) (w : World) (at : ℕ) → IsClientOf k w (record { end = client.old; stored = store.now; items = []; events = [] }) sessions.old tuning at → HasBegun k w (Read resource offset) client.new.serving.table.entries way sessions.new) }
     ensures adds { OnOk result (ClientAdds client.old.serving client.new.serving.table.entries client.new.serving) }
     ensures there { IfOk result (λ way. IfSome (call_seen (Some way)) (λ c. c < call_count (deeds client.new.serving))) }
     ensures unpolled { IfOk result (λ way. last_poll (Some way) ≡ 0) }
@@ -144,7 +143,7 @@ fn begin_write(
     requires numbered { IsNumbered (deeds client.old.serving) }
     requires room { sessions.old + 1 < 2 ^ 32 }
     requires small { AreSmall store.now.full }
-    ensures begins { IfOk result (λ way. (k : Setup) (w : World) (at : ℕ) → IsClientOf k w (record { end = client.old; stored = store.now; items = []; events = [] }) sessions.old tuning at → Begins k w (Write resource offset) client.new.serving.table.entries way sessions.new) }
+    ensures begins { IfOk result (λ way. (k : Setup) (w : World) (at : ℕ) → IsClientOf k w (record { end = client.old; stored = store.now; items = []; events = [] }) sessions.old tuning at → HasBegun k w (Write resource offset) client.new.serving.table.entries way sessions.new) }
     ensures adds { OnOk result (ClientAdds client.old.serving client.new.serving.table.entries client.new.serving) }
     ensures there { IfOk result (λ way. IfSome (call_seen (Some way)) (λ c. c < call_count (deeds client.new.serving))) }
     ensures unpolled { IfOk result (λ way. last_poll (Some way) ≡ 0) }

@@ -12,57 +12,55 @@ ghost use Rattle.rpc_schedule.specs.Serving.{deeds};
 ghost use Rattle.rpc_schedule.specs.Settling.{IsOrderly};
 ghost use Rattle.rpc_schedule.specs.ends.EndState.{WasFed};
 ghost use Rattle.link_laws.specs.world.Client.{all_said_in, said_in};
-ghost use Rattle.link_laws.specs.world.Limits.{ClientStops, saying_stops};
+ghost use Rattle.link_laws.specs.world.Stops.{ClientStops, saying_stops};
 ghost use Rattle.link_laws.specs.world.Setup.{client_setting};
-ghost use Rattle.link_laws.specs.world.Turns.{under_with};
+ghost use Rattle.link_laws.specs.world.World.{under_with};
 ghost use Rattle.link_world.specs.server.Resting.{IsResting};
-ghost use Rattle.link_world.specs.server.Wiring.{GoesOut};
+ghost use Rattle.link_world.specs.server.GoesOut.{GoesOut};
 ghost use Rattle.link_world.specs.client.ClientSide.{ClientStopsHearing};
 ghost use Rattle.link_world.specs.client.Speaking.{SayingStops, polled_with, said_with};
 ghost use Rattle.link_world.specs.client.Underway.{call_seen, last_poll, task_seen, under_seen};
-ghost use Rattle.link_world.specs.client.Working.{ClientFlushes, ClientRuns, ClientRunsFull, ClientSays, IsKept, Settled, TakesMore, stop_of};
+ghost use Rattle.link_world.specs.client.Working.{ClientFlushes, ClientRuns, ClientRunsFull, ClientSays, IsKept, Settled, ClientTakesMore, stop_of};
 
+use crate::client::desk::Desk;
 use crate::client::quiet::Quiet;
 use crate::client::under::Under;
-use crate::server::{Stopped, Wires, WorldStore, take_out};
+use crate::server::{Stopped, Wires, take_out};
 use rpc_calls::SayRefused;
 use rpc_client::{Client, work_until_idle};
 use rpc_handlers::{Event, Out};
 use rpc_ids::Role;
-use rpc_journal::{Item, StartRefused};
+use rpc_journal::StartRefused;
 use std::alloc::AllocError;
 
 /// Feeds a frame, and does the client's work after each packet that is heard in it.
 pub(crate) fn feed_all(
-    client: &mut Client<Quiet>,
+    desk: &mut Desk,
     frame: &[u8],
-    store: &mut WorldStore,
-    items: &mut Vec<Item>,
-    events: &mut Vec<(u32, Event)>,
     under: &mut Option<Under>,
     now: u64,
     wires: &mut Wires,
 ) -> Result<(), Stopped>
-    requires rest { IsResting client.old.serving }
-    requires kept { IsKept client.old.serving items.old.items events.old.items }
-    requires there { IfSome (call_seen under.old) (λ c. c < call_count (deeds client.old.serving)) }
+    requires rest { IsResting desk.old.client.serving }
+    requires kept { IsKept desk.old.client.serving desk.old.items.items desk.old.events.items }
+    requires there { IfSome (call_seen under.old) (λ c. c < call_count (deeds desk.old.client.serving)) }
     requires past { last_poll under.old ≤ now }
-    ensures rest { OnOk result (IsResting client.new.serving) }
-    ensures kept { OnOk result (IsKept client.new.serving items.new.items events.new.items) }
-    ensures takes { OnOk result (TakesMore now client.old.serving under.old client.new.serving under.new) }
-    ensures there { OnOk result (IfSome (call_seen under.new) (λ c. c < call_count (deeds client.new.serving))) }
+    ensures rest { OnOk result (IsResting desk.new.client.serving) }
+    ensures kept { OnOk result (IsKept desk.new.client.serving desk.new.items.items desk.new.events.items) }
+    ensures takes { OnOk result (ClientTakesMore now desk.old.client.serving under.old desk.new.client.serving under.new) }
+    ensures there { OnOk result (IfSome (call_seen under.new) (λ c. c < call_count (deeds desk.new.client.serving))) }
     ensures past { OnOk result (last_poll under.new ≤ now) }
-    ensures out { OnOk result (GoesOut client_role items.old.items wires.old items.new.items wires.new) }
-    ensures holds { OnOk result ((st : Option Stored) → Holds items.old.items st (Some store.old) → Holds items.new.items st (Some store.new)) }
-    ensures fed { OnOk result ((bytes : List ℕ) → WasFed client_role client.old bytes → WasFed client_role client.new (bytes ++ frame.now)) }
-    ensures full { IfErr result (λ why. why ≡ Stopped.Journal → (bytes : List ℕ) → WasFed client_role client.old bytes → ClientStopsHearing now client.old.serving under.old bytes frame.now) }
+    ensures out { OnOk result (GoesOut client_role desk.old.items.items wires.old desk.new.items.items wires.new) }
+    ensures holds { OnOk result ((st : Option Stored) → Holds desk.old.items.items st (Some desk.old.store) → Holds desk.new.items.items st (Some desk.new.store)) }
+    ensures fed { OnOk result ((bytes : List ℕ) → WasFed client_role desk.old.client bytes → WasFed client_role desk.new.client (bytes ++ frame.now)) }
+    ensures full { IfErr result (λ why. why ≡ Stopped.Journal → (bytes : List ℕ) → WasFed client_role desk.old.client bytes → ClientStopsHearing now desk.old.client.serving under.old bytes frame.now) }
 {
     let mut done = 0;
     'frames: while done < frame.len() {
-        let count = client.calls().journal().len();
-        done += client.feed(&frame[done..])?;
-        if count < client.calls().journal().len() {
-            settle(client, store, items, events, under, now, wires)?;
+        let count = desk.client.calls().journal().len();
+        done += desk.client.feed(&frame[done..])?;
+        if count < desk.client.calls().journal().len() {
+            settle(desk, under, now, wires)?;
         }
     }
     Ok(())
@@ -70,38 +68,40 @@ pub(crate) fn feed_all(
 
 /// Does the client's work once: its calls run, the task that speaks is polled, and all goes out.
 pub(crate) fn settle(
-    client: &mut Client<Quiet>,
-    store: &mut WorldStore,
-    items: &mut Vec<Item>,
-    events: &mut Vec<(u32, Event)>,
+    desk: &mut Desk,
     under: &mut Option<Under>,
     now: u64,
     wires: &mut Wires,
 ) -> Result<(), Stopped>
-    requires few { items_waiting (deeds client.old.serving) < 65536 }
-    requires kept { IsKept client.old.serving items.old.items events.old.items }
-    requires there { IfSome (call_seen under.old) (λ c. c < call_count (deeds client.old.serving)) }
+    requires few { items_waiting (deeds desk.old.client.serving) < 65536 }
+    requires kept { IsKept desk.old.client.serving desk.old.items.items desk.old.events.items }
+    requires there { IfSome (call_seen under.old) (λ c. c < call_count (deeds desk.old.client.serving)) }
     requires past { last_poll under.old ≤ now }
-    ensures settled { OnOk result (Settled now client.old.serving under.old client.new.serving under.new) }
-    ensures kept { OnOk result (IsKept client.new.serving items.new.items events.new.items) }
+    ensures settled { OnOk result (Settled now desk.old.client.serving under.old desk.new.client.serving under.new) }
+    ensures kept { OnOk result (IsKept desk.new.client.serving desk.new.items.items desk.new.events.items) }
     ensures past { OnOk result (last_poll under.new ≤ now) }
-    ensures out { OnOk result (GoesOut client_role items.old.items wires.old items.new.items wires.new) }
-    ensures holds { OnOk result ((st : Option Stored) → Holds items.old.items st (Some store.old) → Holds items.new.items st (Some store.new)) }
-    ensures full { IfErr result (λ why. why ≡ Stopped.Journal → ClientStops client_setting now client.old.serving.table.entries (task_seen under.old)) }
-    ensures fed { (bytes : List ℕ) → WasFed client_role client.old bytes → WasFed client_role client.new bytes }
+    ensures out { OnOk result (GoesOut client_role desk.old.items.items wires.old desk.new.items.items wires.new) }
+    ensures holds { OnOk result ((st : Option Stored) → Holds desk.old.items.items st (Some desk.old.store) → Holds desk.new.items.items st (Some desk.new.store)) }
+    ensures full { IfErr result (λ why. why ≡ Stopped.Journal → ClientStops client_setting now desk.old.client.serving.table.entries (task_seen under.old)) }
+    ensures fed { (bytes : List ℕ) → WasFed client_role desk.old.client bytes → WasFed client_role desk.new.client bytes }
 {
-    let from = events.len();
-    match run_all(client, events) {
+    let from = desk.events.len();
+    match run_all(&mut desk.client, &mut desk.events) {
         Ok(()) => {}
         Err(refused) => return Err(Stopped::from(refused)),
     }
     // Its journal is legal and so few items wait that each call with an event is ready: none has one now.
-    let _legal = client.calls();
-    match speak(client, &events.as_slice()[from..], under, now) {
+    let _legal = desk.client.calls();
+    match speak(
+        &mut desk.client,
+        &desk.events.as_slice()[from..],
+        under,
+        now,
+    ) {
         Ok(()) => {}
         Err(stopped) => return Err(stopped),
     }
-    flush_all(client, store, items, wires)?;
+    flush_all(desk, wires)?;
     Ok(())
 }
 
@@ -202,22 +202,18 @@ fn stop_of(refused: SayRefused) -> Option<Stopped>
 }
 
 // Flushes each item that waits.
-fn flush_all(
-    client: &mut Client<Quiet>,
-    store: &mut WorldStore,
-    items: &mut Vec<Item>,
-    wires: &mut Wires,
-) -> Result<(), AllocError>
-    requires orderly { IsOrderly client.old.serving }
-    requires items { items.old.items ≡ items_flushed (deeds client.old.serving) }
-    ensures flushes { OnOk result (ClientFlushes client.old.serving client.new.serving) }
-    ensures items { OnOk result (items.new.items ≡ items_flushed (deeds client.new.serving)) }
-    ensures out { OnOk result (GoesOut client_role items.old.items wires.old items.new.items wires.new) }
-    ensures holds { OnOk result ((st : Option Stored) → Holds items.old.items st (Some store.old) → Holds items.new.items st (Some store.new)) }
-    ensures fed { (bytes : List ℕ) → WasFed client_role client.old bytes → WasFed client_role client.new bytes }
+fn flush_all(desk: &mut Desk, wires: &mut Wires) -> Result<(), AllocError>
+    requires orderly { IsOrderly desk.old.client.serving }
+    requires items { desk.old.items.items ≡ items_flushed (deeds desk.old.client.serving) }
+    ensures flushes { OnOk result (ClientFlushes desk.old.client.serving desk.new.client.serving) }
+    ensures same { desk.new.events.items ≡ desk.old.events.items }
+    ensures items { OnOk result (desk.new.items.items ≡ items_flushed (deeds desk.new.client.serving)) }
+    ensures out { OnOk result (GoesOut client_role desk.old.items.items wires.old desk.new.items.items wires.new) }
+    ensures holds { OnOk result ((st : Option Stored) → Holds desk.old.items.items st (Some desk.old.store) → Holds desk.new.items.items st (Some desk.new.store)) }
+    ensures fed { (bytes : List ℕ) → WasFed client_role desk.old.client bytes → WasFed client_role desk.new.client bytes }
 {
-    'items: while let Some(item) = client.next_out() {
-        take_out(Role::Client, item, store, items, wires)?;
+    'items: while let Some(item) = desk.client.next_out() {
+        take_out(Role::Client, item, &mut desk.store, &mut desk.items, wires)?;
     }
     Ok(())
 }

@@ -9,16 +9,15 @@ ghost use Rattle.rpc_journal.specs.Items.{items_flushed};
 ghost use Rattle.rpc_journal.specs.Refusals.{is_full};
 ghost use Rattle.rpc_journal.specs.Lawful.{IsLegal};
 ghost use Rattle.link_laws.specs.world.Committed.{committed};
-ghost use Rattle.link_laws.specs.world.Limits.{ServerStops, ServerStopsWith};
+ghost use Rattle.link_laws.specs.world.Stops.{ServerStops, ServerStopsWith};
 ghost use Rattle.link_laws.specs.world.Lines.{calls_named};
 ghost use Rattle.link_laws.specs.world.Setup.{server_setting};
-ghost use Rattle.link_laws.specs.world.Turns.{closed_by};
+ghost use Rattle.link_laws.specs.world.Starts.{closed_by, ended_by_close};
 ghost use Rattle.rpc_schedule.specs.Schedule.{Settles, flush_seat, input_seat};
 ghost use Rattle.rpc_schedule.specs.Serving.{deeds};
 ghost use Rattle.rpc_schedule.specs.ends.EndState.{WasFed};
-ghost use Rattle.link_laws.specs.world.Starts.{ended_by_close};
 ghost use Rattle.link_world.specs.Room.{StaysWithin};
-ghost use Rattle.link_world.specs.server.ServerSide.{ServerHears, ServerMoves, ServerRests, ServerStopsHearing};
+ghost use Rattle.link_world.specs.server.ServerSide.{ServerHeard, ServerMoves, ServerRests, ServerStopsHearing};
 
 use crate::server::channels::world_channels;
 use crate::server::progress::committed;
@@ -130,7 +129,7 @@ impl ServerEnd {
     pub fn deliver(&mut self, frame: &[u8], wires: &mut Wires) -> Result<(), Stopped>
         requires { ServerRests self.old }
         ensures rest { OnOk result (ServerRests self.new) }
-        ensures hears { OnOk result ((fed : List ℕ) → WasFed server_role self.old.end fed → ServerHears demo_rule self.old.end.serving self.new.end.serving fed frame.now) }
+        ensures hears { OnOk result ((fed : List ℕ) → WasFed server_role self.old.end fed → ServerHeard demo_rule self.old.end.serving self.new.end.serving fed frame.now) }
         ensures fed { OnOk result ((fed : List ℕ) → WasFed server_role self.old.end fed → WasFed server_role self.new.end (fed ++ frame.now)) }
         ensures moves { OnOk result (ServerMoves self.old wires.old self.new wires.new) }
         ensures full { IfErr result (λ why. why ≡ Stopped.Journal → (fed : List ℕ) → WasFed server_role self.old.end fed → ServerStopsHearing demo_rule self.old.end.serving fed frame.now) }

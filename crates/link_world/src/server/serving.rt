@@ -6,8 +6,9 @@ ghost use Rattle.rpc_journal.specs.Items.{items_flushed, packet_of};
 ghost use Rattle.rpc_schedule.specs.Kept.{Holds};
 ghost use Rattle.rpc_schedule.specs.Serving.{deeds};
 ghost use Rattle.rpc_schedule.specs.Settling.{FlushesAll, Grows, IsOrderly, RunsAll, RunsAndFlushes, SettlesAll, StopsFull};
-ghost use Rattle.link_world.specs.server.Resting.{IsResting, StopsWithin, TakesMore};
-ghost use Rattle.link_world.specs.server.Wiring.{GoesOut, with_all_sent};
+ghost use Rattle.link_world.specs.server.Resting.{IsResting, StopsWithin, ServerTakesMore};
+ghost use Rattle.link_world.specs.server.GoesOut.{GoesOut};
+ghost use Rattle.link_laws.specs.world.Wiring.{with_all_sent};
 
 use crate::server::stopped::Stopped;
 use crate::server::wires::Wires;
@@ -29,7 +30,7 @@ pub(crate) fn feed_all<T: Serves>(
     requires rest { IsResting (T.seen server.old) }
     requires items { items.old.items ≡ items_flushed (deeds (T.seen server.old)) }
     ensures rest { OnOk result (IsResting (T.seen server.new)) }
-    ensures takes { OnOk result (TakesMore T.rule (T.seen server.old) (T.seen server.new)) }
+    ensures takes { OnOk result (ServerTakesMore T.rule (T.seen server.old) (T.seen server.new)) }
     ensures items { OnOk result (items.new.items ≡ items_flushed (deeds (T.seen server.new))) }
     ensures out { OnOk result (GoesOut server_role items.old.items wires.old items.new.items wires.new) }
     ensures holds { OnOk result ((st : Option Stored) → Holds items.old.items st (Some store.old) → Holds items.new.items st (Some store.new)) }

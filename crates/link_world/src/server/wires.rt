@@ -4,7 +4,7 @@ ghost use Rattle.link_script.specs.lossy.Link.{new_link, released};
 ghost use Rattle.rpc_journal.specs.Items.{packet_of};
 ghost use Rattle.history_laws.specs.messages.Messages.{is_stream};
 ghost use Rattle.link_laws.specs.world.Reports.{carries_chunk};
-ghost use Rattle.link_world.specs.server.Wiring.{with_all_sent, with_sent};
+ghost use Rattle.link_laws.specs.world.Wiring.{with_all_sent, with_sent};
 
 use bytes::Bytes;
 use demo_services::ids;
@@ -28,7 +28,7 @@ pub struct Wires {
 }
 
 impl Model for Wires {
-    ghost use Rattle.link_world.specs.server.Wiring.{Wiring};
+    ghost use Rattle.link_laws.specs.world.Wiring.{Wiring};
 
     ghost Value = { Wiring };
 

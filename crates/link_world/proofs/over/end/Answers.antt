@@ -4,7 +4,7 @@ use Rattle.rpc_journal.specs.declared.entry.EntryKind.TheVariants.{EndIn}
 use Rattle.rpc_journal.specs.History.{adding}
 use Rattle.rpc_schedule.specs.Schedule.{input_seat}
 use Rattle.link_laws.specs.world.Client.{ClientSettles}
-use Rattle.link_laws.specs.world.Limits.{ClientStops}
+use Rattle.link_laws.specs.world.Stops.{ClientStops}
 use Rattle.link_laws.specs.world.Setup.{client_setting}
 use Rattle.link_world.proofs.OverLemmas.{ends_as}
 use Rattle.link_world.proofs.StopLemmas.{client_end_stops, server_end_stops, stopped_so}

@@ -1,6 +1,6 @@
 use Rattle.std.proofs.Common.{refl, subst}
 use Rattle.std.proofs.lemmas.Result.{IfErr-at_err}
-use Rattle.link_world.specs.client.ClientSide.{ClientStopsHearing, ClientHears}
+use Rattle.link_world.specs.client.ClientSide.{ClientStopsHearing, ClientHeard}
 use Rattle.link_world.proofs.MakeLemmas.{on_ok_four}
 use Rattle.link_world.proofs.ClientLemmas.{delivered_down}
 use Rattle.link_world.proofs.StopLemmas.{down_stops}
@@ -12,7 +12,7 @@ returns-clause-turn c =
     (λ rests hears fed moves k commands w rest shows wires course.
     delivered_down k commands w c.args.frame.now rest c.args.client.now c.deliver.new.self c.args.wires.now c.deliver.new.wires c.args.course.now c.deliver.new.under
     shows wires course rests
-    (subst (λ at. ClientHears at c.args.client.now.end.serving c.args.course.now.under c.deliver.new.self.end.serving c.deliver.new.under w.fed_client c.args.frame.now)
+    (subst (λ at. ClientHeard at c.args.client.now.end.serving c.args.course.now.under c.deliver.new.self.end.serving c.deliver.new.under w.fed_client c.args.frame.now)
     c.moment-now.ensures (hears w.fed_client shows.fed))
     (fed w.fed_client shows.fed) moves)
     c.deliver.ensures.rest c.deliver.ensures.hears c.deliver.ensures.fed c.deliver.ensures.moves

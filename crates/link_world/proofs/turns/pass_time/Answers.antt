@@ -5,7 +5,7 @@ use Rattle.rpc_journal.specs.declared.entry.EntryKind.TheVariants.{Tick}
 use Rattle.rpc_journal.specs.History.{adding}
 use Rattle.rpc_schedule.specs.Schedule.{Settles, flush_seat}
 use Rattle.rpc_schedule.proofs.StreamLemmas.{handed_on}
-use Rattle.link_laws.specs.world.Limits.{ClientStops, ServerStopsWith}
+use Rattle.link_laws.specs.world.Stops.{ClientStops, ServerStopsWith}
 use Rattle.link_laws.specs.world.Setup.{client_setting}
 use Rattle.link_world.specs.client.ClientSide.{ClientWorks}
 use Rattle.link_world.specs.client.Underway.{task_seen}

@@ -1,4 +1,4 @@
-use Rattle.std.proofs.Common.{◌≡◌, ◌∙◌, ◌∷◌, ◌++◌, [], true, false, ap, subst}
+use Rattle.std.proofs.Common.{◌≡◌, ◌∙◌, ◌∷◌, ◌++◌, [], true, false, ap, subst, arith}
 use Rattle.demo_services.specs.Methods.{demo_id}
 use Rattle.rpc_journal.specs.declared.entry.EntryKind.TheVariants.{Done}
 use Rattle.std.proofs.lemmas.Bool.{or_left}
@@ -7,12 +7,9 @@ use Rattle.rpc_journal.specs.History.{adding}
 use Rattle.rpc_journal.specs.Refusals.{is_full}
 use Rattle.rpc_schedule.specs.Schedule.{run_seat}
 use Rattle.rpc_schedule.specs.Serving.{deeds}
-use Rattle.link_laws.specs.world.Limits.{adding_stops}
-use Rattle.link_laws.specs.world.Starts.{all_added, opens_with}
+use Rattle.link_laws.specs.world.Starts.{adding_stops, all_added, opens_with}
 use Rattle.link_world.specs.client.Asking.{ClientAdds, byte_messages, method_id}
-use Rattle.link_world.proofs.client.AskLemmas.{adds_then, stops_after, stops_first}
-use Rattle.std.proofs.Common.{arith}
-use Rattle.link_world.proofs.client.AskLemmas.{few_added, messages_length}
+use Rattle.link_world.proofs.client.AskLemmas.{adds_then, stops_after, stops_first, few_added, messages_length}
 use Rattle.link_world.proofs.client.asking.ask_stream.Goals as goal
 
 pub returns-in-Ok-complete-clause-adds : goal.returns-in-Ok-complete-clause-adds

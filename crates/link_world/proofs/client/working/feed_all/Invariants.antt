@@ -6,22 +6,22 @@ use Rattle.rpc_schedule.specs.Kept.{Holds}
 use Rattle.rpc_schedule.specs.Serving.{deeds}
 use Rattle.rpc_schedule.specs.ends.EndState.{WasFed}
 use Rattle.link_world.specs.server.Resting.{IsResting}
-use Rattle.link_world.specs.server.Wiring.{GoesOut}
+use Rattle.link_world.specs.server.GoesOut.{GoesOut}
 use Rattle.link_world.specs.client.Underway.{call_seen, last_poll}
-use Rattle.link_world.specs.client.Working.{IsKept, TakesMore}
+use Rattle.link_world.specs.client.Working.{IsKept, ClientTakesMore}
 use Rattle.link_world.proofs.client.working.feed_all.Given as goal
 
 abbrev pub invariant-frames : goal.invariant-frames
 invariant-frames l = record {
   within : l.done ≤ length l.frame;
-  rest : IsResting l.client.serving;
-  kept : IsKept l.client.serving l.items.items l.events.items;
-  takes : TakesMore l.now l.fn.client.serving l.fn.under l.client.serving l.under;
-  there : IfSome (call_seen l.under) (λ c. c < call_count (deeds l.client.serving));
+  rest : IsResting l.desk.client.serving;
+  kept : IsKept l.desk.client.serving l.desk.items.items l.desk.events.items;
+  takes : ClientTakesMore l.now l.fn.desk.client.serving l.fn.under l.desk.client.serving l.under;
+  there : IfSome (call_seen l.under) (λ c. c < call_count (deeds l.desk.client.serving));
   past : last_poll l.under ≤ l.now;
-  out : GoesOut client_role l.fn.items.items l.fn.wires l.items.items l.wires;
-  holds : (st : Option Stored) → Holds l.fn.items.items st (Some l.fn.store) → Holds l.items.items st (Some l.store);
-  fed : (bytes : List ℕ) → WasFed client_role l.fn.client bytes → WasFed client_role l.client (bytes ++ take l.done l.frame);
+  out : GoesOut client_role l.fn.desk.items.items l.fn.wires l.desk.items.items l.wires;
+  holds : (st : Option Stored) → Holds l.fn.desk.items.items st (Some l.fn.desk.store) → Holds l.desk.items.items st (Some l.desk.store);
+  fed : (bytes : List ℕ) → WasFed client_role l.fn.desk.client bytes → WasFed client_role l.desk.client (bytes ++ take l.done l.frame);
 }
 
 abbrev pub decreases-frames : goal.decreases-frames

@@ -4,15 +4,15 @@ use Rattle.rpc_ids.specs.declared.method.Role.TheVariants.{Server as server_role
 use Rattle.rpc_schedule.specs.Kept.{Holds}
 use Rattle.rpc_journal.specs.Items.{items_flushed}
 use Rattle.rpc_schedule.specs.Serving.{deeds}
-use Rattle.link_world.specs.server.Resting.{IsResting, TakesMore}
-use Rattle.link_world.specs.server.Wiring.{GoesOut}
+use Rattle.link_world.specs.server.Resting.{IsResting, ServerTakesMore}
+use Rattle.link_world.specs.server.GoesOut.{GoesOut}
 use Rattle.link_world.proofs.server.serving.feed_all.Given as goal
 
 abbrev pub invariant-frames : goal.invariant-frames
 invariant-frames g l = record {
   within : l.done ≤ length l.frame;
   rest : IsResting (g.T.Serves.seen l.server);
-  takes : TakesMore g.T.Serves.rule (g.T.Serves.seen l.fn.server) (g.T.Serves.seen l.server);
+  takes : ServerTakesMore g.T.Serves.rule (g.T.Serves.seen l.fn.server) (g.T.Serves.seen l.server);
   items : l.items.items ≡ items_flushed (deeds (g.T.Serves.seen l.server));
   out : GoesOut server_role l.fn.items.items l.fn.wires l.items.items l.wires;
   holds : (st : Option Stored) → Holds l.fn.items.items st (Some l.fn.store) → Holds l.items.items st (Some l.store);

@@ -5,7 +5,7 @@ use Rattle.rpc_schedule.specs.Kept.{Holds}
 use Rattle.rpc_journal.specs.Items.{items_flushed, items_waiting}
 use Rattle.rpc_schedule.specs.Serving.{deeds}
 use Rattle.rpc_schedule.proofs.LoopLemmas.{FlushesOn}
-use Rattle.link_world.specs.server.Wiring.{GoesOut}
+use Rattle.link_world.specs.server.GoesOut.{GoesOut}
 use Rattle.link_world.proofs.server.serving.flush_all.Given as goal
 
 abbrev pub invariant-items : goal.invariant-items

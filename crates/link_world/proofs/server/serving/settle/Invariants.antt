@@ -6,7 +6,7 @@ use Rattle.rpc_schedule.specs.Kept.{Holds}
 use Rattle.rpc_journal.specs.Items.{items_flushed}
 use Rattle.rpc_schedule.specs.Serving.{deeds}
 use Rattle.rpc_schedule.specs.Settling.{RunsAndFlushes}
-use Rattle.link_world.specs.server.Wiring.{GoesOut}
+use Rattle.link_world.specs.server.GoesOut.{GoesOut}
 use Rattle.link_world.proofs.server.serving.settle.Given as goal
 
 abbrev pub invariant-rounds : goal.invariant-rounds

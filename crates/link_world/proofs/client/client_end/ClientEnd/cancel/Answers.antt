@@ -5,11 +5,11 @@ use Rattle.rpc_journal.specs.History.{adding}
 use Rattle.rpc_schedule.specs.Schedule.{run_seat}
 use Rattle.rpc_schedule.specs.Serving.{Serving, deeds}
 use Rattle.link_laws.specs.world.Client.{ClientSettles}
-use Rattle.link_laws.specs.world.Limits.{ClientStops}
+use Rattle.link_laws.specs.world.Stops.{ClientStops}
 use Rattle.link_laws.specs.world.Setup.{client_setting, quiet_rule}
 use Rattle.link_world.specs.declared.server.stopped.Stopped.TheVariants.{Journal}
 use Rattle.link_world.proofs.server.OutLemmas.{on_ok_one}
-use Rattle.link_world.specs.client.ClientSide.{ClientRests, ClientState}
+use Rattle.link_world.specs.client.ClientSide.{ClientRests, ClientState, state_of}
 use Rattle.link_world.specs.client.Working.{IsKept}
 use Rattle.link_world.proofs.client.EndLemmas.{cancel_opens, cancelled_is, entered_kept, kept_by, settles_alone}
 use Rattle.rpc_journal.specs.Items.{items_waiting}
@@ -18,19 +18,19 @@ use Rattle.link_world.proofs.client.client_end.ClientEnd.cancel.Goals as goal
 
 pub work_alone-requires-clause-kept : goal.work_alone-requires-clause-kept
 work_alone-requires-clause-kept c =
-    let before : ClientState = record { end = c.self.inside.client; stored = c.self.inside.store; items = c.self.inside.items.items; events = c.self.inside.events.items } in
+    let before : ClientState = state_of c.self.inside.desk in
     let rest : ClientRests before = subst ClientRests (sym c.self.view_is) c.requires.rest in
-    let is = cancelled_is quiet_rule c.self.inside.client c.cancel.new.self c.args.call c.cancel.result c.cancel.ensures.did c.cancel.ensures.aside c.calls-legal.ensures.legal
+    let is = cancelled_is quiet_rule c.self.inside.desk.client c.cancel.new.self c.args.call c.cancel.result c.cancel.ensures.did c.cancel.ensures.aside c.calls-legal.ensures.legal
     (subst (λ (s : ClientState). end_of (deeds s.end.serving) c.args.call ≡ None) (sym c.self.view_is) c.requires.open) in
-    subst (λ s. IsKept s c.self.inside.items.items c.self.inside.events.items) (sym is)
-    (entered_kept c.self.inside.client.serving c.self.inside.items.items c.self.inside.events.items run_seat (Cancel c.args.call) (kept_by before rest)
-    (cancel_opens c.self.inside.client.serving.table.setting (deeds c.self.inside.client.serving) c.args.call) (λ k. refl) (λ k. refl) (λ k. refl) refl refl refl refl)
+    subst (λ s. IsKept s c.self.inside.desk.items.items c.self.inside.desk.events.items) (sym is)
+    (entered_kept c.self.inside.desk.client.serving c.self.inside.desk.items.items c.self.inside.desk.events.items run_seat (Cancel c.args.call) (kept_by before rest)
+    (cancel_opens c.self.inside.desk.client.serving.table.setting (deeds c.self.inside.desk.client.serving) c.args.call) (λ k. refl) (λ k. refl) (λ k. refl) refl refl refl refl)
 
 pub returns-clause-settles : goal.returns-clause-settles
 returns-clause-settles c =
-    let before : ClientState = record { end = c.self.inside.client; stored = c.self.inside.store; items = c.self.inside.items.items; events = c.self.inside.events.items } in
+    let before : ClientState = state_of c.self.inside.desk in
     let rest : ClientRests before = subst ClientRests (sym c.self.view_is) c.requires.rest in
-    let is = cancelled_is quiet_rule c.self.inside.client c.cancel.new.self c.args.call c.cancel.result c.cancel.ensures.did c.cancel.ensures.aside c.calls-legal.ensures.legal
+    let is = cancelled_is quiet_rule c.self.inside.desk.client c.cancel.new.self c.args.call c.cancel.result c.cancel.ensures.did c.cancel.ensures.aside c.calls-legal.ensures.legal
     (subst (λ (s : ClientState). end_of (deeds s.end.serving) c.args.call ≡ None) (sym c.self.view_is) c.requires.open) in
     let entries : c.cancel.new.self.serving.table.entries ≡ adding c.args.self.now.end.serving.table.entries run_seat (Cancel c.args.call) =
     ap (λ (s : Serving). s.table.entries) is ∙ ap (λ (s : ClientState). adding s.end.serving.table.entries run_seat (Cancel c.args.call)) c.self.view_is in
@@ -41,9 +41,9 @@ returns-clause-settles c =
 
 pub returns-clause-full : goal.returns-clause-full
 returns-clause-full c =
-    let before : ClientState = record { end = c.self.inside.client; stored = c.self.inside.store; items = c.self.inside.items.items; events = c.self.inside.events.items } in
+    let before : ClientState = state_of c.self.inside.desk in
     let rest : ClientRests before = subst ClientRests (sym c.self.view_is) c.requires.rest in
-    let is = cancelled_is quiet_rule c.self.inside.client c.cancel.new.self c.args.call c.cancel.result c.cancel.ensures.did c.cancel.ensures.aside c.calls-legal.ensures.legal
+    let is = cancelled_is quiet_rule c.self.inside.desk.client c.cancel.new.self c.args.call c.cancel.result c.cancel.ensures.did c.cancel.ensures.aside c.calls-legal.ensures.legal
     (subst (λ (s : ClientState). end_of (deeds s.end.serving) c.args.call ≡ None) (sym c.self.view_is) c.requires.open) in
     let entries : c.cancel.new.self.serving.table.entries ≡ adding c.args.self.now.end.serving.table.entries run_seat (Cancel c.args.call) =
     ap (λ (s : Serving). s.table.entries) is ∙ ap (λ (s : ClientState). adding s.end.serving.table.entries run_seat (Cancel c.args.call)) c.self.view_is in
@@ -51,8 +51,8 @@ returns-clause-full c =
 
 pub work_alone-requires-clause-few : goal.work_alone-requires-clause-few
 work_alone-requires-clause-few c =
-    let before : ClientState = record { end = c.self.inside.client; stored = c.self.inside.store; items = c.self.inside.items.items; events = c.self.inside.events.items } in
+    let before : ClientState = state_of c.self.inside.desk in
     let rest : ClientRests before = subst ClientRests (sym c.self.view_is) c.requires.rest in
-    let is = cancelled_is quiet_rule c.self.inside.client c.cancel.new.self c.args.call c.cancel.result c.cancel.ensures.did c.cancel.ensures.aside c.calls-legal.ensures.legal
+    let is = cancelled_is quiet_rule c.self.inside.desk.client c.cancel.new.self c.args.call c.cancel.result c.cancel.ensures.did c.cancel.ensures.aside c.calls-legal.ensures.legal
     (subst (λ (s : ClientState). end_of (deeds s.end.serving) c.args.call ≡ None) (sym c.self.view_is) c.requires.open) in
-    subst (λ (s : Serving). items_waiting (deeds s) < 65536) (sym is) (few_cancelled c.self.inside.client.serving run_seat c.args.call rest.resting)
+    subst (λ (s : Serving). items_waiting (deeds s) < 65536) (sym is) (few_cancelled c.self.inside.desk.client.serving run_seat c.args.call rest.resting)

@@ -1,5 +1,5 @@
 use Rattle.std.proofs.Common.{◌∙◌, Some, ap, inl, inr, sym, subst}
-use Rattle.link_world.specs.client.ClientSide.{ClientRests, ClientState, ClientWorks}
+use Rattle.link_world.specs.client.ClientSide.{ClientRests, ClientState, ClientWorks, state_of}
 use Rattle.link_world.proofs.client.AskLemmas.{asks_by, stops_by_work}
 use Rattle.link_world.proofs.client.EndLemmas.{kept_by}
 use Rattle.std.proofs.Common.{arith}
@@ -8,9 +8,9 @@ use Rattle.link_world.proofs.client.client_end.ClientEnd.start.Goals as goal
 
 pub work-requires-clause-kept : goal.work-requires-clause-kept
 work-requires-clause-kept c =
-    let before : ClientState = record { end = c.self.inside.client; stored = c.self.inside.store; items = c.self.inside.items.items; events = c.self.inside.events.items } in
+    let before : ClientState = state_of c.self.inside.desk in
     let rest : ClientRests before = subst ClientRests (sym c.self.view_is) c.requires.rest in
-    c.in-Ok.ensures.adds.kept c.self.inside.items.items c.self.inside.events.items (kept_by before rest)
+    c.in-Ok.ensures.adds.kept c.self.inside.desk.items.items c.self.inside.desk.events.items (kept_by before rest)
 
 pub returns-clause-asks : goal.returns-clause-asks
 returns-clause-asks c = λ k w is.
@@ -54,6 +54,6 @@ returns-in-Err-work-clause-full c = λ full k w is.
 
 pub work-requires-clause-few : goal.work-requires-clause-few
 work-requires-clause-few c =
-    let before : ClientState = record { end = c.self.inside.client; stored = c.self.inside.store; items = c.self.inside.items.items; events = c.self.inside.events.items } in
+    let before : ClientState = state_of c.self.inside.desk in
     let rest : ClientRests before = subst ClientRests (sym c.self.view_is) c.requires.rest in
-    omega (arith, few_at_rest c.self.inside.client.serving rest.resting.over.none_waits, c.in-Ok.ensures.few)
+    omega (arith, few_at_rest c.self.inside.desk.client.serving rest.resting.over.none_waits, c.in-Ok.ensures.few)
