@@ -21,7 +21,7 @@ KIB = 1 << 10
 # The first pattern that a function's name has tells its part.
 PARTS = (
     ("names", r"newest_calls|btree|hash_map|hashbrown|std_collections"),
-    ("decoder", r"hdlc_frame::(decoder|machine|judge|pieces)|unescape|memchr"),
+    ("decoder", r"hdlc_frame::(decoder|machine|judge|octets|pieces)|unescape|memchr"),
     ("check sequence", r"hdlc_frame::(crc|lanes)|register_after"),
     ("encoder", r"hdlc_frame::"),
     ("packets", r"rpc_packet|proto_wire|rpc_frames|transfer_chunk"),
