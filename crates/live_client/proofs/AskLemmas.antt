@@ -1,5 +1,5 @@
 -- How what was asked went, from what the errand was told.
-use Rattle.std.proofs.Common.{◌≡◌, ℕ, ◌<◌, ◌≤◌, ◌==◌, ◌&&◌, ◌||◌, ◌⊎◌, Bool, true, false, List, [], ◌∷◌, ◌++◌, length, map, Option, Some, None, is_none, is_some, refl, ap, ap₂, sym, ◌∙◌, subst, inl, inr, arith, append_assoc, eq-eqb}
+use Rattle.std.proofs.Common.{◌≡◌, ℕ, suc, if◌then◌else◌, All, ◌<◌, ◌≤◌, ◌==◌, ◌&&◌, ◌||◌, ◌⊎◌, Bool, true, false, List, [], ◌∷◌, ◌++◌, length, map, Option, Some, None, is_none, is_some, refl, ap, ap₂, sym, ◌∙◌, subst, inl, inr, arith, append_assoc, eq-eqb}
 use Rattle.std.proofs.lemmas.List.{append-nil}
 use Rattle.std.proofs.lemmas.List.Folds.{list_any-append}
 use Rattle.std.specs.List.{AllByRecursion, list_any}
@@ -19,16 +19,20 @@ use Rattle.task_core.specs.Visit.{Visit}
 use Rattle.live_client.specs.asks.Events.{first_end, messages_in}
 use Rattle.live_client.specs.asks.Tasks.{Given, TaskRan, WantedIf, given_at, given_in, mail_in, mails, says_at}
 use Rattle.live_client.specs.asks.Telling.{HasCome, Progress, Tells, gone_on, said_all, unknown, waiting}
-use Rattle.live_client.specs.asks.Calling.{Called, EndsBy, HasPassed, Purpose, has_enough, has_passed, purpose_of}
+use Rattle.live_client.specs.asks.Calling.{Called, EndsBy, HasGiven, HasPassed, Purpose, has_enough, has_passed, purpose_of}
 use Rattle.live_client.specs.declared.asks.call.CallErrand.{CallErrand}
 use Rattle.transfer_client.specs.Read.{Download}
 use Rattle.transfer_client.specs.Tasks.{Reads, Writes}
 use Rattle.transfer_client.specs.Write.{Upload}
-use Rattle.live_client.specs.Ask.{live_setting}
+use Rattle.rpc_ids.specs.declared.method.Kind.{Kind}
+use Rattle.rpc_handlers.specs.Limits.{is_long}
+use Rattle.rpc_journal.specs.Kinds.{streams_up}
+use Rattle.live_client.specs.Ask.{all_said_of, call_method, live_setting, utterances_asked}
 use Rattle.live_client.specs.declared.asks.utterance.Utterance.{Utterance}
 use Rattle.live_client.specs.Driving.{CanEnd}
 use Rattle.live_client.specs.Histories.{AreSaid, SaysFirst, cancels, events_run, is_completion, is_for_board, is_long_said, utterances_of}
-use Rattle.live_client.specs.Live.{TransferRan}
+use Rattle.live_client.specs.declared.ask.Live.{Live}
+use Rattle.live_client.specs.Live.{CallRan, TransferRan}
 use Rattle.live_client.specs.Told.{HasTold, IsCutSo, MaySay}
 use Rattle.live_client.proofs.ClientEntries.{streams_always}
 use Rattle.live_client.proofs.SaidLemmas.{first_said}
@@ -154,35 +158,36 @@ all_front P (out ∷ front) back all = (all.0, all_front P front back all.1)
 -- where the end of the stream was given, it was asked for
 ends_among : (front back : List Utterance) → list_any (λ given. is_completion given.out) (map (given_at 0) front) ≡ true → list_any is_completion (front ++ back) ≡ true
 ends_among [] back is = absurd (false≢true is)
-ends_among (out ∷ front) back is = at (is_completion out) is
+ends_among (out ∷ front) back is = at (is_completion out) is (λ more. ends_among front back more)
   where
-    at : (b : Bool) → (b || list_any (λ given. is_completion given.out) (map (given_at 0) front)) ≡ true → (b || list_any is_completion (front ++ back)) ≡ true
-    at true is = refl
-    at false is = ends_among front back is
+    at : (b : Bool) → (b || list_any (λ given. is_completion given.out) (map (given_at 0) front)) ≡ true
+        → (list_any (λ given. is_completion given.out) (map (given_at 0) front) ≡ true → list_any is_completion (front ++ back) ≡ true) → (b || list_any is_completion (front ++ back)) ≡ true
+    at true is rest = refl
+    at false is rest = rest is
 
 module _ (method : MethodRef) (w : CallErrand) (says : List Utterance) (limit : ℕ) (within : Option ℕ) (start end : ℕ) (purpose : purpose_of w ≡ record { says = says; limit = limit; within = within }) (may : MaySay method says)
     (uncut : has_enough w ≡ false) (h : List Entry) (told : HasTold method (λ far. Called w far start end) h) where
   same : w.limit ≡ limit
   same = ap (λ (p : Purpose). p.limit) purpose
 
-  fronts : Fronts told.outs (told.lost ++ map (given_at 0) w.rest.items) says
+  abbrev fronts : Fronts told.outs (told.lost ++ map (given_at 0) w.rest.items) says
   fronts =
       fronts_of told.outs (told.lost ++ map (given_at 0) w.rest.items) says
       (sym (append_assoc told.outs told.lost (map (given_at 0) w.rest.items)) ∙ (told.heard.given ∙ ap (λ (p : Purpose). map (given_at 0) p.says) purpose))
 
-  pub call_given : List Utterance
+  abbrev call_given : List Utterance
   call_given = fronts.front
 
-  pub call_begins : IsPrefix call_given says
+  call_begins : IsPrefix call_given says
   call_begins = (fronts.back, sym fronts.parts)
 
-  pub call_whole : is_halted (live_setting method) h ≡ false → call_given ≡ says
+  call_whole : is_halted (live_setting method) h ≡ false → call_given ≡ says
   call_whole calm =
       let none : fronts.back ≡ [] =
-      none_given fronts.back (sym (ap (λ lost. lost ++ map (given_at 0) w.rest.items) (told.none_lost calm) ∙ ap (map (given_at 0)) (told.heard.all_given (told.all_said calm))) ∙ fronts.rest) in
+      none_given fronts.back (sym (ap (λ lost. lost ++ map (given_at 0) w.rest.items) (told.none_lost calm) ∙ ap (map (given_at 0)) (subst (λ far. HasGiven far w.rest.items) (told.all_said calm) told.heard.all_given)) ∙ fronts.rest) in
       sym (fronts.parts ∙ (ap (λ back. fronts.front ++ back) none ∙ append-nil fronts.front))
 
-  pub call_said : SaysFirst (live_setting method) h call_given
+  call_said : SaysFirst (live_setting method) h call_given
   call_said =
       let can : CanEnd (live_setting method) 0 told.outs =
       λ is. streams_always method (may.streams (ap (list_any is_completion) fronts.parts ∙ ends_among fronts.front fronts.back (subst (λ outs. list_any (λ given. is_completion given.out) outs ≡ true) fronts.first is))) 0 in
@@ -240,3 +245,41 @@ module _ (method : MethodRef) (w : CallErrand) (says : List Utterance) (limit : 
 
   pub call_over : is_halted (live_setting method) h ≡ false → is_some w.ended ≡ true
   call_over calm = ap is_some told.heard.ended_is ∙ told.is_over calm
+
+  pub call_ran : (l : Live) → l.journal.entries ≡ h → l.messages.items ≡ w.messages.items → l.ended ≡ w.ended → CallRan method says limit within start end l
+  call_ran l journal messages ended = record {
+    given = call_given;
+    begins = call_begins;
+    all_given = λ calm. call_whole (sym (ap (is_halted (live_setting method)) journal) ∙ calm);
+    said = subst (λ es. SaysFirst (live_setting method) es call_given) (sym journal) call_said;
+    told = messages ∙ (call_kept ∙ ap (λ es. messages_in (events_run (live_setting method) es 0)) (sym journal));
+    most = subst (λ (xs : List (List ℕ)). length xs ≤ limit) (sym messages) call_most;
+    enough = λ is. ap cancels journal ∙ call_enough (sym (ap length messages) ∙ is);
+    cut = λ is. subst (λ (xs : List (List ℕ)). (length xs ≡ limit) ⊎ HasPassed within start end) (sym messages) (call_cut (sym (ap cancels journal) ∙ is));
+    answered = λ is. ap (λ es. end_of (history (live_setting method) es) 0) journal ∙ (call_answered (sym (ap cancels journal) ∙ is) ∙ sym ended);
+    ends = λ off. ended ∙ (call_told (sym (ap cancels journal) ∙ off) ∙ ap (λ es. first_end (events_run (live_setting method) es 0)) (sym journal));
+  }
+
+-- ---- what a call may be given to say
+
+all_at : {A : Type 0} (P : A → Type 0) (xs : List A) → All P xs → AllByRecursion P xs
+all_at P [] all = tt
+all_at P (x ∷ xs) all = (all 0 x (omega arith), all_at P xs (λ k d below. all (suc k) d (omega (arith, below))))
+
+says_short : (messages : List (List ℕ)) → AllByRecursion (λ message. is_long message ≡ false) messages → AllByRecursion (λ out. is_long_said out ≡ false) (all_said_of messages)
+says_short [] all = (refl, tt)
+says_short (message ∷ messages) all = (all.0, says_short messages all.1)
+
+says_board : (messages : List (List ℕ)) → AllByRecursion (λ out. is_for_board out ≡ true) (all_said_of messages)
+says_board [] = (refl, tt)
+says_board (message ∷ messages) = (refl, says_board messages)
+
+pub none_said : (method : MethodRef) → MaySay method []
+none_said method = record { short = tt; for_board = tt; streams = λ is. absurd (false≢true is) }
+
+pub may_say : (service method : ℕ) (kind : Kind) (messages : List (List ℕ)) → All (λ message. is_long message ≡ false) messages → MaySay (call_method service method kind) (utterances_asked kind messages)
+may_say service method kind messages short = at (streams_up kind) refl
+  where
+    at : (b : Bool) → streams_up kind ≡ b → MaySay (call_method service method kind) (if b then all_said_of messages else [])
+    at true up = record { short = says_short messages (all_at (λ message. is_long message ≡ false) messages short); for_board = says_board messages; streams = λ _. up }
+    at false up = none_said (call_method service method kind)

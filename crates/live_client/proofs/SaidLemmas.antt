@@ -285,7 +285,7 @@ module _ (set : Setting) (h : List Entry) (c : ℕ) where
           → IsShut set c ds
       at (Some e) b d ended unary done refused = inl (first_is (ends_of ds c) e ended)
       at None true d ended unary done refused = inr (inl (there.below, unary_quiet set.role (call_at ds c) unary))
-      at None false true ended unary done refused = inr (inr (rw (client, done) refl))
+      at None false true ended unary done refused = inr (inr (ap (λ role. not (is_server role) && is_done ds c) client ∙ done))
       at None false false ended unary done refused = absurd (cc refused)
 
   pub end_open : has_stream set.role (call_at ds c) ≡ true → end_refusal ≡ None → IsShut set c ds → ⊥

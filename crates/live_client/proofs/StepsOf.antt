@@ -1,6 +1,7 @@
 -- What each call of the table is to the driver.
 use Rattle.std.proofs.Common.{◌≡◌, ◌≢◌, ◌⊎◌, ◌&&◌, ◌||◌, if◌then◌else◌, ℕ, ◌≤◌, Bool, true, false, not, List, [], ◌∷◌, ◌++◌, length, slice_get, Option, Some, None, is_some, option_map, IfSome, IfNone, Result, Ok, Err, refl, ap, sym, ◌∙◌, subst, inl, inr, arith, length-append, eq-eqb, reverse}
 use Rattle.std.proofs.lemmas.List.{append-nil, reverse-append}
+use Rattle.std.proofs.lemmas.List.Folds.{list_any-append}
 use Rattle.std.specs.List.{list_any}
 use Rattle.std.specs.Option.{option_to_list}
 use mathlib.Core.List.{IsPrefix}
@@ -74,23 +75,17 @@ with_said watches opening r c events outs outs' items q said d = record {
 
 -- what may be given behind fewer outs
 any_more : {A : Type 0} (test : A → Bool) (xs : List A) (x : A) → list_any test xs ≡ true → list_any test (xs ++ x ∷ []) ≡ true
-any_more test [] x is = absurd (cc is)
-any_more test (y ∷ xs) x is = at (test y) is
-  where
-    at : (b : Bool) → (b || list_any test xs) ≡ true → (b || list_any test (xs ++ x ∷ [])) ≡ true
-    at true is = refl
-    at false is = any_more test xs x is
+any_more test xs x is = list_any-append test xs (x ∷ []) ∙ rw is refl
 
 can_less : (set : Setting) (c : ℕ) (outs : List Given) (given : Given) → CanEnd set c (outs ++ given ∷ []) → CanEnd set c outs
 can_less set c outs given may is = may (any_more (λ given. is_completion given.out) outs given is)
 
 any_last : {A : Type 0} (test : A → Bool) (xs : List A) (x : A) → test x ≡ true → list_any test (xs ++ x ∷ []) ≡ true
-any_last test [] x is = rw is refl
-any_last test (y ∷ xs) x is = at (test y)
+any_last test xs x is = list_any-append test xs (x ∷ []) ∙ at (list_any test xs)
   where
-    at : (b : Bool) → (b || list_any test (xs ++ x ∷ [])) ≡ true
+    at : (b : Bool) → (b || list_any test (x ∷ [])) ≡ true
     at true = refl
-    at false = any_last test xs x is
+    at false = rw is refl
 
 -- the state of a call never refuses for a full journal
 kept_none : (b : Bool) (x : Status) → refused_where b (say.TheVariants.Closed x) ≡ Some say.TheVariants.JournalFull → ⊥

@@ -1,12 +1,12 @@
 //! What a client says in its call.
 ghost use Rattle.std.specs.Prelude.{◌≡◌, [], ◌∷◌, ◌++◌, IfOk, OnErr, OnOk};
-ghost use Rattle.rpc_journal.specs.Kinds.{streams_up};
 ghost use Rattle.live_client.specs.Ask.{utterances_asked};
 
 use crate::asks::Utterance;
 use bytes::Bytes;
 use rpc_handlers::Out;
-use rpc_ids::Kind;
+use rpc_ids::{Kind, Role};
+use rpc_journal::streams_out;
 use std::alloc::{AllocError, Global};
 use std::collections::VecDeque;
 use std::marker::Model;
@@ -53,7 +53,7 @@ impl Messages {
         ensures { IfOk result (λ says. says.items ≡ utterances_asked kind self) }
     {
         let mut says = VecDeque::new(alloc);
-        if !has_stream(kind) {
+        if !streams_out(Role::Client, kind) {
             return Ok(says);
         }
         for message in self.list {
@@ -62,11 +62,4 @@ impl Messages {
         says.push_back(Utterance::Completes)?;
         Ok(says)
     }
-}
-
-// Whether the client streams messages.
-fn has_stream(kind: Kind) -> bool
-    ensures { result ≡ streams_up kind }
-{
-    matches!(kind, Kind::ClientStream | Kind::Bidi)
 }

@@ -1,5 +1,5 @@
 -- A name and a number behind further words are found.
-use Rattle.std.proofs.Common.{◌≡◌, ℕ, ◌<◌, ◌≤◌, List, [], ◌∷◌, ◌++◌, length, Option, Some, None, refl, ap, sym, ◌∙◌, subst, arith, length-append}
+use Rattle.std.proofs.Common.{◌≡◌, ℕ, zero, suc, ◌+◌, ◌<◌, ◌≤◌, List, [], ◌∷◌, ◌++◌, length, take, drop, slice_get, get_or, Option, Some, None, refl, ap, ap₂, sym, ◌∙◌, subst, arith, length-append}
 use Rattle.std.proofs.lemmas.List.{append-nil}
 use Rattle.std.proofs.lemmas.Fmt.{decimal_injective}
 use Rattle.std.specs.Fmt.{decimal}
@@ -59,3 +59,33 @@ named_same name most front front' (Some m) (Some n) first second up up' is =
 pub otherwise : (name other : List ℕ) (front : List (List ℕ)) (number : Option ℕ) → (other ≡ name → ⊥) → EndsOtherwise name front → EndsOtherwise name (front ++ named_number other number)
 otherwise name other front None apart so f last is = so f last (sym (append-nil front) ∙ is)
 otherwise name other front (Some n) apart so f last is = apart (two_last front f other (decimal n) name last is).first
+
+-- ---- a list by its items
+
+pub last_are : {A : Type 0} (xs : List A) (n : ℕ) (a b : A) → length xs ≡ n + 2 → slice_get xs n ≡ Some a → slice_get xs (n + 1) ≡ Some b → xs ≡ take n xs ++ a ∷ b ∷ []
+last_are [] n a b many first second = absurd (omega (arith, many))
+last_are (x ∷ []) zero a b many first second = absurd (omega (arith, many))
+last_are (x ∷ y ∷ []) zero a b many first second = let left : x ≡ a = cc first in let right : y ≡ b = cc second in ap (λ z. z ∷ y ∷ []) left ∙ ap (λ z. a ∷ z ∷ []) right
+last_are (x ∷ y ∷ z ∷ xs) zero a b many first second = absurd (omega (arith, many))
+last_are (x ∷ xs) (suc n) a b many first second = ap (λ ys. x ∷ ys) (last_are xs n a b (omega (arith, many)) first second)
+
+pub few_otherwise : (name : List ℕ) (words : List (List ℕ)) → length words < 2 → EndsOtherwise name words
+few_otherwise name words few front last is = let n = ap length is in omega (arith, n, few, length-append front (name ∷ last ∷ []))
+
+there_is : {A : Type 0} (front : List A) (a b : A) → slice_get (front ++ a ∷ b ∷ []) (length front) ≡ Some a
+there_is [] a b = refl
+there_is (x ∷ front) a b = there_is front a b
+
+pub other_otherwise : (name word : List ℕ) (words : List (List ℕ)) (n : ℕ) → length words ≡ n + 2 → slice_get words n ≡ Some word → (word ≡ name → ⊥) → EndsOtherwise name words
+other_otherwise name word words n many there apart front last is =
+    let count = ap length is in
+    let same : length front ≡ n = omega (arith, count, many, length-append front (name ∷ last ∷ [])) in
+    apart (cc (sym there ∙ (ap (λ ws. slice_get ws n) is ∙ subst (λ k. slice_get (front ++ name ∷ last ∷ []) k ≡ Some name) same (there_is front name last))))
+
+pub five_are : {A : Type 0} (xs : List A) (a b c d e : A) → 5 ≤ length xs → a ≡ get_or xs 0 a → b ≡ get_or xs 1 b → c ≡ get_or xs 2 c → d ≡ get_or xs 3 d → e ≡ get_or xs 4 e → xs ≡ a ∷ b ∷ c ∷ d ∷ e ∷ drop 5 xs
+five_are [] a b c d e low ea eb ec ed ee = absurd (omega arith)
+five_are (x0 ∷ []) a b c d e low ea eb ec ed ee = absurd (omega arith)
+five_are (x0 ∷ x1 ∷ []) a b c d e low ea eb ec ed ee = absurd (omega arith)
+five_are (x0 ∷ x1 ∷ x2 ∷ []) a b c d e low ea eb ec ed ee = absurd (omega arith)
+five_are (x0 ∷ x1 ∷ x2 ∷ x3 ∷ []) a b c d e low ea eb ec ed ee = absurd (omega arith)
+five_are (x0 ∷ x1 ∷ x2 ∷ x3 ∷ x4 ∷ xs) a b c d e low ea eb ec ed ee = ap₂ ◌∷◌ (sym ea) (ap₂ ◌∷◌ (sym eb) (ap₂ ◌∷◌ (sym ec) (ap₂ ◌∷◌ (sym ed) (ap₂ ◌∷◌ (sym ee) refl))))

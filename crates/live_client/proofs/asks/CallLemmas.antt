@@ -1,5 +1,5 @@
 -- What a call has said and heard, with one step more.
-use Rattle.std.proofs.Common.{◌≡◌, ◌⊎◌, ℕ, ◌+◌, ◌-◌, ◌<◌, ◌≤◌, ◌&&◌, ◌||◌, ◌==◌, Bool, true, false, List, [], ◌∷◌, ◌++◌, length, map, Option, Some, None, IfSome, is_some, is_none, unwrap_or, refl, ap, sym, ◌∙◌, subst, inl, inr, arith, append_assoc, length-append, nat_le, nat_lt}
+use Rattle.std.proofs.Common.{◌≡◌, ◌⊎◌, ℕ, ◌+◌, ◌-◌, ◌<◌, ◌≤◌, ◌&&◌, ◌||◌, ◌==◌, Bool, true, false, List, [], ◌∷◌, ◌++◌, length, map, Option, Some, None, IfSome, is_some, is_none, unwrap_or, refl, ap, sym, ◌∙◌, subst, inl, inr, arith, append_assoc, length-append, nat_lt, ne_eqb}
 use Rattle.std.proofs.lemmas.Bool.{and_parts, eqb-true, leb-true, ltb-true, false≢true, true≢false}
 use Rattle.std.proofs.lemmas.List.{append-nil}
 use Rattle.rpc_ids.specs.declared.status.Status.{Status}
@@ -8,7 +8,7 @@ use Rattle.rpc_handlers.specs.declared.event.Event.TheVariants.{Message, Ended}
 use Rattle.live_client.specs.asks.Events.{end_by, first_end, message_by, messages_in, or_else}
 use Rattle.live_client.specs.asks.Tasks.{Given, given_at, mails}
 use Rattle.live_client.specs.asks.Telling.{Progress, gone_on, said_all, unknown}
-use Rattle.live_client.specs.asks.Calling.{Called, EndsBy, HasHeard, HasKept, HasLooked, HasPassed, Stays, has_enough, has_passed, takes_more}
+use Rattle.live_client.specs.asks.Calling.{Called, EndsBy, HasGiven, HasHeard, HasKept, HasLooked, HasPassed, Stays, has_enough, has_passed, takes_more}
 use Rattle.live_client.specs.declared.asks.call.CallErrand.{CallErrand}
 use Rattle.live_client.specs.declared.asks.utterance.Utterance.{Utterance}
 
@@ -88,8 +88,8 @@ module _ (w v : CallErrand) (start upto : ℕ) (cut : Option Status) (events : L
       told = heard.messages ∙ (ap (λ xs. xs ++ message_by event) so.told ∙ sym (messages_more events event));
       most = let l = listening w more in omega (arith, longer, one_message event, l.below, stays.limit);
       given = given_still w v outs stays.first stays.rest so.given;
-      unheard = inl (stays.rest ∙ so.all_given refl);
-      all_given = λ is. absurd (cc is);
+      unheard = inl (stays.rest ∙ so.all_given);
+      all_given = tt;
       opened = opened_still start w.moment v.moment w.opened v.opened stays.opened stays.moment so.opened;
       moment = subst (λ n. n ≤ upto) (sym stays.moment) so.moment;
       ended_is = refl;
@@ -114,7 +114,7 @@ module _ (w v : CallErrand) (kept : HasKept w v) (stays : Stays w v) where
     most = let longer = ap length kept.messages in omega (arith, so.most, longer, stays.limit);
     given = given_still w v outs stays.first stays.rest so.given;
     unheard = subst (λ (xs : List Utterance). (xs ≡ []) ⊎ (events ≡ [])) (sym stays.rest) so.unheard;
-    all_given = λ is. stays.rest ∙ so.all_given is;
+    all_given = subst (HasGiven far) (sym stays.rest) so.all_given;
     opened = opened_still start w.moment v.moment w.opened v.opened stays.opened stays.moment so.opened;
     moment = subst (λ n. n ≤ upto) (sym stays.moment) so.moment;
     ended_is = kept.ended ∙ so.ended_is;
@@ -157,7 +157,7 @@ module _ (w v : CallErrand) (now : ℕ) (looks : HasLooked now w v) (past : w.mo
       most = let longer = ap length looks.messages in omega (arith, so.most, longer, looks.limit);
       given = given_still w v outs looks.first looks.rest so.given;
       unheard = subst (λ (xs : List Utterance). (xs ≡ []) ⊎ (events ≡ [])) (sym looks.rest) so.unheard;
-      all_given = λ is. absurd (cc is);
+      all_given = tt;
       opened = rw (looks.opened, looks.moment) (opens_between start w.opened early so.opened);
       moment = rw looks.moment (omega arith);
       ended_is = looks.ended ∙ so.ended_is;
@@ -179,7 +179,7 @@ module _ (w v : CallErrand) (same : v ≡ record w { rest = v.rest }) where
             ∙ (ap (λ n. outs ++ given_at n out ∷ map (given_at 0) v.rest.items) (ap mails unheard)
             ∙ (ap (λ xs. outs ++ map (given_at 0) xs) (sym next) ∙ so.given));
         unheard = inr unheard;
-        all_given = λ is. absurd (cc is);
+        all_given = tt;
         opened = so.opened;
         moment = so.moment;
         ended_is = so.ended_is;
@@ -202,7 +202,7 @@ module _ (w v : CallErrand) (same : v ≡ record w { rest = v.rest }) where
         most = so.most;
         given = ap (λ (xs : List Utterance). outs ++ map (given_at 0) xs) (still ∙ sym none) ∙ so.given;
         unheard = inl still;
-        all_given = λ _. still;
+        all_given = still;
         opened = so.opened;
         moment = so.moment;
         ended_is = so.ended_is;
@@ -237,3 +237,31 @@ called_cut w status is far start upto before events outs ended so = record {
     at : ((length w.messages.items == w.limit) ≡ true) ⊎ (has_passed w.within w.opened w.moment ≡ true) → (length w.messages.items ≡ w.limit) ⊎ HasPassed w.within start upto
     at (inl enough) = inl (eqb-true (length w.messages.items) w.limit enough)
     at (inr late) = inr (passed_since w.within w.opened w.moment start upto so.opened so.moment late)
+
+-- before anything was said or heard
+pub called_new : (w : CallErrand) → w.messages.items ≡ [] → w.ended ≡ None → w.opened ≡ None → w.moment ≡ 0 → w.rest.items ≡ w.first.value.items → (start upto : ℕ) → Called w unknown start upto None [] [] None
+called_new w none ended opened moment rest start upto = record {
+  told = none;
+  most = let n = ap length none in omega (arith, n);
+  given = ap (map (given_at 0)) rest;
+  unheard = inr refl;
+  all_given = tt;
+  opened = rw opened tt;
+  moment = omega (arith, moment);
+  ended_is = ended;
+  ends = (ended, λ is. absurd (false≢true (sym (ap is_some ended) ∙ is)));
+}
+
+pub not_enough_yet : (w : CallErrand) → w.messages.items ≡ [] → w.opened ≡ None → 0 < w.limit → has_enough w ≡ false
+not_enough_yet w none opened below =
+    ap (λ o. is_none w.ended && ((length w.messages.items == w.limit) || has_passed w.within o w.moment)) opened
+    ∙ (ap (λ b. is_none w.ended && (b || has_passed w.within None w.moment)) (ne_eqb (length w.messages.items) w.limit (λ same. let n = ap length none in omega (arith, n, same, below)))
+    ∙ (ap (λ b. is_none w.ended && b) (never w.within) ∙ off (is_none w.ended)))
+  where
+    never : (within : Option ℕ) → has_passed within None w.moment ≡ false
+    never None = refl
+    never (Some ms) = refl
+
+    off : (b : Bool) → (b && false) ≡ false
+    off true = refl
+    off false = refl

@@ -4,7 +4,7 @@ use Rattle.rpc_ids.specs.declared.status.Status.{Status}
 use Rattle.rpc_handlers.specs.declared.event.Event.{Event}
 use Rattle.live_client.specs.asks.Events.{end_by, first_end, message_by, messages_in, or_else}
 use Rattle.live_client.specs.asks.Tasks.{Given, given_at}
-use Rattle.live_client.specs.asks.Telling.{Progress, said_all, unknown}
+use Rattle.live_client.specs.asks.Telling.{Progress, gone_on, said_all, unknown}
 use Rattle.live_client.specs.declared.asks.call.CallErrand.{CallErrand}
 use Rattle.live_client.specs.declared.asks.utterance.Utterance.{Utterance}
 
@@ -19,13 +19,19 @@ abbrev pub EndsBy : CallErrand → ℕ → ℕ → Option Status → List Event 
 EndsBy w start upto (Some status) events = ((length w.messages.items ≡ w.limit) ⊎ HasPassed w.within start upto) × (w.ended ≡ Some status)
 EndsBy w start upto None events = (w.ended ≡ first_end events) × (is_some w.ended ≡ true → length w.messages.items < w.limit)
 
+-- where it has said all, nothing is left
+abbrev pub HasGiven : Progress → List Utterance → Type 0
+HasGiven unknown rest = Unit {0}
+HasGiven gone_on rest = Unit {0}
+HasGiven said_all rest = rest ≡ []
+
 -- it keeps the messages among these events, and gives what it is to say before it hears any
 pub record Called (w : CallErrand) (far : Progress) (start upto : ℕ) (cut : Option Status) (events : List Event) (outs : List Given) (ended : Option Status) : Type 0 where
   pub told : w.messages.items ≡ messages_in events
   pub most : length w.messages.items ≤ w.limit
   pub given : outs ++ map (given_at 0) w.rest.items ≡ map (given_at 0) w.first.value.items
   pub unheard : (w.rest.items ≡ []) ⊎ (events ≡ [])
-  pub all_given : far ≡ said_all → w.rest.items ≡ []
+  pub all_given : HasGiven far w.rest.items
   pub opened : IfSome w.opened (λ at. (start ≤ at) × (at ≤ w.moment))
   pub moment : w.moment ≤ upto
   pub ended_is : w.ended ≡ ended
@@ -40,7 +46,7 @@ called_weaker w far start upto cut events outs ended so = record {
   most = so.most;
   given = so.given;
   unheard = so.unheard;
-  all_given = λ is. absurd (cc is);
+  all_given = tt;
   opened = so.opened;
   moment = so.moment;
   ended_is = so.ended_is;

@@ -41,3 +41,6 @@ returns-in-Ok-false-clause-stopped g c = on_err_with _ c.listen.result (λ _. λ
 
 pub returns-in-Err-clause-adds : goal.returns-in-Err-clause-adds
 returns-in-Err-clause-adds g c = c.speak.ensures.adds
+
+pub returns-in-Err-clause-stopped : goal.returns-in-Err-clause-stopped
+returns-in-Err-clause-stopped g c = λ opening far start items early t. (unknown, c.in-Err.ensures.stopped opening far start items early t)
