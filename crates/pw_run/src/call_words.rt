@@ -96,6 +96,7 @@ fn kind_of(word: &str) -> Option<Kind>
 }
 
 // What stands behind the kind.
+#[derive(Clone, Copy, Debug)]
 struct Said<'a> {
     payloads: &'a [String],
     limit: Option<u32>,

@@ -170,7 +170,8 @@ fn a_call_tells_its_messages_and_its_end(rt: HostRuntime) -> Result<(), AllocErr
 }
 
 // One message too many.
-const MANY: &str = "call p demo.Demo Sum client 00 00 00 00 00 00 00 00 00 00 00 00 00 00 00 00 00 00 00 00 00 00 00 00 00 00 00 00 00 00 00 00 00 00 00 00 00 00 00 00 00 00 00 00 00 00 00 00 00 00 00 00 00 00 00 00 00 00 00 00 00 00 00 00 00";
+const MANY: &str =
+    "call p demo.Demo Sum client 00 00 00 00 00 00 00 00 00 00 00 00 00 00 00 00 00 00 00 00 00 00 00 00 00 00 00 00 00 00 00 00 00 00 00 00 00 00 00 00 00 00 00 00 00 00 00 00 00 00 00 00 00 00 00 00 00 00 00 00 00 00 00 00 00";
 
 // Words that ask for nothing.
 const OTHERS: &[&str] = &[

@@ -146,11 +146,7 @@ const CALLED: &[(&str, u8, &str)] = &[
         0,
         "message 0102\nmessage -\nmessage ff\ncall OK 3\ndone\n",
     ),
-    (
-        "demo.Demo Reboot client 00",
-        9,
-        "call NOT_FOUND 0\ndone\n",
-    ),
+    ("demo.Demo Reboot client 00", 9, "call NOT_FOUND 0\ndone\n"),
 ];
 
 // A server answers this call.
