@@ -1,9 +1,10 @@
 //! What an errand does and says, step by step.
 use bytes::Bytes;
-use live_client::asks::{CallErrand, Errand, TaskErrand};
+use live_client::asks::{CallErrand, Errand, TaskErrand, Utterance};
 use rpc_handlers::{Event, Out};
 use rpc_ids::Status;
 use std::alloc::AllocError;
+use std::collections::VecDeque;
 use std::process::Abort;
 use std::test::Fail;
 use task_core::bells::Bells;
@@ -57,7 +58,8 @@ fn message() -> Event {
 
 #[test]
 fn a_call_is_cut_at_its_limit(rt: HostRuntime) -> Result<(), Fail> {
-    let mut call = CallErrand::new(rt.alloc(), 2);
+    let alloc = rt.alloc();
+    let mut call = CallErrand::new(alloc, VecDeque::new(alloc), 2, None);
     takes(&rt, &mut call, message(), true)?;
     is_cut(&rt, &mut call, false);
     takes(&rt, &mut call, message(), true)?;
@@ -71,7 +73,8 @@ fn a_call_is_cut_at_its_limit(rt: HostRuntime) -> Result<(), Fail> {
 
 #[test]
 fn a_call_ends_with_its_call(rt: HostRuntime) -> Result<(), Fail> {
-    let mut call = CallErrand::new(rt.alloc(), 2);
+    let alloc = rt.alloc();
+    let mut call = CallErrand::new(alloc, VecDeque::new(alloc), 2, None);
     takes(&rt, &mut call, message(), true)?;
     end_is(&rt, call.end(), None);
     takes(&rt, &mut call, Event::Ended(Status::Okay), true)?;
@@ -82,15 +85,46 @@ fn a_call_ends_with_its_call(rt: HostRuntime) -> Result<(), Fail> {
     Ok(())
 }
 
+#[test]
+fn a_call_is_cut_when_its_time_has_passed(rt: HostRuntime) -> Result<(), Fail> {
+    let alloc = rt.alloc();
+    let (bells, _ear, _ringers) = Bells::with(alloc, 1, 1)?;
+    let mut call = CallErrand::new(alloc, VecDeque::new(alloc), 2, Some(1_000));
+    is_cut(&rt, &mut call, false);
+    call.go_on(&bells, 5)?;
+    takes(&rt, &mut call, message(), true)?;
+    is_cut(&rt, &mut call, false);
+    call.go_on(&bells, 1_004)?;
+    is_cut(&rt, &mut call, false);
+    call.go_on(&bells, 1_005)?;
+    is_cut(&rt, &mut call, true);
+    end_is(&rt, call.end(), Some(Status::Cancelled));
+    count_is(&rt, call.messages.len(), 1);
+    Ok(())
+}
+
+#[test]
+fn a_call_says_what_it_was_given(rt: HostRuntime) -> Result<(), Fail> {
+    let alloc = rt.alloc();
+    let mut given = VecDeque::new(alloc);
+    given.push_back(Utterance::Says(Out::Say(Bytes::from_static(b"1"))))?;
+    given.push_back(Utterance::Completes)?;
+    let mut call = CallErrand::new(alloc, given, 2, None);
+    says(&rt, call.next_out(), true);
+    is_so(&rt, matches!(call.next_out(), Some(Utterance::Completes)));
+    is_so(&rt, call.next_out().is_none());
+    Ok(())
+}
+
 // Whether this is what is said next, a message.
-fn is_say(out: Option<Out>) -> bool {
+fn is_say(out: Option<Utterance>) -> bool {
     match out {
-        Some(Out::Say(_)) => true,
+        Some(Utterance::Says(Out::Say(_))) => true,
         _ => false,
     }
 }
 
-fn says(rt: &impl Abort, out: Option<Out>, wanted: bool) {
+fn says(rt: &impl Abort, out: Option<Utterance>, wanted: bool) {
     let is_said = is_say(out);
     assert_eq!(rt; is_said, wanted);
 }

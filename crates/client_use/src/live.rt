@@ -33,6 +33,19 @@ fn say(
     payload: Bytes,
     stream: &mut Vec<u8>,
 ) -> Result<(), AllocError> {
+    say_status(alloc, service, method, ptype, payload, 0, stream)
+}
+
+// The same, with the number of a status.
+fn say_status(
+    alloc: Global,
+    service: u32,
+    method: u32,
+    ptype: PacketType,
+    payload: Bytes,
+    status: u32,
+    stream: &mut Vec<u8>,
+) -> Result<(), AllocError> {
     let packet = Packet {
         ptype,
         name: CallName {
@@ -42,7 +55,7 @@ fn say(
             call: 1,
         },
         payload,
-        status: 0,
+        status,
     };
     write_frame(alloc, &packet, stream)
 }

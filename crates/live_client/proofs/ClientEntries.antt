@@ -1,6 +1,6 @@
 -- What the entries of a live client do: none behind the first opens a call, and behind the end of the output all that is said is
 -- replies.
-use Rattle.std.proofs.Common.{◌≡◌, ◌⊎◌, ℕ, ◌+◌, ◌≤◌, ◌==◌, ◌&&◌, ◌||◌, not, Bool, true, false, if◌then◌else◌, List, [], ◌∷◌, ◌++◌, length, Option, Some, None, is_none, cond, refl, ap, sym, ◌∙◌, subst, inl, inr, arith, append_assoc, length-append, flat_map}
+use Rattle.std.proofs.Common.{◌≡◌, ◌⊎◌, ℕ, zero, suc, ◌+◌, ◌<◌, ◌≤◌, ◌==◌, ◌&&◌, ◌||◌, not, Bool, true, false, if◌then◌else◌, List, [], ◌∷◌, ◌++◌, length, slice_get, Option, Some, None, is_none, cond, reverse, refl, ap, sym, ◌∙◌, subst, inl, inr, arith, append_assoc, length-append, flat_map}
 use Rattle.std.proofs.lemmas.Bool.{and_parts, false≢true, true≢false}
 use Rattle.std.proofs.lemmas.List.{append-nil}
 use Rattle.std.specs.List.{AllByRecursion}
@@ -23,17 +23,19 @@ use Rattle.rpc_handlers.specs.declared.answer.Out.{Out}
 use Rattle.rpc_handlers.specs.declared.event.Event.TheVariants.{Message}
 use Rattle.rpc_journal.specs.declared.entry.Entry.{Entry}
 use Rattle.rpc_journal.specs.declared.entry.EntryKind.{EntryKind}
-use Rattle.rpc_journal.specs.declared.entry.EntryKind.TheVariants.{Arrive, Say, Start, Finish, Cancel, Flush, EndIn, Halt}
+use Rattle.rpc_journal.specs.declared.entry.EntryKind.TheVariants.{Arrive, Invoke, Say, Done, Start, Finish, Replace, Cancel, Tick, Flush, EndIn, Halt, Close}
 use Rattle.rpc_journal.specs.declared.item.Item.{Item}
 use Rattle.rpc_journal.specs.Calls.{call_at, call_count, calls, is_cancel_of, is_cancelled, live_call}
 use Rattle.rpc_journal.specs.ClientTable.{call_row, live_row, no_call_row, refuses_stream}
 use Rattle.rpc_journal.specs.Effect.{Deed, Effect, Opening}
-use Rattle.rpc_journal.specs.Entries.{answer_item, arrive_row, cancel_effect, effect_of, end_effect, finish_effect, is_heard, messages_go, with_call}
+use Rattle.rpc_journal.specs.Entries.{answer_item, arrive_row, cancel_effect, effect_of, end_effect, finish_effect, invoke_effect, is_heard, messages_go, with_call}
 use Rattle.rpc_journal.specs.History.{deeds_of}
 use Rattle.rpc_journal.specs.Items.{is_done, items_sent}
-use Rattle.rpc_journal.specs.Kinds.{is_empty, is_okay, streams_down}
+use Rattle.rpc_journal.specs.Kinds.{is_empty, is_okay, is_unary, streams_down, streams_up}
 use Rattle.rpc_journal.specs.Rows.{Row, channels_in, closed_row, method_named, no_effect, both_effects, queued_row}
+use Rattle.rpc_journal.specs.Lawful.{has_stream}
 use Rattle.live_client.specs.Ask.{live_setting}
+use Rattle.live_client.specs.Driving.{StreamsOut}
 use Rattle.live_client.specs.Histories.{is_cancel, is_entry_of}
 use Rattle.live_client.specs.Live.{AreReplies, IsReply}
 use Rattle.live_client.specs.Silent.{is_silent}
@@ -153,6 +155,7 @@ module _ (method : MethodRef) where
   opens_none : (watches : Bool) (seat : ℕ) (ds : List Deed) (kind : EntryKind) → is_entry_of watches seat kind ≡ true → (effect_of (live_setting method) ds kind).opens ≡ None
   opens_none watches seat ds (Arrive p) is = (arrive_quiet ds p).0
   opens_none watches seat ds (Say c out) is = say_opens (call_at ds c) _ (λ o. refl)
+  opens_none watches seat ds (Done c) is = say_opens (call_at ds c) _ (λ o. refl)
   opens_none watches seat ds (Start c) is = refl
   opens_none watches seat ds (Finish c a) is = finish_opens ds c a (call_at ds c) (and_parts (seat == 1) (is_silent a) is).1
   opens_none watches seat ds (Cancel c) is = cancel_opens ds c (call_at ds c)
@@ -160,6 +163,61 @@ module _ (method : MethodRef) where
   opens_none watches seat ds EndIn is = refl
   opens_none watches seat ds (Halt why) is = refl
   opens_none watches seat ds _ is = absurd (false≢true is)
+
+  -- ---- each call is of the one method
+
+  abbrev IsOfMethod : Option Opening → Type 0
+  IsOfMethod None = Unit {0}
+  IsOfMethod (Some o) = o.method ≡ method
+
+  end_opens : (c : ℕ) (name : CallName) (kind : Kind) (done : Bool) (end : Option End) → (end_effect Client c name kind done end).opens ≡ None
+  end_opens c name kind done None = refl
+  end_opens c name kind done (Some end) = cancelled_opens (is_okay end.status) _ _ (cancelled_opens (is_unary kind || done) _ _ refl refl) refl
+
+  any_finish : (ds : List Deed) (c : ℕ) (a : Answer) (o : Option Opening) → (finish_effect (live_setting method) ds c a o).opens ≡ None
+  any_finish ds c a None = refl
+  any_finish ds c a (Some o) = cancelled_opens (is_cancelled ds c) _ _ refl (cancelled_opens (is_heard ds c) _ _ (end_opens c o.name o.method.kind (is_done ds c) a.end) refl)
+
+  none_of : (o : Option Opening) → o ≡ None → IsOfMethod o
+  none_of o is = subst IsOfMethod (sym is) tt
+
+  of_method : (ds : List Deed) (kind : EntryKind) → IsOfMethod (effect_of (live_setting method) ds kind).opens
+  of_method ds (Arrive p) = none_of _ (arrive_quiet ds p).0
+  of_method ds (Invoke p m) = at (method_named (live_setting method) p.name) refl
+    where
+      at : (o : Option MethodRef) → method_named (live_setting method) p.name ≡ o → IsOfMethod (invoke_effect ds p m o).opens
+      at None is = tt
+      at (Some x) is = named_same p.name x is
+  of_method ds (Say c out) = none_of _ (say_opens (call_at ds c) _ (λ o. refl))
+  of_method ds (Done c) = none_of _ (say_opens (call_at ds c) _ (λ o. refl))
+  of_method ds (Finish c a) = none_of _ (any_finish ds c a (call_at ds c))
+  of_method ds (Cancel c) = none_of _ (cancel_opens ds c (call_at ds c))
+  of_method ds (Start c) = tt
+  of_method ds (Replace c m) = tt
+  of_method ds (Tick t) = tt
+  of_method ds Flush = tt
+  of_method ds EndIn = tt
+  of_method ds (Halt why) = tt
+  of_method ds (Close channel) = tt
+
+  -- of entries that stand the newest first
+  all_of_method : (es : List Entry) → AllByRecursion (λ o. o.method ≡ method) (calls (deeds_of (live_setting method) es))
+  all_of_method [] = tt
+  all_of_method (e ∷ es) =
+      let ds = deeds_of (live_setting method) es in
+      all_append (λ (o : Opening). o.method ≡ method) (calls ds) (option_to_list (effect_of (live_setting method) ds e.kind).opens) (all_of_method es) (one (effect_of (live_setting method) ds e.kind).opens (of_method ds e.kind))
+    where
+      one : (o : Option Opening) → IsOfMethod o → AllByRecursion (λ x. x.method ≡ method) (option_to_list o)
+      one None so = tt
+      one (Some o) so = (so, tt)
+
+  pub streams_always : streams_up method.kind ≡ true → (c : ℕ) → StreamsOut (live_setting method) c
+  streams_always up c h there = at (calls (deeds_of (live_setting method) (reverse h))) c there.below (all_of_method (reverse h))
+    where
+      at : (os : List Opening) (n : ℕ) → n < length os → AllByRecursion (λ o. o.method ≡ method) os → has_stream Client (slice_get os n) ≡ true
+      at [] n below all = absurd (omega arith)
+      at (o ∷ os) zero below all = ap (λ (m : MethodRef). streams_up m.kind) all.0 ∙ up
+      at (o ∷ os) (suc n) below all = at os n (omega arith) all.1
 
   calls_still : (os : List Opening) (o : Option Opening) → o ≡ None → length (os ++ option_to_list o) ≡ length os
   calls_still os None is = ap length (append-nil os)

@@ -29,8 +29,8 @@ use Rattle.turn_cell.specs.Passes.{IsSame}
 use Rattle.rpc_journal.specs.Lawful.{IsLegal}
 use Rattle.rpc_shared.specs.session.Crew.{IsLate, Lock, Seat}
 use Rattle.rpc_shared.proofs.session.PassLemmas.{adds_none, adds_one, late_still, stands_after}
-use Rattle.live_client.specs.Driving.{Drives, runs_by, runs_in, is_drivers}
-use Rattle.live_client.specs.Histories.{AreSaidOver, cancels, is_cancel, said_by, says_of}
+use Rattle.live_client.specs.Driving.{CanEnd, Drives, runs_by, runs_in, is_drivers}
+use Rattle.live_client.specs.Histories.{AreSaidOver, cancels, is_cancel, said_by, says_of, uttered_by, utterances_of}
 use Rattle.live_client.specs.Silent.{silent_rule}
 use Rattle.live_client.specs.asks.Tasks.{Given}
 use Rattle.live_client.proofs.SaidLemmas.{said_later}
@@ -67,6 +67,13 @@ says-append (e ∷ xs) ys = ap (λ outs. said_by e.kind ++ outs) (says-append xs
 
 pub says-push : (xs : List Entry) (e : Entry) → says_of (xs ++ e ∷ []) ≡ says_of xs ++ said_by e.kind
 says-push xs e = says-append xs (e ∷ []) ∙ ap (λ outs. says_of xs ++ outs) (append-nil (said_by e.kind))
+
+pub utterances-append : (xs ys : List Entry) → utterances_of (xs ++ ys) ≡ utterances_of xs ++ utterances_of ys
+utterances-append [] ys = refl
+utterances-append (e ∷ xs) ys = ap (λ outs. uttered_by e.kind ++ outs) (utterances-append xs ys) ∙ sym (append_assoc (uttered_by e.kind) (utterances_of xs) (utterances_of ys))
+
+pub utterances-push : (xs : List Entry) (e : Entry) → utterances_of (xs ++ e ∷ []) ≡ utterances_of xs ++ uttered_by e.kind
+utterances-push xs e = utterances-append xs (e ∷ []) ∙ ap (λ outs. utterances_of xs ++ outs) (append-nil (uttered_by e.kind))
 
 -- ---- counts
 
@@ -129,8 +136,8 @@ drives_sees watches opening r c events outs items p q d same own legal begins mi
       there = there_beyond r.base c p.view.known.seen q.view.known.seen begins d.there;
       runs = runs_beyond r.base c p.view.known.seen q.view.known.seen begins others ∙ d.runs;
       said =
-          subst (AreSaidOver r.base (runs_in r c) c q.view.known.seen outs) (ap says_of (sym mine))
-          (said_later r.base (runs_in r c) c p.view.known.seen q.view.known.seen begins outs (says_of p.view.known.mine) d.said);
+          λ can. subst (AreSaidOver r.base (runs_in r c) c q.view.known.seen outs) (ap utterances_of (sym mine))
+          (said_later r.base (runs_in r c) c p.view.known.seen q.view.known.seen begins outs (utterances_of p.view.known.mine) (d.said can));
       front = front_beyond r.base c items p.view.known.seen q.view.known.seen begins d.front;
       count = d.count ∙ ap flushes (sym mine);
     }
@@ -166,7 +173,7 @@ module _ (watches : Bool) (opening : EntryKind) (r : Lock) (c : ℕ) (events : L
     deeds_more = ap (history r.base) one_more ∙ history-push r.base s.before (entry_by 1 kind)
 
     pub drives_added : (events' : List Event) (outs' : List Given) (items' : List Item) → runs_by 1 (deeds_with r.base (history r.base s.before) (entry_by 1 kind)) c ≡ events'
-        → AreSaidOver r.base (runs_in r c) c q.view.known.seen outs' (says_of p.view.known.mine ++ said_by kind) → IsPrefix items' (items_sent (history r.base q.view.known.seen)) → length items' ≡ flushes (entry_by 1 kind ∷ []) + flushes p.view.known.mine
+        → (CanEnd r.base c outs' → AreSaidOver r.base (runs_in r c) c q.view.known.seen outs' (utterances_of p.view.known.mine ++ uttered_by kind)) → IsPrefix items' (items_sent (history r.base q.view.known.seen)) → length items' ≡ flushes (entry_by 1 kind ∷ []) + flushes p.view.known.mine
         → Drives watches opening r c events' outs' items' q
     drives_added events' outs' items' runs said front count =
         let adds = adds_one silent_rule r p q step (is_drivers watches) kind s is may full in
@@ -178,18 +185,18 @@ module _ (watches : Bool) (opening : EntryKind) (r : Lock) (c : ℕ) (events : L
           kinds = all_append (λ e. is_drivers watches e.kind ≡ true) d.rest (entry_by 1 kind ∷ []) d.kinds (may, tt);
           there = there_beyond r.base c p.view.known.seen q.view.known.seen begins_more d.there;
           runs = ap (λ ds. runs_by 1 ds c) deeds_more ∙ runs;
-          said = subst (AreSaidOver r.base (runs_in r c) c q.view.known.seen outs') (sym (ap says_of mine_more ∙ says-push p.view.known.mine (entry_by 1 kind))) said;
+          said = λ can. subst (AreSaidOver r.base (runs_in r c) c q.view.known.seen outs') (sym (ap utterances_of mine_more ∙ utterances-push p.view.known.mine (entry_by 1 kind))) (said can);
           front = front;
           count = count ∙ omega (arith, flushes-append p.view.known.mine (entry_by 1 kind ∷ []), ap flushes mine_more);
         }
 
     -- an entry that ends no run, says nothing and flushes nothing
-    pub drives_calm : is_finish_of c kind ≡ false → said_by kind ≡ [] → is_flush kind ≡ false → Drives watches opening r c events outs items q
+    pub drives_calm : is_finish_of c kind ≡ false → uttered_by kind ≡ [] → is_flush kind ≡ false → Drives watches opening r c events outs items q
     drives_calm unfinished unsaid unflushed =
         drives_added events outs items
         (rw (unfinished) runs_before)
-        (subst (AreSaidOver r.base (runs_in r c) c q.view.known.seen outs) (sym (ap (λ more. says_of p.view.known.mine ++ more) unsaid ∙ append-nil (says_of p.view.known.mine)))
-        (said_later r.base (runs_in r c) c p.view.known.seen q.view.known.seen begins_more outs (says_of p.view.known.mine) d.said))
+        (λ can. subst (AreSaidOver r.base (runs_in r c) c q.view.known.seen outs) (sym (ap (λ more. utterances_of p.view.known.mine ++ more) unsaid ∙ append-nil (utterances_of p.view.known.mine)))
+        (said_later r.base (runs_in r c) c p.view.known.seen q.view.known.seen begins_more outs (utterances_of p.view.known.mine) (d.said can)))
         (front_beyond r.base c items p.view.known.seen q.view.known.seen begins_more d.front)
         (d.count ∙ rw unflushed (omega arith))
 

@@ -8,7 +8,7 @@ use Rattle.rpc_handlers.specs.declared.answer.Out.{Out}
 use Rattle.rpc_handlers.specs.declared.answer.Out.TheVariants.{Begin, Append, Commit, Leave}
 use Rattle.rpc_journal.specs.declared.entry.Entry.{Entry}
 use Rattle.rpc_journal.specs.declared.entry.EntryKind.{EntryKind}
-use Rattle.rpc_journal.specs.declared.entry.EntryKind.TheVariants.{Cancel}
+use Rattle.rpc_journal.specs.declared.entry.EntryKind.TheVariants.{Cancel, Say}
 use Rattle.rpc_journal.specs.declared.setting.Setting.{Setting}
 use Rattle.rpc_journal.specs.Calls.{is_cancelled}
 use Rattle.rpc_journal.specs.History.{history}
@@ -20,15 +20,17 @@ use Rattle.live_client.specs.declared.ask.Live.{Live}
 use Rattle.live_client.specs.declared.ask.LiveAsk.TheVariants.{Get, Put, Watch, Call}
 use Rattle.live_client.specs.Ask.{live_setting, read_method, write_method}
 use Rattle.live_client.specs.Fetched.{DeadlinesTakeTime, FetchedWell, FetchesAreWhole, IsFetched, deeds_of, run_of}
-use Rattle.live_client.specs.Histories.{AreActed, AreOfLive, AreSaid, is_cancel, is_entry_of, is_spoken, says_of}
+use Rattle.live_client.specs.declared.asks.utterance.Utterance.{Utterance}
+use Rattle.live_client.specs.declared.asks.utterance.Utterance.TheVariants.{Says, Completes}
+use Rattle.live_client.specs.Histories.{AreActed, AreOfLive, AreSaid, is_cancel, is_entry_of, is_for_board, is_spoken, said_by, says_of, uttered_by, utterances_of}
 use Rattle.live_client.specs.asks.Ends.{IsTold, TellsEnd}
 use Rattle.live_client.specs.asks.Tasks.{Given, TaskRan}
 use Rattle.transfer_client.specs.Tasks.{PollsRead, Reads}
 use Rattle.live_client.proofs.ClientEntries.{uncancelled}
-use Rattle.live_client.proofs.SaidLemmas.{long_spoken}
+use Rattle.live_client.proofs.SaidLemmas.{long_for_board}
 use Rattle.live_client.proofs.asks.EndLemmas.{HasMade, read_deadline, read_okay, write_deadline}
 use Rattle.live_client.proofs.asks.FetchLemmas.{deeds}
-use Rattle.live_client.proofs.asks.WalkLemmas.{bare}
+use Rattle.live_client.proofs.asks.WalkLemmas.{bare, outs_by, outs_in, outs_in-append}
 
 pub deadlines_take_time : DeadlinesTakeTime
 deadlines_take_time (Get resource offset) start end l other asked is =
@@ -36,7 +38,7 @@ deadlines_take_time (Get resource offset) start end l other asked is =
 deadlines_take_time (Put resource offset bytes) start end l other asked is =
     write_deadline start end (run_of write_method l) (asked.outs ++ asked.unsaid) (is_halted (live_setting write_method) l.journal.entries) resource bytes offset asked.now l.ended asked.ran.0 is
 deadlines_take_time (Watch n limit) start end l other asked is = absurd (true≢false other)
-deadlines_take_time (Call opening limit) start end l other asked is = absurd (true≢false other)
+deadlines_take_time (Call opening limit within) start end l other asked is = absurd (true≢false other)
 
 -- ---- no call of a transfer is cancelled
 
@@ -54,6 +56,14 @@ none_cancel (e ∷ h) all = (uncancelling e.seat e.kind all.0, none_cancel h all
 
 -- ---- of what was said, the store actions are those of the task
 
+outs_uttered : (kind : EntryKind) → outs_in (uttered_by kind) ≡ said_by kind
+outs_uttered (Say c out) = refl
+outs_uttered _ = refl
+
+outs_are : (h : List Entry) → outs_in (utterances_of h) ≡ says_of h
+outs_are [] = refl
+outs_are (e ∷ h) = outs_in-append (uttered_by e.kind) (utterances_of h) ∙ (ap (λ outs. outs ++ outs_in (utterances_of h)) (outs_uttered e.kind) ∙ ap (λ outs. said_by e.kind ++ outs) (outs_are h))
+
 module _ (set : Setting) (c : ℕ) (h : List Entry) (uncut : is_cancelled (history set h) c ≡ false) where
   spoken_off : (out : Out) (outs : List Out) → is_spoken out ≡ true → deeds_of (out ∷ outs) ≡ deeds_of outs
   spoken_off out outs is = rw is refl
@@ -65,16 +75,24 @@ module _ (set : Setting) (c : ℕ) (h : List Entry) (uncut : is_cancelled (histo
       at true is = rw is (ap (λ rest. out ∷ rest) same)
       at false is = rw is same
 
-  acted_deeds : (outs : List Given) (spoken : List Out) → AreActed set c h outs spoken → deeds_of spoken ≡ deeds_of (bare outs)
-  acted_deeds [] spoken so = ap deeds_of so
-  acted_deeds (given ∷ outs) spoken (inl s) = acted_deeds outs spoken s.1 ∙ sym (spoken_off given.out (bare outs) s.0)
-  acted_deeds (given ∷ outs) spoken (inr (inl s)) = ap deeds_of s.2 ∙ acted_on given.out (bare outs) s.1 (acted_deeds outs s.1 s.3)
+  board_off : (out : Utterance) (outs : List Out) → is_for_board out ≡ true → deeds_of (outs_by out ++ outs) ≡ deeds_of outs
+  board_off (Says out) outs is = spoken_off out outs is
+  board_off Completes outs is = refl
+
+  uttered_on : (out : Utterance) (outs spoken : List Out) → deeds_of spoken ≡ deeds_of outs → deeds_of (outs_by out ++ spoken) ≡ deeds_of (outs_by out ++ outs)
+  uttered_on (Says out) outs spoken same = acted_on out outs spoken same
+  uttered_on Completes outs spoken same = same
+
+  acted_deeds : (outs : List Given) (spoken : List Utterance) → AreActed set c h outs spoken → deeds_of (outs_in spoken) ≡ deeds_of (bare outs)
+  acted_deeds [] spoken so = ap (λ spoken. deeds_of (outs_in spoken)) so
+  acted_deeds (given ∷ outs) spoken (inl s) = acted_deeds outs spoken s.1 ∙ sym (board_off given.out (bare outs) s.0)
+  acted_deeds (given ∷ outs) spoken (inr (inl s)) = ap (λ spoken. deeds_of (outs_in spoken)) s.2 ∙ uttered_on given.out (bare outs) (outs_in s.1) (acted_deeds outs s.1 s.3)
   acted_deeds (given ∷ outs) spoken (inr (inr s)) = absurd (true≢false (sym s.1 ∙ uncut))
 
-  said_deeds : (outs : List Given) (spoken : List Out) → AreSaid set c h outs spoken → deeds_of spoken ≡ deeds_of (bare outs)
-  said_deeds [] spoken so = ap deeds_of so
-  said_deeds (given ∷ outs) spoken (inl s) = ap deeds_of s.1 ∙ acted_on given.out (bare outs) s.0 (said_deeds outs s.0 s.2)
-  said_deeds (given ∷ outs) spoken (inr (inl s)) = said_deeds outs spoken s.1 ∙ sym (spoken_off given.out (bare outs) (long_spoken given.out s.0))
+  said_deeds : (outs : List Given) (spoken : List Utterance) → AreSaid set c h outs spoken → deeds_of (outs_in spoken) ≡ deeds_of (bare outs)
+  said_deeds [] spoken so = ap (λ spoken. deeds_of (outs_in spoken)) so
+  said_deeds (given ∷ outs) spoken (inl s) = ap (λ spoken. deeds_of (outs_in spoken)) s.1 ∙ uttered_on given.out (bare outs) (outs_in s.0) (said_deeds outs s.0 s.2)
+  said_deeds (given ∷ outs) spoken (inr (inl s)) = said_deeds outs spoken s.1 ∙ sym (board_off given.out (bare outs) (long_for_board given.out s.0))
   said_deeds (given ∷ outs) spoken (inr (inr (inl s))) = absurd (true≢false (sym s.1 ∙ uncut))
   said_deeds (given ∷ outs) spoken (inr (inr (inr s))) = acted_deeds (given ∷ outs) spoken s.1
 
@@ -120,7 +138,7 @@ module _ (resource offset start end : ℕ) (l : Live) (well : FetchedWell resour
       (record {
         added = made.whole.added;
         deeds =
-            said_deeds (live_setting read_method) 0 h calls_on well.ran.outs (says_of h) well.ran.said
+            ap deeds_of (sym (outs_are h)) ∙ said_deeds (live_setting read_method) 0 h calls_on well.ran.outs (utterances_of h) well.ran.said
             ∙ (ap deeds_of made.outs_are
             ∙ (deeds-outs made.said
             ∙ (ap (map (out_of 1)) made.whole.deeds_are

@@ -5,6 +5,7 @@ use Rattle.std.specs.Prelude.{option_map}
 use Rattle.entry_lists.specs.Entries.{made_by}
 use Rattle.turn_cell.specs.Passes.{IsNew}
 use Rattle.rpc_ids.specs.declared.method.MethodRef.{MethodRef}
+use Rattle.rpc_ids.specs.declared.method.Role.TheVariants.{Client}
 use Rattle.rpc_packet.specs.declared.call_name.CallName.{CallName}
 use Rattle.rpc_handlers.specs.HandlerRule.{empty_memo}
 use Rattle.rpc_journal.specs.declared.answers.InvokeRefused as invoke
@@ -30,7 +31,7 @@ use Rattle.rpc_shared.specs.session.Crew.{Adds, Lock, Seat, Stands}
 use Rattle.rpc_shared.proofs.session.PassLemmas.{adds_one, stands_after}
 use Rattle.rpc_shared.proofs.session.SessionLemmas.{new_stands}
 use Rattle.live_client.specs.Driving.{Drives, runs_by}
-use Rattle.live_client.specs.Histories.{says_of}
+use Rattle.live_client.specs.Histories.{utterances_of}
 use Rattle.live_client.specs.Opening.{Opens}
 use Rattle.live_client.specs.Silent.{silent_rule}
 use Rattle.live_client.proofs.DriveLemmas.{runs_beyond}
@@ -62,7 +63,7 @@ counted : (set : Setting) (ds : List Deed) (name : CallName) (payload : List ℕ
 counted set ds name payload None m is = absurd (cc is)
 counted set ds name payload (Some x) m is = omega (arith, length-append (calls ds) (option_to_list (invoke_effect ds (request name payload) empty_memo (Some x)).opens))
 
-module _ (r : Lock) (p q : Seat) (new : IsNew r 1 p) (name : CallName) (payload : List ℕ) where
+module _ (r : Lock) (p q : Seat) (client : r.base.role ≡ Client) (new : IsNew r 1 p) (name : CallName) (payload : List ℕ) where
   abbrev opening : EntryKind
   opening = Invoke (request name payload) empty_memo
 
@@ -110,14 +111,14 @@ module _ (r : Lock) (p q : Seat) (new : IsNew r 1 p) (name : CallName) (payload 
       kinds = tt;
       there = there;
       runs = ran_none;
-      said = ap says_of mine;
+      said = λ may. ap utterances_of mine;
       front = (items_sent (history r.base q.view.known.seen), refl);
       count = rw (mine) refl;
     }
 
     pub open_opens : Opens r name payload c q
     open_opens = record {
-      can = record { stands = stands; number = adds.same.number ∙ number; there = there };
+      can = record { stands = stands; number = adds.same.number ∙ number; there = there; client = client };
       before = s.before;
       others = none_before;
       seen = seen;

@@ -1,6 +1,8 @@
 -- What each call of the table is to the driver.
-use Rattle.std.proofs.Common.{◌≡◌, ◌≢◌, ◌⊎◌, ◌&&◌, if◌then◌else◌, ℕ, ◌≤◌, Bool, true, false, not, List, [], ◌∷◌, ◌++◌, length, slice_get, Option, Some, None, is_some, option_map, IfSome, IfNone, Result, Ok, Err, refl, ap, sym, ◌∙◌, subst, inl, inr, arith, length-append, eq-eqb, reverse}
+use Rattle.std.proofs.Common.{◌≡◌, ◌≢◌, ◌⊎◌, ◌&&◌, ◌||◌, if◌then◌else◌, ℕ, ◌≤◌, Bool, true, false, not, List, [], ◌∷◌, ◌++◌, length, slice_get, Option, Some, None, is_some, option_map, IfSome, IfNone, Result, Ok, Err, refl, ap, sym, ◌∙◌, subst, inl, inr, arith, length-append, eq-eqb, reverse}
 use Rattle.std.proofs.lemmas.List.{append-nil, reverse-append}
+use Rattle.std.proofs.lemmas.List.Folds.{list_any-append}
+use Rattle.std.specs.List.{list_any}
 use Rattle.std.specs.Option.{option_to_list}
 use mathlib.Core.List.{IsPrefix}
 use Rattle.entry_lists.specs.Entries.{made_by}
@@ -19,21 +21,21 @@ use Rattle.rpc_journal.specs.declared.answers.StartOfRefused as start_of
 use Rattle.rpc_journal.specs.declared.answers.SayRefused as say
 use Rattle.rpc_journal.specs.declared.entry.Entry.{Entry}
 use Rattle.rpc_journal.specs.declared.entry.EntryKind.{EntryKind}
-use Rattle.rpc_journal.specs.declared.entry.EntryKind.TheVariants.{Say, Start, Finish, Cancel, Flush, Halt}
+use Rattle.rpc_journal.specs.declared.entry.EntryKind.TheVariants.{Say, Done, Start, Finish, Cancel, Flush, Halt}
 use Rattle.rpc_journal.specs.declared.entry.TheConstants.{MAX_ENTRIES}
 use Rattle.rpc_journal.specs.declared.item.Item.{Item}
 use Rattle.rpc_journal.specs.declared.setting.Setting.{Setting}
 use Rattle.rpc_handlers.specs.declared.answer.Out.TheVariants.{Say as Message, Begin, Append, Commit, Leave}
 use Rattle.rpc_journal.specs.Calls.{call_at, end_of, ends_of, is_cancelled}
-use Rattle.rpc_journal.specs.Changes.{CancelDid, FinishDid, FlushDid, NothingToFlush, HaltDid, SayDid, StartOfDid}
+use Rattle.rpc_journal.specs.Changes.{CancelDid, DoneDid, FinishDid, FlushDid, NothingToFlush, HaltDid, SayDid, StartOfDid}
 use Rattle.rpc_journal.specs.Effect.{Deed}
 use Rattle.rpc_journal.specs.History.{adding, deeds_of, deeds_with, entry_by, history}
 use Rattle.rpc_journal.specs.Items.{flush_count, flushes, halt_reason, is_done, items_sent}
 use Rattle.rpc_journal.specs.Kinds.{is_server, or_else}
-use Rattle.rpc_journal.specs.Lawful.{AnsweredAll, IsLawful, has_stream}
+use Rattle.rpc_journal.specs.Lawful.{AnsweredAll, IsLawful, has_stream, is_unary_call}
 use Rattle.rpc_journal.specs.Laws.{seat_of}
 use Rattle.rpc_journal.specs.Queues.{taken_event}
-use Rattle.rpc_journal.specs.Refusals.{is_full, out_refusal, refused_where, say_refusal}
+use Rattle.rpc_journal.specs.Refusals.{done_refusal, is_full, out_refusal, refused_where, say_refusal}
 use Rattle.rpc_journal.proofs.ItemLemmas.{flushes_count, flushes_of_seat, items_begin}
 use Rattle.rpc_journal.proofs.RunLemmas.{quiet_for_good, run_stands}
 use Rattle.rpc_shared.specs.Steps.{Steps}
@@ -47,16 +49,17 @@ use Rattle.rpc_shared.specs.session.Ring.{HaltsFor}
 use Rattle.rpc_shared.specs.session.Sessions.{is_halted, is_halting}
 use Rattle.rpc_shared.proofs.session.PassLemmas.{adds_none, adds_one, adds_trans, late_still, stands_after}
 use Rattle.rpc_shared.proofs.session.StepLemmas.{full_length, look_adds}
-use Rattle.live_client.specs.Driving.{Calm, CanDrive, Cuts, Drives, EndsRun, HasCut, Speaks, TakesItem, TakesNone, is_cutting, is_flushing, is_running, is_saying, runs_by, runs_in, want_by}
-use Rattle.live_client.specs.Histories.{AreSaidOver, cancels, is_cancel, says_of}
+use Rattle.live_client.specs.Driving.{Calm, CanDrive, CanEnd, Cuts, Drives, EndsRun, HasCut, Speaks, TakesItem, TakesNone, is_cutting, is_flushing, is_running, is_saying, runs_by, runs_in, want_by}
+use Rattle.live_client.specs.declared.asks.utterance.Utterance.TheVariants.{Says, Completes}
+use Rattle.live_client.specs.Histories.{AreSaidOver, cancels, is_cancel, is_completion, utterances_of}
 use Rattle.live_client.specs.Silent.{is_silent, silent_rule}
 use Rattle.live_client.specs.asks.Tasks.{Given, given_at, mails}
 use Rattle.live_client.proofs.DriveLemmas.{cancels-append, drives_added, drives_calm, drives_kept, drives_sees, front_beyond, others_seat, runs_before, there_beyond}
-use Rattle.live_client.proofs.SaidLemmas.{IsLeft, ends_begin, refused_left, said_later, said_left, said_more, taken_open}
+use Rattle.live_client.proofs.SaidLemmas.{IsLeft, end_left, end_open, end_refusal, ends_begin, refused_left, said_later, said_left, said_more, taken_open}
 
 -- an out more is said or refused
 with_said : (watches : Bool) (opening : EntryKind) (r : Lock) (c : ℕ) (events : List Event) (outs outs' : List Given) (items : List Item) (q : Seat)
-    → AreSaidOver r.base (runs_in r c) c q.view.known.seen outs' (says_of q.view.known.mine) → Drives watches opening r c events outs items q → Drives watches opening r c events outs' items q
+    → (CanEnd r.base c outs' → AreSaidOver r.base (runs_in r c) c q.view.known.seen outs' (utterances_of q.view.known.mine)) → Drives watches opening r c events outs items q → Drives watches opening r c events outs' items q
 with_said watches opening r c events outs outs' items q said d = record {
   stands = d.stands;
   number = d.number;
@@ -69,6 +72,20 @@ with_said watches opening r c events outs outs' items q said d = record {
   front = d.front;
   count = d.count;
 }
+
+-- what may be given behind fewer outs
+any_more : {A : Type 0} (test : A → Bool) (xs : List A) (x : A) → list_any test xs ≡ true → list_any test (xs ++ x ∷ []) ≡ true
+any_more test xs x is = list_any-append test xs (x ∷ []) ∙ rw is refl
+
+can_less : (set : Setting) (c : ℕ) (outs : List Given) (given : Given) → CanEnd set c (outs ++ given ∷ []) → CanEnd set c outs
+can_less set c outs given may is = may (any_more (λ given. is_completion given.out) outs given is)
+
+any_last : {A : Type 0} (test : A → Bool) (xs : List A) (x : A) → test x ≡ true → list_any test (xs ++ x ∷ []) ≡ true
+any_last test xs x is = list_any-append test xs (x ∷ []) ∙ at (list_any test xs)
+  where
+    at : (b : Bool) → (b || list_any test (x ∷ [])) ≡ true
+    at true = refl
+    at false = rw is refl
 
 -- the state of a call never refuses for a full journal
 kept_none : (b : Bool) (x : Status) → refused_where b (say.TheVariants.Closed x) ≡ Some say.TheVariants.JournalFull → ⊥
@@ -156,7 +173,7 @@ module _ (r : Lock) (c : ℕ) (p q : Seat) (can : CanDrive r c p) where
       drives = λ watches opening events outs items d.
           drives_added watches opening r c events outs items p q (λ set _. FinishDid set x.run x.gives did.0 result) d fs (Finish x.run.call x.gives) finished silent (λ is. absurd (cc is))
           (events ++ x.run.event ∷ []) outs items (ran watches opening events outs items d)
-          (subst (AreSaidOver r.base (runs_in r c) c q.view.known.seen outs) (sym (append-nil (says_of p.view.known.mine))) (said_later r.base (runs_in r c) c p.view.known.seen q.view.known.seen later outs (says_of p.view.known.mine) d.said))
+          (λ may. subst (AreSaidOver r.base (runs_in r c) c q.view.known.seen outs) (sym (append-nil (utterances_of p.view.known.mine))) (said_later r.base (runs_in r c) c p.view.known.seen q.view.known.seen later outs (utterances_of p.view.known.mine) (d.said may)))
           (front_beyond r.base c items p.view.known.seen q.view.known.seen later d.front)
           (d.count ∙ omega arith);
     }
@@ -177,16 +194,16 @@ module _ (r : Lock) (c : ℕ) (p q : Seat) (can : CanDrive r c p) where
     unrefused true o is = absurd (cc is)
     unrefused false o is = is
 
-    pub say_speaks : (result : Result (Unit {0}) say.SayRefused) → Steps silent_rule r p q (λ set seat. SayDid set seat c out result) → result ≡ Ok tt → Speaks r c out p q
+    pub say_speaks : (result : Result (Unit {0}) say.SayRefused) → Steps silent_rule r p q (λ set seat. SayDid set seat c out result) → result ≡ Ok tt → Speaks r c (Says out) p q
     say_speaks (Err e) s is = absurd (cc is)
     say_speaks (Ok a) s is = record {
       adds = adds_one silent_rule r p q (λ set seat. SayDid set seat c out (Ok a)) is_saying (Say c out) s s.did.adds refl (λ is. absurd (cc is));
-      drives = λ opening events outs items d.
-          drives_added false opening r c events outs items p q (λ set seat. SayDid set seat c out (Ok a)) d s (Say c out) s.did.adds refl (λ is. absurd (cc is))
-          events (outs ++ given_at (mails events) out ∷ []) items (runs_before false opening r c events outs items p q (λ set seat. SayDid set seat c out (Ok a)) d s)
-          (said_later r.base (runs_in r c) c s.before q.view.known.seen added (outs ++ given_at (mails events) out ∷ []) (says_of p.view.known.mine ++ out ∷ [])
-          (said_more r.base (runs_in r c) c s.before (mails events) out outs (says_of p.view.known.mine) (taken_open r.base s.before c out taken)
-          (said_later r.base (runs_in r c) c p.view.known.seen s.before s.begins outs (says_of p.view.known.mine) d.said)))
+      drives = λ watches opening events outs items _ d.
+          drives_added watches opening r c events outs items p q (λ set seat. SayDid set seat c out (Ok a)) d s (Say c out) s.did.adds refl (λ is. absurd (cc is))
+          events (outs ++ given_at (mails events) (Says out) ∷ []) items (runs_before watches opening r c events outs items p q (λ set seat. SayDid set seat c out (Ok a)) d s)
+          (λ may. said_later r.base (runs_in r c) c s.before q.view.known.seen added (outs ++ given_at (mails events) (Says out) ∷ []) (utterances_of p.view.known.mine ++ Says out ∷ [])
+          (said_more r.base (runs_in r c) c s.before (mails events) (Says out) outs (utterances_of p.view.known.mine) (taken_open r.base s.before c out taken)
+          (said_later r.base (runs_in r c) c p.view.known.seen s.before s.begins outs (utterances_of p.view.known.mine) (d.said (can_less r.base c outs (given_at (mails events) (Says out)) may)))))
           (front_beyond r.base c items p.view.known.seen q.view.known.seen later d.front)
           (d.count ∙ omega arith);
     }
@@ -213,7 +230,7 @@ module _ (r : Lock) (c : ℕ) (p q : Seat) (can : CanDrive r c p) where
 
     -- refused as it is by the call's state
     pub say_refused : (result : Result (Unit {0}) say.SayRefused) (e : say.SayRefused) → Steps silent_rule r p q (λ set seat. SayDid set seat c out result) → result ≡ Err e
-        → e ≢ say.TheVariants.JournalFull → e ≢ say.TheVariants.Memory → Speaks r c out p q
+        → e ≢ say.TheVariants.JournalFull → e ≢ say.TheVariants.Memory → Speaks r c (Says out) p q
     say_refused (Ok a) e s is other short = absurd (cc is)
     say_refused (Err x) e s is other short = at s.did.cause
       where
@@ -226,16 +243,17 @@ module _ (r : Lock) (c : ℕ) (p q : Seat) (can : CanDrive r c p) where
         told : say_refusal r.base s.before c out ≡ Some x → out_refusal r.base (history r.base s.before) c out ≡ Some x
         told refused = not_full (is_full s.before) (out_refusal r.base (history r.base s.before) c out) x (λ full. other (sym same ∙ full)) refused
 
-        at : (x ≡ say.TheVariants.Memory) ⊎ (say_refusal r.base s.before c out ≡ Some x) → Speaks r c out p q
+        at : (x ≡ say.TheVariants.Memory) ⊎ (say_refusal r.base s.before c out ≡ Some x) → Speaks r c (Says out) p q
         at (inl memory) = absurd (short (sym same ∙ memory))
         at (inr refused) = record {
           adds = calm.adds;
-          drives = λ opening events outs items d.
-              let later = calm.drives false opening events outs items d in
-              with_said false opening r c events outs (outs ++ given_at (mails events) out ∷ []) items q
-              (said_left r.base (runs_in r c) c q.view.known.seen (mails events) out outs (says_of q.view.known.mine) (ap mails later.runs)
-              (subst (λ h. IsLeft r.base c h out) (sym s.did.kept)
-              (refused_left r.base s.before c out x (there_beyond r.base c p.view.known.seen s.before s.begins can.there) (told refused))) later.said) later;
+          drives = λ watches opening events outs items _ d.
+              let later = calm.drives watches opening events outs items d in
+              with_said watches opening r c events outs (outs ++ given_at (mails events) (Says out) ∷ []) items q
+              (λ may. said_left r.base (runs_in r c) c q.view.known.seen (mails events) (Says out) outs (utterances_of q.view.known.mine) (ap mails later.runs)
+              (subst (λ h. IsLeft r.base c h (Says out)) (sym s.did.kept)
+              (refused_left r.base s.before c out x (there_beyond r.base c p.view.known.seen s.before s.begins can.there) (told refused)))
+              (later.said (can_less r.base c outs (given_at (mails events) (Says out)) may))) later;
         }
 
     pub say_full : (result : Result (Unit {0}) say.SayRefused) → Steps silent_rule r p q (λ set seat. SayDid set seat c out result)
@@ -253,13 +271,107 @@ module _ (r : Lock) (c : ℕ) (p q : Seat) (can : CanDrive r c p) where
             subst (λ h. MAX_ENTRIES ≤ length h) (sym s.did.kept)
             (full_length s.before (full_of (is_full s.before) (out_refusal r.base (history r.base s.before) c out) (never_full r.base (history r.base s.before) c out) (refused ∙ ap Some (cc is))))
 
+  -- a Done
+  done_full : (o : Option Status) (b d : Bool) → or_else (option_map say.TheVariants.Closed o) (or_else (refused_where b say.TheVariants.NoStream) (refused_where d say.TheVariants.Completed)) ≡ Some say.TheVariants.JournalFull → ⊥
+  done_full (Some x) b d is = absurd (cc is)
+  done_full None true d is = absurd (cc is)
+  done_full None false true is = absurd (cc is)
+  done_full None false false is = absurd (cc is)
+
+  unfull : (b : Bool) (o : Option say.SayRefused) → or_else (refused_where b say.TheVariants.JournalFull) o ≡ None → o ≡ None
+  unfull true o is = absurd (cc is)
+  unfull false o is = is
+
+  past_full : (b : Bool) (o : Option say.SayRefused) (e : say.SayRefused) → e ≢ say.TheVariants.JournalFull → or_else (refused_where b say.TheVariants.JournalFull) o ≡ Some e → o ≡ Some e
+  past_full true o e other is = absurd (other (cc is))
+  past_full false o e other is = is
+
+  full_by : (b : Bool) (o : Option say.SayRefused) → (o ≡ Some say.TheVariants.JournalFull → ⊥) → or_else (refused_where b say.TheVariants.JournalFull) o ≡ Some say.TheVariants.JournalFull → b ≡ true
+  full_by true o other is = refl
+  full_by false o other is = absurd (other is)
+
+  abbrev ended : List Given → List Event → List Given
+  ended outs events = outs ++ given_at (mails events) Completes ∷ []
+
+  pub done_speaks : (result : Result (Unit {0}) say.SayRefused) → Steps silent_rule r p q (λ set seat. DoneDid set seat c result) → result ≡ Ok tt → Speaks r c Completes p q
+  done_speaks (Err e) s is = absurd (cc is)
+  done_speaks (Ok a) s is = record {
+    adds = adds_one silent_rule r p q (λ set seat. DoneDid set seat c (Ok a)) is_saying (Done c) s s.did.adds refl (λ is. absurd (cc is));
+    drives = λ watches opening events outs items watching d.
+        drives_added watches opening r c events outs items p q (λ set seat. DoneDid set seat c (Ok a)) d s (Done c) s.did.adds (watching refl) (λ is. absurd (cc is))
+        events (ended outs events) items (runs_before watches opening r c events outs items p q (λ set seat. DoneDid set seat c (Ok a)) d s)
+        (λ may. said_later r.base (runs_in r c) c s.before q.view.known.seen added (ended outs events) (utterances_of p.view.known.mine ++ Completes ∷ [])
+        (said_more r.base (runs_in r c) c s.before (mails events) Completes outs (utterances_of p.view.known.mine)
+        (λ _. end_open r.base s.before c (may (any_last (λ given. is_completion given.out) outs (given_at (mails events) Completes) refl) s.before (there_beyond r.base c p.view.known.seen s.before s.begins can.there)) taken)
+        (said_later r.base (runs_in r c) c p.view.known.seen s.before s.begins outs (utterances_of p.view.known.mine) (d.said (can_less r.base c outs (given_at (mails events) Completes) may)))))
+        (front_beyond r.base c items p.view.known.seen q.view.known.seen later d.front)
+        (d.count ∙ omega arith);
+  }
+    where
+      added : IsPrefix s.before q.view.known.seen
+      added = subst (IsPrefix s.before) (sym s.did.adds) (prefix_append s.before _)
+
+      later : IsPrefix p.view.known.seen q.view.known.seen
+      later = prefix_trans p.view.known.seen s.before q.view.known.seen s.begins added
+
+      taken : end_refusal r.base s.before c ≡ None
+      taken = unfull (is_full s.before) (end_refusal r.base s.before c) s.did.unrefused
+
+  pub done_kept : (test : EntryKind → Bool) (result : Result (Unit {0}) say.SayRefused) (e : say.SayRefused) → Steps silent_rule r p q (λ set seat. DoneDid set seat c result) → result ≡ Err e → Calm r c test p q
+  done_kept test (Ok a) e s is = absurd (cc is)
+  done_kept test (Err x) e s is = record {
+    adds = adds_none silent_rule r p q (λ set seat. DoneDid set seat c (Err x)) test s s.did.kept;
+    drives = λ watches opening events outs items d. drives_kept watches opening r c events outs items p q (λ set seat. DoneDid set seat c (Err x)) d s s.did.kept;
+  }
+
+  pub done_refused : (result : Result (Unit {0}) say.SayRefused) (e : say.SayRefused) → Steps silent_rule r p q (λ set seat. DoneDid set seat c result) → result ≡ Err e
+      → e ≢ say.TheVariants.JournalFull → e ≢ say.TheVariants.Memory → Speaks r c Completes p q
+  done_refused (Ok a) e s is other short = absurd (cc is)
+  done_refused (Err x) e s is other short = at s.did.cause
+    where
+      same : x ≡ e
+      same = cc is
+
+      calm : Calm r c is_saying p q
+      calm = done_kept is_saying (Err x) x s refl
+
+      told : done_refusal r.base s.before c ≡ Some x → end_refusal r.base s.before c ≡ Some x
+      told refused = past_full (is_full s.before) (end_refusal r.base s.before c) x (λ full. other (sym same ∙ full)) refused
+
+      at : (x ≡ say.TheVariants.Memory) ⊎ (done_refusal r.base s.before c ≡ Some x) → Speaks r c Completes p q
+      at (inl memory) = absurd (short (sym same ∙ memory))
+      at (inr refused) = record {
+        adds = calm.adds;
+        drives = λ watches opening events outs items _ d.
+            let later = calm.drives watches opening events outs items d in
+            with_said watches opening r c events outs (ended outs events) items q
+            (λ may. said_left r.base (runs_in r c) c q.view.known.seen (mails events) Completes outs (utterances_of q.view.known.mine) (ap mails later.runs)
+            (subst (λ h. IsLeft r.base c h Completes) (sym s.did.kept)
+            (end_left r.base s.before c x can.client (there_beyond r.base c p.view.known.seen s.before s.begins can.there) (told refused)))
+            (later.said (can_less r.base c outs (given_at (mails events) Completes) may))) later;
+      }
+
+  pub done_full_journal : (result : Result (Unit {0}) say.SayRefused) → Steps silent_rule r p q (λ set seat. DoneDid set seat c result)
+      → result ≡ Err say.TheVariants.JournalFull → MAX_ENTRIES ≤ length q.view.known.seen
+  done_full_journal (Ok a) s is = absurd (cc is)
+  done_full_journal (Err x) s is = at s.did.cause
+    where
+      at : (x ≡ say.TheVariants.Memory) ⊎ (done_refusal r.base s.before c ≡ Some x) → MAX_ENTRIES ≤ length q.view.known.seen
+      at (inl memory) = absurd (cc (is, memory))
+      at (inr refused) =
+          subst (λ h. MAX_ENTRIES ≤ length h) (sym s.did.kept)
+          (full_length s.before
+          (full_by (is_full s.before) (end_refusal r.base s.before c)
+          (done_full (end_of (history r.base s.before) c) (is_unary_call (call_at (history r.base s.before) c)) (is_done (history r.base s.before) c)) (refused ∙ ap Some (cc is))))
+
 -- what no frame takes is refused
-pub long_speaks : (r : Lock) (c : ℕ) (p : Seat) (out : Out) → is_long_out out ≡ true → Adds silent_rule r is_saying p p → Speaks r c out p p
+pub long_speaks : (r : Lock) (c : ℕ) (p : Seat) (out : Out) → is_long_out out ≡ true → Adds silent_rule r is_saying p p → Speaks r c (Says out) p p
 long_speaks r c p out long adds = record {
   adds = adds;
-  drives = λ opening events outs items d.
-      with_said false opening r c events outs (outs ++ given_at (mails events) out ∷ []) items p
-      (said_left r.base (runs_in r c) c p.view.known.seen (mails events) out outs (says_of p.view.known.mine) (ap mails d.runs) (inl long) d.said) d;
+  drives = λ watches opening events outs items _ d.
+      with_said watches opening r c events outs (outs ++ given_at (mails events) (Says out) ∷ []) items p
+      (λ may. said_left r.base (runs_in r c) c p.view.known.seen (mails events) (Says out) outs (utterances_of p.view.known.mine) (ap mails d.runs) (inl long)
+      (d.said (can_less r.base c outs (given_at (mails events) (Says out)) may))) d;
 }
 
 -- two calm steps
@@ -275,6 +387,7 @@ can_on r c test p q can adds = record {
   stands = stands_after silent_rule r test p q can.stands adds;
   number = adds.same.number ∙ can.number;
   there = there_beyond r.base c p.view.known.seen q.view.known.seen adds.begins can.there;
+  client = can.client;
 }
 
 -- ---- a quiet call stays quiet
@@ -422,7 +535,7 @@ module _ (r : Lock) (c : ℕ) (p q : Seat) (can : CanDrive r c p) where
       more = λ watches opening events outs items d.
           drives_added watches opening r c events outs items p q (λ set seat. FlushDid set seat (Some item)) d s Flush s.did.adds refl (λ is. absurd (cc is))
           events outs (items ++ item ∷ []) (runs_before watches opening r c events outs items p q (λ set seat. FlushDid set seat (Some item)) d s)
-          (subst (AreSaidOver r.base (runs_in r c) c q.view.known.seen outs) (sym (append-nil (says_of p.view.known.mine))) (said_later r.base (runs_in r c) c p.view.known.seen q.view.known.seen later outs (says_of p.view.known.mine) d.said))
+          (λ may. subst (AreSaidOver r.base (runs_in r c) c q.view.known.seen outs) (sym (append-nil (utterances_of p.view.known.mine))) (said_later r.base (runs_in r c) c p.view.known.seen q.view.known.seen later outs (utterances_of p.view.known.mine) (d.said may)))
           (prefix_trans (items ++ item ∷ []) (items_sent (history r.base s.before)) (items_sent (history r.base q.view.known.seen))
           (next_of_front items (items_sent (history r.base s.before)) item (front_beyond r.base c items p.view.known.seen s.before s.begins d.front)
           (subst (λ n. slice_get (items_sent (history r.base s.before)) n ≡ Some item) (many ∙ sym d.count) s.did.front)) later_items)

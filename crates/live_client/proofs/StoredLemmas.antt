@@ -25,7 +25,7 @@ use Rattle.rpc_journal.specs.Changes.{request}
 use Rattle.entry_lists.proofs.Makers.{all_append}
 use Rattle.rpc_journal.specs.declared.entry.Entry.{Entry}
 use Rattle.rpc_journal.specs.declared.entry.EntryKind.{EntryKind}
-use Rattle.rpc_journal.specs.declared.entry.EntryKind.TheVariants.{Arrive, Invoke, Say, Start, Finish, Cancel, Flush, EndIn, Halt}
+use Rattle.rpc_journal.specs.declared.entry.EntryKind.TheVariants.{Arrive, Invoke, Say, Done, Start, Finish, Cancel, Flush, EndIn, Halt}
 use Rattle.rpc_journal.specs.declared.item.Item.{Item}
 use Rattle.rpc_journal.specs.Calls.{call_at, call_count, calls}
 use Rattle.rpc_journal.specs.Effect.{Deed, Opening}
@@ -98,6 +98,11 @@ other_late seat (Cancel c) is none = absurd (false≢true (sym (off (seat == 1))
     off : (b : Bool) → (b && false) ≡ false
     off true = refl
     off false = refl
+other_late seat (Done c) is none = absurd (false≢true (sym (off (seat == 1)) ∙ is))
+  where
+    off : (b : Bool) → (b && false) ≡ false
+    off true = refl
+    off false = refl
 other_late seat (Halt why) is none = refl
 other_late seat _ is none = absurd (false≢true is)
 
@@ -139,6 +144,7 @@ module _ (packet : Packet) (memo : Memo) where
       at (Start c) known is = quiet (Start c) is refl
       at (Finish c a) known is = quiet (Finish c a) is refl
       at (Cancel c) known is = quiet (Cancel c) is refl
+      at (Done c) known is = quiet (Done c) is refl
       at Flush known is = quiet Flush is refl
       at (Halt why) known is = quiet (Halt why) is refl
       at _ known is = absurd (false≢true is)

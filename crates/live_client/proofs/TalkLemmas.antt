@@ -3,14 +3,14 @@ use Rattle.std.proofs.Common.{◌≡◌, ℕ, Bool, true, false, List, [], ◌�
 use Rattle.std.proofs.lemmas.Bool.{false≢true}
 use Rattle.std.proofs.lemmas.List.{append-nil}
 use Rattle.rpc_ids.specs.declared.status.Status.{Status}
-use Rattle.rpc_handlers.specs.declared.answer.Out.{Out}
+use Rattle.live_client.specs.declared.asks.utterance.Utterance.{Utterance}
 use Rattle.rpc_handlers.specs.declared.event.Event.{Event}
 use Rattle.rpc_journal.specs.declared.entry.EntryKind.{EntryKind}
 use Rattle.rpc_journal.specs.declared.entry.EntryKind.TheVariants.{Cancel}
 use Rattle.rpc_journal.specs.declared.item.Item.{Item}
 use Rattle.rpc_shared.specs.session.Crew.{Lock, Seat}
 use Rattle.live_client.specs.Driving.{Calm, Cuts, Drives, EndsRun, Speaks, Talks, is_flushing, is_running, is_saying}
-use Rattle.live_client.specs.Histories.{is_cancel}
+use Rattle.live_client.specs.Histories.{is_cancel, is_completion}
 use Rattle.live_client.specs.asks.Tasks.{Given, given_at, mails}
 use Rattle.live_client.specs.asks.Telling.{Progress, said_all, unknown, when_over}
 use Rattle.live_client.proofs.StepsOf.{cut_on}
@@ -127,7 +127,7 @@ module _ (watches : Bool) (opening : EntryKind) (r : Lock) (c : ℕ) (did now : 
     over_uncut whole is t = ((hears t.cut t.events (t.outs ++ t.lost) t.ended t.is_over t.heard).2 (t.is_over is)).1
 
   -- what the errand gives is said or refused
-  module _ (out : Out) (p q : Seat) (silent : watches ≡ false)
+  module _ (out : Utterance) (p q : Seat) (completes : is_completion out ≡ true → watches ≡ true)
       (gives : (cut : Option Status) (events : List Event) (outs : List Given) (ended : Option Status) → did cut events outs ended → now cut events (outs ++ given_at (mails events) out ∷ []) ended) where
     given : (t : Talks watches opening did r c true false items p) → now t.cut t.events (t.outs ++ given_at (mails t.events) out ∷ []) t.ended
     given t =
@@ -141,9 +141,7 @@ module _ (watches : Bool) (opening : EntryKind) (r : Lock) (c : ℕ) (did now : 
       outs = t.outs ++ given_at (mails t.events) out ∷ [];
       lost = [];
       ended = t.ended;
-      drives =
-          subst (λ w. Drives w opening r c t.events (t.outs ++ given_at (mails t.events) out ∷ []) items q) (sym silent)
-          (speaks.drives opening t.events t.outs items (subst (λ w. Drives w opening r c t.events t.outs items p) silent t.drives));
+      drives = speaks.drives watches opening t.events t.outs items completes t.drives;
       quiet = cut_on r c is_saying t.cut p q say_uncancelled speaks.adds t.quiet;
       heard = subst (λ os. now t.cut t.events os t.ended) (sym (append-nil (t.outs ++ given_at (mails t.events) out ∷ []))) (given t);
       none_lost = λ _. refl;

@@ -1,5 +1,5 @@
 -- From the two passes to the whole history: whose its entries are, and what the driver's are in it.
-use Rattle.std.proofs.Common.{◌≡◌, ◌≢◌, ◌⊎◌, ℕ, zero, suc, ◌<◌, ◌≤◌, ◌==◌, ◌&&◌, not, Bool, true, false, if◌then◌else◌, List, [], ◌∷◌, ◌++◌, length, reverse, Option, Some, None, is_some, refl, ap, sym, ◌∙◌, subst, inl, inr, arith, length-append, eq-eqb, ne_eqb}
+use Rattle.std.proofs.Common.{◌≡◌, ◌≢◌, ◌⊎◌, ℕ, zero, suc, ◌<◌, ◌≤◌, ◌==◌, ◌&&◌, Bool, true, false, if◌then◌else◌, List, [], ◌∷◌, ◌++◌, length, reverse, Option, Some, None, is_some, refl, ap, sym, ◌∙◌, subst, inl, inr, arith, length-append, eq-eqb, ne_eqb}
 use Rattle.std.proofs.lemmas.Bool.{and_parts, eqb-true, false≢true, true≢false}
 use Rattle.std.proofs.lemmas.List.{append-nil, reverse-append}
 use Rattle.std.specs.List.{AllByRecursion}
@@ -19,7 +19,7 @@ use Rattle.rpc_handlers.specs.declared.event.Event.{Event}
 use Rattle.rpc_handlers.specs.declared.event.Memo.{Memo}
 use Rattle.rpc_journal.specs.declared.entry.Entry.{Entry}
 use Rattle.rpc_journal.specs.declared.entry.EntryKind.{EntryKind}
-use Rattle.rpc_journal.specs.declared.entry.EntryKind.TheVariants.{Arrive, Invoke, Say, Start, Finish, Cancel, Flush, EndIn, Halt}
+use Rattle.rpc_journal.specs.declared.entry.EntryKind.TheVariants.{Arrive, Invoke, Say, Done, Start, Finish, Cancel, Flush, EndIn, Halt}
 use Rattle.rpc_journal.specs.declared.entry.TheConstants.{MAX_ENTRIES}
 use Rattle.rpc_journal.specs.declared.item.Item.{Item}
 use Rattle.rpc_journal.specs.Calls.{call_count, end_of, is_cancelled, is_finish_of}
@@ -41,9 +41,9 @@ use Rattle.rpc_shared.specs.session.Ring.{HaltsFor}
 use Rattle.rpc_shared.specs.session.Sessions.{AreLate, is_halted, is_halting}
 use Rattle.rpc_shared.proofs.session.PassLemmas.{late_still, own_there}
 use Rattle.live_client.specs.Ask.{live_setting}
-use Rattle.live_client.specs.Driving.{Drives, HasCut, is_drivers, runs_by, runs_in}
+use Rattle.live_client.specs.Driving.{CanEnd, Drives, HasCut, is_drivers, runs_by, runs_in}
 use Rattle.live_client.specs.Feeding.{Reader, is_readers}
-use Rattle.live_client.specs.Histories.{AreOfLive, AreSaid, cancels, events_in, events_run, is_cancel, is_entry_of, said_by, says_of}
+use Rattle.live_client.specs.Histories.{AreOfLive, AreSaid, cancels, events_in, events_run, is_cancel, is_entry_of, uttered_by, utterances_of}
 use Rattle.live_client.specs.Silent.{is_silent, silent_rule}
 use Rattle.live_client.specs.asks.Tasks.{Given}
 use Rattle.live_client.specs.Told.{IsCutSo}
@@ -61,10 +61,11 @@ module _ (method : MethodRef) where
 
   -- ---- whose an entry is
 
-  -- a Finish, a Say or a Cancel
+  -- a Finish, a Say, a Done or a Cancel
   abbrev pub is_marked : EntryKind → Bool
   is_marked (Finish c a) = true
   is_marked (Say c out) = true
+  is_marked (Done c) = true
   is_marked (Cancel c) = true
   is_marked _ = false
 
@@ -74,7 +75,8 @@ module _ (method : MethodRef) where
 
   whose_is : (watches : Bool) (seat : ℕ) (kind : EntryKind) → is_entry_of watches seat kind ≡ true → is_marked kind ≡ true → (seat == 1) ≡ true
   whose_is watches seat (Finish c a) is marked = (and_parts (seat == 1) (is_silent a) is).0
-  whose_is watches seat (Say c out) is marked = (and_parts (seat == 1) (not watches) is).0
+  whose_is watches seat (Say c out) is marked = is
+  whose_is watches seat (Done c) is marked = (and_parts (seat == 1) watches is).0
   whose_is watches seat (Cancel c) is marked = (and_parts (seat == 1) watches is).0
   whose_is watches seat _ is marked = absurd (false≢true marked)
 
@@ -86,8 +88,9 @@ module _ (method : MethodRef) where
   finish_marked c (Finish x a) is = refl
   finish_marked c _ is = absurd (false≢true is)
 
-  unmarked_says : (kind : EntryKind) → (is_marked kind ≡ true → false ≡ true) → said_by kind ≡ []
+  unmarked_says : (kind : EntryKind) → (is_marked kind ≡ true → false ≡ true) → uttered_by kind ≡ []
   unmarked_says (Say c out) off = absurd (false≢true (off refl))
+  unmarked_says (Done c) off = absurd (false≢true (off refl))
   unmarked_says _ off = refl
 
   unmarked_cuts : (kind : EntryKind) → (is_marked kind ≡ true → false ≡ true) → is_cancel kind ≡ false
@@ -109,14 +112,14 @@ module _ (method : MethodRef) where
       at false true so same = same
       at false false so same = same
 
-  says_own : (es : List Entry) → AllByRecursion Whose es → says_of es ≡ says_of (made_by seat_of 1 es)
+  says_own : (es : List Entry) → AllByRecursion Whose es → utterances_of es ≡ utterances_of (made_by seat_of 1 es)
   says_own [] all = refl
   says_own (e ∷ es) all = at (e.seat == 1) all.0 (says_own es all.1)
     where
-      at : (s : Bool) → (is_marked e.kind ≡ true → s ≡ true) → says_of es ≡ says_of (made_by seat_of 1 es)
-          → said_by e.kind ++ says_of es ≡ says_of (if s then e ∷ made_by seat_of 1 es else made_by seat_of 1 es)
-      at true so same = ap (λ outs. said_by e.kind ++ outs) same
-      at false so same = ap (λ outs. outs ++ says_of es) (unmarked_says e.kind so) ∙ same
+      at : (s : Bool) → (is_marked e.kind ≡ true → s ≡ true) → utterances_of es ≡ utterances_of (made_by seat_of 1 es)
+          → uttered_by e.kind ++ utterances_of es ≡ utterances_of (if s then e ∷ made_by seat_of 1 es else made_by seat_of 1 es)
+      at true so same = ap (λ outs. uttered_by e.kind ++ outs) same
+      at false so same = ap (λ outs. outs ++ utterances_of es) (unmarked_says e.kind so) ∙ same
 
   pub cancels_own : (es : List Entry) → AllByRecursion Whose es → cancels es ≡ cancels (made_by seat_of 1 es)
   cancels_own [] all = refl
@@ -208,7 +211,8 @@ module _ (method : MethodRef) where
   drives_own watches (Start c) is = refl
   drives_own watches (Finish c a) is = is
   drives_own watches Flush is = refl
-  drives_own watches (Say c out) is = is
+  drives_own watches (Say c out) is = refl
+  drives_own watches (Done c) is = is
   drives_own watches (Cancel c) is = is
   drives_own watches (Halt why) is = is
   drives_own watches _ is = absurd (false≢true is)
@@ -223,6 +227,7 @@ module _ (method : MethodRef) where
   serves watches (Halt why) is = refl
   serves watches (Say c out) is = absurd (false≢true is)
   serves watches (Cancel c) is = absurd (false≢true is)
+  serves watches (Done c) is = absurd (false≢true is)
   serves watches Flush is = refl
   serves watches (Start c) is = refl
   serves watches (Finish c a) is = refl
@@ -339,14 +344,14 @@ module _ (method : MethodRef) where
         events_own (reverse h) c (all-reverse Whose h whose)
         ∙ (runs_beyond (live_setting method) c q1.view.known.seen h driver_fits.begins others ∙ d.runs)
 
-    pub says_are : says_of h ≡ says_of q1.view.known.mine
-    says_are = says_own h whose ∙ ap says_of driver_fits.own
+    pub says_are : utterances_of h ≡ utterances_of q1.view.known.mine
+    says_are = says_own h whose ∙ ap utterances_of driver_fits.own
 
-    pub said_whole : AreSaid (live_setting method) c h outs (says_of h)
-    said_whole =
+    pub said_whole : CanEnd (live_setting method) c outs → AreSaid (live_setting method) c h outs (utterances_of h)
+    said_whole may =
         subst (AreSaid (live_setting method) c h outs) (sym says_are)
-        (said_as (live_setting method) (runs_in (live_lock table count) c) (λ front. events_run (live_setting method) front c) c h runs_are outs (says_of q1.view.known.mine)
-        (said_later (live_setting method) (runs_in (live_lock table count) c) c q1.view.known.seen h driver_fits.begins outs (says_of q1.view.known.mine) d.said))
+        (said_as (live_setting method) (runs_in (live_lock table count) c) (λ front. events_run (live_setting method) front c) c h runs_are outs (utterances_of q1.view.known.mine)
+        (said_later (live_setting method) (runs_in (live_lock table count) c) c q1.view.known.seen h driver_fits.begins outs (utterances_of q1.view.known.mine) (d.said may)))
       where
         -- only the driver runs the call
         runs_are : (front : List Entry) → IsPrefix front h → events_run (live_setting method) front c ≡ runs_in (live_lock table count) c front

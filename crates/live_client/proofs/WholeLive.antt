@@ -39,9 +39,9 @@ use Rattle.rpc_shared.specs.session.Reasons.{reason_of, reason_read}
 use Rattle.rpc_shared.specs.session.Ring.{HaltsFor}
 use Rattle.rpc_shared.specs.session.Sessions.{is_halted, is_halting}
 use Rattle.live_client.specs.Ask.{live_setting}
-use Rattle.live_client.specs.Driving.{DriverEnded, HasWorked, Talks, Works}
+use Rattle.live_client.specs.Driving.{CanEnd, DriverEnded, HasWorked, Talks, Works}
 use Rattle.live_client.specs.Feeding.{Fed, HasRead, Reader, is_readers}
-use Rattle.live_client.specs.Histories.{AreSaid, events_run, says_of}
+use Rattle.live_client.specs.Histories.{AreSaid, events_run, utterances_of}
 use Rattle.live_client.specs.Live.{Begins, Explains, IsHistoryOf}
 use Rattle.live_client.specs.asks.Telling.{Progress, said_all}
 use Rattle.live_client.specs.Silent.{silent_rule}
@@ -219,7 +219,7 @@ module _ (method : MethodRef) where
           ended = k.ended;
           all = all;
           is_cut = (cut_whole method) table count watches packet memo c k.events k.outs items q0 q1 t x k.cut k.quiet;
-          said = subst (λ n. AreSaid (live_setting method) n h k.outs (says_of h)) zero_is ((said_whole method) table count watches packet memo c k.events k.outs items q0 q1 t x);
+          said = λ may. subst (λ n. AreSaid (live_setting method) n h k.outs (utterances_of h)) zero_is ((said_whole method) table count watches packet memo c k.events k.outs items q0 q1 t x (subst (λ n. CanEnd (live_setting method) n k.outs) (sym zero_is) may));
           heard = subst (λ events. did all k.cut events (k.outs ++ k.lost) k.ended) events k.heard;
           none_lost = none_lost;
           all_said = all_said;

@@ -16,7 +16,7 @@ use Rattle.rpc_ids.specs.declared.status.Status.{Status}
 use Rattle.rpc_handlers.specs.declared.event.Event.{Event}
 use Rattle.rpc_journal.specs.declared.entry.Entry.{Entry}
 use Rattle.rpc_journal.specs.declared.entry.EntryKind.{EntryKind}
-use Rattle.rpc_journal.specs.declared.entry.EntryKind.TheVariants.{Start, Finish, Say, Cancel, Flush, Halt}
+use Rattle.rpc_journal.specs.declared.entry.EntryKind.TheVariants.{Start, Finish, Say, Done, Cancel, Flush, Halt}
 use Rattle.rpc_journal.specs.declared.item.Item.{Item}
 use Rattle.rpc_journal.specs.declared.setting.Setting.{Setting}
 use Rattle.rpc_journal.specs.Changes.{NothingToFlush}
@@ -55,6 +55,7 @@ cut_talks _ is = absurd cc
 
 pub say_talks : (kind : EntryKind) → is_saying kind ≡ true → is_talking kind ≡ true
 say_talks (Say c out) is = refl
+say_talks (Done c) is = refl
 say_talks (Halt why) is = is
 say_talks _ is = absurd cc
 

@@ -1,23 +1,26 @@
 -- What the driver's pass of the table knows, and what the link and the store have got.
-use Rattle.std.specs.Prelude.{◌≡◌, ◌⊎◌, ℕ, ◌==◌, ◌&&◌, ◌≤◌, not, Bool, true, false, if◌then◌else◌, List, [], ◌∷◌, ◌++◌, length, slice_get, Option, Some, None, is_some}
+use Rattle.std.specs.Prelude.{◌≡◌, ◌⊎◌, ℕ, ◌==◌, ◌&&◌, ◌≤◌, Bool, true, false, if◌then◌else◌, List, [], ◌∷◌, ◌++◌, length, slice_get, Option, Some, None, is_some}
+use Rattle.std.specs.List.{list_any}
 use Rattle.std.specs.Option.{option_to_list}
 use Rattle.std.specs.Io.KnownBytes.{Appends}
 use mathlib.Core.List.{IsPrefix}
 use Rattle.entry_lists.specs.Entries.{made_by}
 use Rattle.link_io.specs.Stored.{Stored}
+use Rattle.rpc_ids.specs.declared.method.Role.TheVariants.{Client}
 use Rattle.rpc_ids.specs.declared.status.Status.{Status}
-use Rattle.rpc_handlers.specs.declared.answer.Out.{Out}
 use Rattle.rpc_handlers.specs.declared.event.Event.{Event}
 use Rattle.rpc_journal.specs.declared.entry.Entry.{Entry}
 use Rattle.rpc_journal.specs.declared.entry.EntryKind.{EntryKind}
-use Rattle.rpc_journal.specs.declared.entry.EntryKind.TheVariants.{Say, Start, Finish, Cancel, Flush, Halt}
+use Rattle.rpc_journal.specs.declared.entry.EntryKind.TheVariants.{Say, Done, Start, Finish, Cancel, Flush, Halt}
 use Rattle.rpc_journal.specs.declared.item.Item.{Item}
-use Rattle.rpc_journal.specs.Calls.{is_finish_of}
+use Rattle.rpc_journal.specs.declared.setting.Setting.{Setting}
+use Rattle.rpc_journal.specs.Calls.{call_at, is_finish_of}
 use Rattle.rpc_journal.specs.Changes.{NothingToFlush}
 use Rattle.rpc_journal.specs.Conditions.{IsCall}
 use Rattle.rpc_journal.specs.Effect.{Deed}
 use Rattle.rpc_journal.specs.History.{entry_by, history}
 use Rattle.rpc_journal.specs.Items.{flush_count, flushes, items_sent}
+use Rattle.rpc_journal.specs.Lawful.{has_stream}
 use Rattle.rpc_journal.specs.Laws.{seat_of}
 use Rattle.rpc_journal.specs.Queues.{taken_event}
 use Rattle.rpc_journal.specs.Quiet.{is_quiet, is_settled}
@@ -31,7 +34,8 @@ use Rattle.rpc_journal.specs.declared.answers.SayRefused.TheVariants.{JournalFul
 use Rattle.rpc_shared.specs.session.Crew.{Adds, AreOf, Lock, Seat, Stands, is_want}
 use Rattle.rpc_shared.specs.session.Ring.{HaltsFor}
 use Rattle.rpc_shared.specs.session.Sessions.{is_halted, is_halting, wire}
-use Rattle.live_client.specs.Histories.{AreSaidOver, cancels, says_of}
+use Rattle.live_client.specs.declared.asks.utterance.Utterance.{Utterance}
+use Rattle.live_client.specs.Histories.{AreSaidOver, cancels, is_completion, utterances_of}
 use Rattle.live_client.specs.asks.Tasks.{Given, given_at, mails}
 use Rattle.live_client.specs.asks.Telling.{Progress, said_all}
 use Rattle.live_client.specs.Silent.{is_silent, silent_rule}
@@ -41,7 +45,8 @@ abbrev pub is_drivers : Bool → EntryKind → Bool
 is_drivers watches (Start c) = true
 is_drivers watches (Finish c a) = is_silent a
 is_drivers watches Flush = true
-is_drivers watches (Say c out) = not watches
+is_drivers watches (Say c out) = true
+is_drivers watches (Done c) = watches
 is_drivers watches (Cancel c) = watches
 is_drivers watches (Halt why) = is_halting why
 is_drivers watches _ = false
@@ -64,6 +69,14 @@ runs_by seat (d ∷ ds) c =
 abbrev pub runs_in : Lock → ℕ → List Entry → List Event
 runs_in r c h = runs_by 1 (history r.base h) c
 
+-- call c, where it is there, is one whose messages stream from this end
+abbrev pub StreamsOut : Setting → ℕ → Type 0
+StreamsOut set c = (h : List Entry) → IsCall set h c → has_stream set.role (call_at (history set h) c) ≡ true
+
+-- the end of the client's stream was given among these only where there is such a stream
+abbrev pub CanEnd : Setting → ℕ → List Given → Type 0
+CanEnd set c outs = list_any (λ given. is_completion given.out) outs ≡ true → StreamsOut set c
+
 -- The pass of the driver, which opened call c. It ran these events, was given these outs to say, and flushed these items.
 pub record Drives (watches : Bool) (opening : EntryKind) (r : Lock) (c : ℕ) (events : List Event) (outs : List Given) (items : List Item) (p : Seat) : Type 0 where
   pub stands : Stands silent_rule r p
@@ -73,7 +86,7 @@ pub record Drives (watches : Bool) (opening : EntryKind) (r : Lock) (c : ℕ) (e
   pub kinds : AreOf (is_drivers watches) rest
   pub there : IsCall r.base p.view.known.seen c
   pub runs : runs_by 1 (history r.base p.view.known.seen) c ≡ events
-  pub said : AreSaidOver r.base (runs_in r c) c p.view.known.seen outs (says_of p.view.known.mine)
+  pub said : CanEnd r.base c outs → AreSaidOver r.base (runs_in r c) c p.view.known.seen outs (utterances_of p.view.known.mine)
   pub front : IsPrefix items (items_sent (history r.base p.view.known.seen))
   pub count : length items ≡ flushes p.view.known.mine
 
@@ -184,6 +197,7 @@ pub record CanDrive (r : Lock) (c : ℕ) (p : Seat) : Type 0 where
   pub stands : Stands silent_rule r p
   pub number : p.view.known.number ≡ 1
   pub there : IsCall r.base p.view.known.seen c
+  pub client : r.base.role ≡ Client
 
 -- what a step of the driver adds: a run, what is said, a cancel, a flush
 abbrev pub is_running : EntryKind → Bool
@@ -194,6 +208,7 @@ is_running _ = false
 
 abbrev pub is_saying : EntryKind → Bool
 is_saying (Say c out) = true
+is_saying (Done c) = true
 is_saying (Halt why) = is_want why
 is_saying _ = false
 
@@ -201,6 +216,7 @@ abbrev pub is_talking : EntryKind → Bool
 is_talking (Start c) = true
 is_talking (Finish c a) = is_silent a
 is_talking (Say c out) = true
+is_talking (Done c) = true
 is_talking (Cancel c) = true
 is_talking (Halt why) = is_want why
 is_talking _ = false
@@ -231,9 +247,9 @@ pub record EndsRun (r : Lock) (c : ℕ) (event : Event) (p q : Seat) : Type 0 wh
   pub drives : (watches : Bool) (opening : EntryKind) (events : List Event) (outs : List Given) (items : List Item) → Drives watches opening r c events outs items p → Drives watches opening r c (events ++ event ∷ []) outs items q
 
 -- this was said or refused, with the mail that had come
-pub record Speaks (r : Lock) (c : ℕ) (out : Out) (p q : Seat) : Type 0 where
+pub record Speaks (r : Lock) (c : ℕ) (out : Utterance) (p q : Seat) : Type 0 where
   pub adds : Adds silent_rule r is_saying p q
-  pub drives : (opening : EntryKind) (events : List Event) (outs : List Given) (items : List Item) → Drives false opening r c events outs items p → Drives false opening r c events (outs ++ given_at (mails events) out ∷ []) items q
+  pub drives : (watches : Bool) (opening : EntryKind) (events : List Event) (outs : List Given) (items : List Item) → (is_completion out ≡ true → watches ≡ true) → Drives watches opening r c events outs items p → Drives watches opening r c events (outs ++ given_at (mails events) out ∷ []) items q
 
 -- the call is cancelled, and quiet; cancelling it answered this status
 pub record Cuts (r : Lock) (c : ℕ) (status : Status) (p q : Seat) : Type 0 where

@@ -1,5 +1,5 @@
 -- What a live client did: its journal, the bytes that it read and wrote, its store, and how what it was asked ended.
-use Rattle.std.specs.Prelude.{◌≡◌, ◌⊎◌, ℕ, ◌≤◌, ◌==◌, Bool, true, false, List, [], ◌∷◌, ◌++◌, length, Option, Some, None}
+use Rattle.std.specs.Prelude.{◌≡◌, ◌⊎◌, ℕ, ◌≤◌, Bool, true, false, List, [], ◌∷◌, ◌++◌, length, Option, Some, None}
 use Rattle.std.specs.List.{AllByRecursion}
 use Rattle.std.specs.Io.KnownBytes.{Appends, Consumes}
 use mathlib.Core.List.{IsPrefix}
@@ -30,10 +30,12 @@ use Rattle.transfer_client.specs.Tasks.{PollsRead, PollsWrite, Reads, Writes}
 use Rattle.live_client.specs.declared.ask.Live.{Live}
 use Rattle.live_client.specs.declared.ask.LiveAsk.{LiveAsk}
 use Rattle.live_client.specs.declared.ask.LiveAsk.TheVariants.{Get, Put, Watch, Call}
-use Rattle.live_client.specs.Ask.{count_method, is_call, live_setting, method_asked, opening_of, read_method, call_method, write_method}
+use Rattle.live_client.specs.Ask.{count_method, is_call, live_setting, method_asked, opening_of, read_method, call_method, utterances_asked, write_method}
 use Rattle.live_client.specs.Lengths.{committed_by, length_put}
-use Rattle.live_client.specs.Histories.{AreOfLive, AreSaid, cancels, events_run, says_of}
+use Rattle.live_client.specs.Histories.{AreOfLive, AreSaid, SaysFirst, cancels, events_run, says_of, utterances_of}
 use Rattle.live_client.specs.Silent.{silent_rule}
+use Rattle.live_client.specs.declared.asks.utterance.Utterance.{Utterance}
+use Rattle.live_client.specs.asks.Calling.{HasPassed}
 use Rattle.live_client.specs.asks.Events.{first_end, messages_in}
 use Rattle.live_client.specs.asks.Tasks.{Given, TaskRan}
 
@@ -105,17 +107,23 @@ pub record Explains (method : MethodRef) (left_old left_new written_old written_
 pub record TransferRan (method : MethodRef) {T : Type 0} (Ran : List Given → T → Type 0) (h : List Entry) : Type 0 where
   pub outs : List Given
   pub unsaid : List Given
-  pub said : AreSaid (live_setting method) 0 h outs (says_of h)
+  pub said : AreSaid (live_setting method) 0 h outs (utterances_of h)
   pub all_said : is_halted (live_setting method) h ≡ false → unsaid ≡ []
   pub now : T
   pub ran : Ran (outs ++ unsaid) now
 
--- A call whose messages are told, up to a limit: it is cancelled exactly there, and has the status that this answered. Else it ends
--- with the call.
-pub record CallRan (method : MethodRef) (limit : ℕ) (l : Live) : Type 0 where
+-- A call that says these, and whose messages are told, up to a limit. It says them before it hears anything, each in its order; at a
+-- halt the last may be unsaid. It is cancelled at the limit, or where the clock has gone on by so many milliseconds since its start,
+-- and nowhere else, and has the status that this answered. Else it ends with the call.
+pub record CallRan (method : MethodRef) (says : List Utterance) (limit : ℕ) (within : Option ℕ) (start end : ℕ) (l : Live) : Type 0 where
+  pub given : List Utterance
+  pub begins : IsPrefix given says
+  pub all_given : is_halted (live_setting method) l.journal.entries ≡ false → given ≡ says
+  pub said : SaysFirst (live_setting method) l.journal.entries given
   pub told : l.messages.items ≡ messages_in (events_run (live_setting method) l.journal.entries 0)
-  pub within : length l.messages.items ≤ limit
-  pub cut : cancels l.journal.entries ≡ (length l.messages.items == limit)
+  pub most : length l.messages.items ≤ limit
+  pub enough : length l.messages.items ≡ limit → cancels l.journal.entries ≡ true
+  pub cut : cancels l.journal.entries ≡ true → (length l.messages.items ≡ limit) ⊎ HasPassed within start end
   pub answered : cancels l.journal.entries ≡ true → end_of (history (live_setting method) l.journal.entries) 0 ≡ l.ended
   pub ends : cancels l.journal.entries ≡ false → l.ended ≡ first_end (events_run (live_setting method) l.journal.entries 0)
 
@@ -129,6 +137,7 @@ AskRan (Put resource offset bytes) start end l =
     TransferRan write_method (λ outs (t : Writes).
     TaskRan PollsWrite (record { session = 1; upload = new_upload resource bytes offset }) start end (is_halted (live_setting write_method) l.journal.entries) (events_run (live_setting write_method) l.journal.entries 0) outs t l.ended
     × (l.from ≡ write_offset t.upload) × (l.length ≡ length_put bytes l.ended) × (l.messages.items ≡ [])) l.journal.entries
-AskRan (Watch n limit) start end l = CallRan count_method limit l × (l.from ≡ 0) × (l.length ≡ 0)
-AskRan (Call opening limit) start end l =
-    CallRan (call_method opening.service opening.method opening.kind) limit l × (l.from ≡ 0) × (l.length ≡ 0)
+AskRan (Watch n limit) start end l = CallRan count_method [] limit None start end l × (l.from ≡ 0) × (l.length ≡ 0)
+AskRan (Call opening limit within) start end l =
+    CallRan (call_method opening.service opening.method opening.kind) (utterances_asked opening.kind opening.messages) limit within start end l
+    × (l.from ≡ 0) × (l.length ≡ 0)

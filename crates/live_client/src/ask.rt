@@ -1,5 +1,6 @@
 //! What a live client is asked to do, and what it did.
 
+use crate::messages::Messages;
 use bytes::Bytes;
 use link_io::Why;
 use rpc_ids::{Kind, Status};
@@ -8,16 +9,18 @@ use rpc_journal::Journal;
 /// The most messages that are waited for in one call.
 pub const MAX_MESSAGES: u32 = 65_536;
 
-/// The call that a client opens, of a method whose ids are the hashes of two names.
+/// The call that a client opens.
 #[derive(Debug, Drop)]
 pub struct Opening {
-    /// The full name of the service, as `demo.Demo`.
-    pub service: Bytes,
-    /// The name of the method, as `Echo`.
-    pub method: Bytes,
+    /// The id of the service.
+    pub service: u32,
+    /// The id of the method.
+    pub method: u32,
     pub kind: Kind,
     /// The payload of the request.
     pub payload: Bytes,
+    /// What the client streams, in order.
+    pub messages: Messages,
 }
 
 /// What a live client is asked to do.
@@ -39,10 +42,12 @@ pub enum LiveAsk {
         n: u8,
         limit: u32,
     },
-    /// Opens a call of a method that takes one request, and cancels the call after so many messages.
+    /// Opens a call, says its messages and that none comes after them, and cancels the call after so many messages of the
+    /// board, or when the clock has gone on by so many milliseconds.
     Call {
         opening: Opening,
         limit: u32,
+        within: Option<u32>,
     },
 }
 

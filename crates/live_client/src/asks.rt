@@ -2,7 +2,9 @@
 pub mod call;
 pub mod errand;
 pub mod transfer;
+pub mod utterance;
 
 pub use call::CallErrand;
 pub use errand::Errand;
 pub use transfer::TaskErrand;
+pub use utterance::Utterance;

@@ -77,8 +77,12 @@ pub fn live<
             rt, alloc, link_in, link_out, store, clock, resource, offset, bytes,
         ),
         LiveAsk::Watch { n, limit } => watch(rt, alloc, link_in, link_out, store, clock, n, limit),
-        LiveAsk::Call { opening, limit } => call(
-            rt, alloc, link_in, link_out, store, clock, opening, limit,
+        LiveAsk::Call {
+            opening,
+            limit,
+            within,
+        } => call(
+            rt, alloc, link_in, link_out, store, clock, opening, limit, within,
         ),
     }
 }

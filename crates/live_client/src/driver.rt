@@ -61,7 +61,8 @@ fn listen<W: Errand, R: Wait>(
     }
 }
 
-// The errand goes on, and says what it has to say next. False where it has nothing.
+// The errand goes on, the call is cancelled where its time has passed, and the errand says what it has to say next. False where it
+// has nothing.
 fn speak<W: Errand, C: Clock, R: Wait>(
     rt: &R,
     table: &Table,
@@ -77,7 +78,7 @@ fn speak<W: Errand, C: Clock, R: Wait>(
     requires past { W.moment errand.old ≤ C.last clock.old }
     requires whole { W.short errand.old ≡ false }
     requires uncut { W.cuts errand.old ≡ false }
-    ensures adds { Adds silent_rule table.now is_saying pass.old pass.new }
+    ensures adds { Adds silent_rule table.now is_talking pass.old pass.new }
     ensures talks { OnOk result ((opening : EntryKind) (far : Progress) (start : ℕ) (items : List Item) → start ≤ C.last clock.old → Talks W.watches opening (W.did errand.old far start (C.last clock.old)) table.now call true false items pass.old → Talks W.watches opening (W.did errand.new unknown start (C.last clock.new)) table.now call true false items pass.new) }
     ensures none { result ≡ Ok false → (opening : EntryKind) (far : Progress) (start : ℕ) (items : List Item) → start ≤ C.last clock.old → Talks W.watches opening (W.did errand.old far start (C.last clock.old)) table.now call true false items pass.old → Talks W.watches opening (W.did errand.new said_all start (C.last clock.new)) table.now call true false items pass.new }
     ensures stopped { OnErr result ((opening : EntryKind) (far : Progress) (start : ℕ) (items : List Item) → start ≤ C.last clock.old → Talks W.watches opening (W.did errand.old far start (C.last clock.old)) table.now call true false items pass.old → Talks W.watches opening (W.did errand.new unknown start (C.last clock.new)) table.now call false false items pass.new) }
@@ -91,7 +92,10 @@ fn speak<W: Errand, C: Clock, R: Wait>(
     ensures later { C.last clock.old ≤ C.last clock.new }
 {
     match go_on(rt, table, pass, call, errand, bells, clock) {
-        Ok(()) => say_one(rt, table, pass, call, errand),
+        Ok(()) => {
+            cut_one(rt, table, pass, call, errand);
+            say_one(rt, table, pass, call, errand)
+        }
         Err(halted) => Err(halted),
     }
 }

@@ -16,7 +16,7 @@ ghost use Rattle.live_client.specs.asks.Telling.{Progress, gone_on, said_all, un
 use crate::asks::Errand;
 use crate::halting::{Halted, Seat, Table, halt};
 use crate::silent::Silent;
-use crate::stepping::{begin_run, cancel, end_run, say};
+use crate::stepping::{begin_run, cancel, end_run, utter};
 use link_io::{Clock, Why};
 use rpc_calls::Running;
 use std::alloc::AllocError;
@@ -130,7 +130,7 @@ pub(crate) fn go_on<W: Errand, C: Clock, R: Wait>(
     ensures adds { Adds silent_rule table.now is_saying pass.old pass.new }
     ensures talks { (opening : EntryKind) (far : Progress) (over : Bool) (start : ℕ) (items : List Item) → start ≤ C.last clock.old → Talks W.watches opening (W.did errand.old far start (C.last clock.old)) table.now call true over items pass.old → Talks W.watches opening (W.did errand.new gone_on start (C.last clock.new)) table.now call true false items pass.new }
     ensures halted { OnErr result (is_halted table.now.base pass.new.view.known.seen ≡ true) }
-    ensures uncut { W.cuts errand.old ≡ false → W.cuts errand.new ≡ false }
+    ensures uncut { OnErr result (W.cuts errand.old ≡ false → W.cuts errand.new ≡ false) }
     ensures ready { W.ready errand.new }
     ensures origin { W.origin errand.new ≡ W.origin errand.old }
     ensures whole { OnOk result (W.short errand.new ≡ false) }
@@ -169,7 +169,7 @@ pub(crate) fn say_one<W: Errand, R: Wait>(
 {
     match errand.next_out() {
         None => Ok(false),
-        Some(out) => match say(rt, table, pass, call, out) {
+        Some(utterance) => match utter(rt, table, pass, call, utterance) {
             Ok(()) => Ok(true),
             Err(halted) => Err(halted),
         },

@@ -11,6 +11,7 @@ mod driving;
 mod halting;
 pub mod laws;
 mod length;
+mod messages;
 mod methods;
 mod opening;
 mod reading;
@@ -26,3 +27,4 @@ mod writing;
 
 pub use ask::{Live, LiveAsk, MAX_MESSAGES, Opening};
 pub use calling::live;
+pub use messages::Messages;

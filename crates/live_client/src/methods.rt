@@ -1,11 +1,10 @@
 //! The methods that a live client calls, and what its table knows of them.
 ghost use Rattle.std.specs.Prelude.{◌≡◌, [], ◌∷◌, IfOk};
-ghost use Rattle.rpc_ids.specs.Names.{name_id};
 ghost use Rattle.live_client.specs.Ask.{call_method, count_method, read_method, write_method};
 
 use crate::ask::Opening;
-use demo_services::ids::{COUNT, DEMO, READ, TRANSFER, WRITE, ids_are_of_names};
-use rpc_ids::{AddRefused, Kind, MethodRef, Registry, hash_name};
+use demo_services::ids::{COUNT, DEMO, READ, TRANSFER, WRITE};
+use rpc_ids::{AddRefused, Kind, MethodRef, Registry};
 use std::alloc::{AllocError, Global};
 
 /// Read of pw.transfer.Transfer.
@@ -32,59 +31,46 @@ pub(crate) const COUNTING: MethodRef = MethodRef {
     ticks: false,
 };
 
-/// The method that an opening names.
+/// The method that is called.
 pub(crate) fn named(opening: &Opening) -> MethodRef
     ensures { result ≡ call_method opening.now.service opening.now.method opening.now.kind }
 {
     MethodRef {
-        service: hash_name(&opening.service),
-        method: hash_name(&opening.method),
+        service: opening.service,
+        method: opening.method,
         kind: opening.kind,
         ticks: false,
     }
 }
 
 /// The registry of Read alone.
-#[tactic(auto, unfolding(rpc_ids::specs::Names::name_id))]
 pub(crate) fn with_read(alloc: Global) -> Result<Registry, AllocError>
     ensures { IfOk result (λ registry. registry ≡ read_method ∷ []) }
 {
-    ids_are_of_names();
-    alone(alloc, b"pw.transfer.Transfer", b"Read", READING)
+    alone(alloc, READING)
 }
 
 /// The registry of Write alone.
-#[tactic(auto, unfolding(rpc_ids::specs::Names::name_id))]
 pub(crate) fn with_write(alloc: Global) -> Result<Registry, AllocError>
     ensures { IfOk result (λ registry. registry ≡ write_method ∷ []) }
 {
-    ids_are_of_names();
-    alone(alloc, b"pw.transfer.Transfer", b"Write", WRITING)
+    alone(alloc, WRITING)
 }
 
 /// The registry of Count alone.
-#[tactic(auto, unfolding(rpc_ids::specs::Names::name_id))]
 pub(crate) fn with_count(alloc: Global) -> Result<Registry, AllocError>
     ensures { IfOk result (λ registry. registry ≡ count_method ∷ []) }
 {
-    ids_are_of_names();
-    alone(alloc, b"demo.Demo", b"Count", COUNTING)
+    alone(alloc, COUNTING)
 }
 
-/// The registry of one method, whose ids are those of these names.
-pub(crate) fn alone(
-    alloc: Global,
-    service: &[u8],
-    name: &[u8],
-    method: MethodRef,
-) -> Result<Registry, AllocError>
-    requires service { method.service ≡ name_id service.now }
-    requires name { method.method ≡ name_id name.now }
+/// The registry of one method.
+pub(crate) fn alone(alloc: Global, method: MethodRef) -> Result<Registry, AllocError>
     ensures { IfOk result (λ registry. registry ≡ method ∷ []) }
 {
     let mut registry = Registry::new(alloc);
-    match registry.add(service, name, method.kind, method.ticks) {
-        Ok(_) => Ok(registry),
+    match registry.insert(method) {
+        Ok(()) => Ok(registry),
         Err(AddRefused::Memory) => Err(AllocError),
         Err(AddRefused::Clash) => unreachable!(),
     }

@@ -5,8 +5,10 @@ ghost use Rattle.rpc_shared.specs.OwnRuns.{Runs};
 ghost use Rattle.rpc_journal.specs.Runs.{IsRunning};
 ghost use Rattle.rpc_shared.specs.session.Sessions.{is_halted};
 ghost use Rattle.live_client.specs.Driving.{Calm, CanDrive, Cuts, EndsRun, Speaks, TakesItem, TakesNone, is_running, is_saying, want_by};
+ghost use Rattle.live_client.specs.declared.asks.utterance.Utterance.TheVariants.{Says, Completes};
 ghost use Rattle.live_client.specs.Silent.{silent_rule};
 
+use crate::asks::Utterance;
 use crate::halting::{Halted, Seat, Table, halt};
 use crate::silent::Silent;
 use link_io::Why;
@@ -60,16 +62,29 @@ pub(crate) fn end_run<R: Wait>(
     drop(table.finish(rt, pass, running));
 }
 
-/// Says this, unless the table refuses it: the call has ended, or no frame takes it.
-pub(crate) fn say<R: Wait>(
+/// Says this, or ends the client's stream, unless the table refuses it: the call has ended, or no frame takes it.
+pub(crate) fn utter<R: Wait>(
     rt: &R,
     table: &Table,
     pass: &mut Seat,
     call: u32,
-    out: Out,
+    utterance: Utterance,
 ) -> Result<(), Halted>
     requires can { CanDrive table.now call pass.old }
-    ensures said { OnOk result (Speaks table.now call out pass.old pass.new) }
+    ensures said { OnOk result (Speaks table.now call utterance pass.old pass.new) }
+    ensures unsaid { OnErr result (Calm table.now call is_saying pass.old pass.new) }
+    ensures halted { OnErr result (is_halted table.now.base pass.new.view.known.seen ≡ true) }
+{
+    match utterance {
+        Utterance::Says(out) => say(rt, table, pass, call, out),
+        Utterance::Completes => complete(rt, table, pass, call),
+    }
+}
+
+// Says this, unless the table refuses it.
+fn say<R: Wait>(rt: &R, table: &Table, pass: &mut Seat, call: u32, out: Out) -> Result<(), Halted>
+    requires can { CanDrive table.now call pass.old }
+    ensures said { OnOk result (Speaks table.now call (Says out) pass.old pass.new) }
     ensures unsaid { OnErr result (Calm table.now call is_saying pass.old pass.new) }
     ensures halted { OnErr result (is_halted table.now.base pass.new.view.known.seen ≡ true) }
 {
@@ -77,6 +92,25 @@ pub(crate) fn say<R: Wait>(
         return Ok(());
     }
     match table.say(rt, pass, call, out) {
+        Ok(()) => Ok(()),
+        Err(refused) => match want_of(refused) {
+            None => Ok(()),
+            Some(why) => {
+                halt(rt, table, pass, why);
+                Err(Halted)
+            }
+        },
+    }
+}
+
+// Ends the client's stream, unless the table refuses that.
+fn complete<R: Wait>(rt: &R, table: &Table, pass: &mut Seat, call: u32) -> Result<(), Halted>
+    requires can { CanDrive table.now call pass.old }
+    ensures said { OnOk result (Speaks table.now call Completes pass.old pass.new) }
+    ensures unsaid { OnErr result (Calm table.now call is_saying pass.old pass.new) }
+    ensures halted { OnErr result (is_halted table.now.base pass.new.view.known.seen ≡ true) }
+{
+    match table.done(rt, pass, call) {
         Ok(()) => Ok(()),
         Err(refused) => match want_of(refused) {
             None => Ok(()),

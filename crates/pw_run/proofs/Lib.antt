@@ -10,9 +10,11 @@ mod LinkCounts
 mod LinkLemmas
 mod LinkRuns
 mod LoadSizes
+mod MethodIdLemmas
 mod PayloadLemmas
 mod ServeLemmas
 mod ServedLemmas
+mod TrailingLemmas
 mod UnderWayLemmas
 mod WordLemmas
 mod WritesLemmas

@@ -10,7 +10,7 @@ use Rattle.pw_run.specs.declared.command.Form.TheVariants.{Report, Raw, Journal}
 use Rattle.pw_run.specs.declared.text_command.TextCommand.TheVariants.{Check, Detoken, Link, Route}
 use Rattle.pw_run.specs.declared.live_command.LiveCommand.{LiveCommand}
 use Rattle.pw_run.specs.declared.live_command.LiveCommand.TheVariants.{Crew, Serve, Host, Bridge, Client}
-use Rattle.pw_run.specs.CallCommand.{words_of}
+use Rattle.pw_run.specs.CallCommand.{AreCall}
 use Rattle.pw_run.specs.Command.{IsCommand}
 use Rattle.pw_run.specs.LiveCommand.{IsLiveCommand}
 
@@ -59,13 +59,13 @@ not_both words command live first second = differ (sym (recorded_is words comman
 is_call_word : List (List ℕ) → Bool
 is_call_word words = letters words == 25441
 
-recorded_only : (words : List (List ℕ)) (c : CallWords) → words ≡ words_of c → is_recorded words ≡ false
+recorded_only : (words : List (List ℕ)) (c : CallWords) → AreCall words c → is_recorded words ≡ false
 unfolding letters begin_recorded is_recorded
-recorded_only words c are = ap is_recorded are
+recorded_only words c are = ap is_recorded are.spelled
 
-call_word_is : (words : List (List ℕ)) (c : CallWords) → words ≡ words_of c → is_call_word words ≡ true
+call_word_is : (words : List (List ℕ)) (c : CallWords) → AreCall words c → is_call_word words ≡ true
 unfolding letters is_call_word
-call_word_is words c are = ap is_call_word are
+call_word_is words c are = ap is_call_word are.spelled
 
 no_call_word : (words : List (List ℕ)) (command : LiveCommand) → IsLiveCommand words command → is_call_word words ≡ false
 unfolding letters is_call_word
@@ -77,8 +77,8 @@ no_call_word words (Client (Get resource offset)) is = ap is_call_word is.1
 no_call_word words (Client (Put resource offset)) is = ap is_call_word is.1
 no_call_word words (Client (Watch number limit)) is = ap is_call_word is.1
 
-pub call_not_recorded : (words : List (List ℕ)) (c : CallWords) (command : Command) → words ≡ words_of c → IsCommand words command → ⊥
+pub call_not_recorded : (words : List (List ℕ)) (c : CallWords) (command : Command) → AreCall words c → IsCommand words command → ⊥
 call_not_recorded words c command are is = false≢true (sym (recorded_only words c are) ∙ recorded_is words command is)
 
-pub call_not_live : (words : List (List ℕ)) (c : CallWords) (command : LiveCommand) → words ≡ words_of c → IsLiveCommand words command → ⊥
+pub call_not_live : (words : List (List ℕ)) (c : CallWords) (command : LiveCommand) → AreCall words c → IsLiveCommand words command → ⊥
 call_not_live words c command are is = false≢true (sym (no_call_word words command is) ∙ call_word_is words c are)

@@ -15,6 +15,7 @@ pub mod LinkServed
 pub mod Live
 pub mod LiveCommand
 pub mod Load
+pub mod MethodId
 pub mod Outcome
 pub mod Payload
 pub mod Recorded
@@ -23,5 +24,6 @@ pub mod Route
 pub mod Serve
 pub mod Tells
 pub mod Texts
+pub mod Trailing
 pub mod UnderWay
 pub mod Writes

@@ -1,10 +1,10 @@
-//! The command `call`: a client opens a call of a method by its names, and its messages are written.
-ghost use Rattle.std.specs.Prelude.{◌≡◌, ◌≢◌, ℕ, ◌≤◌, ◌⊎◌, false, List, Option, IfOk};
+//! The command `call`: a client opens a call of any method, says what it has to say, and the board's messages are written.
+ghost use Rattle.std.specs.Prelude.{◌≡◌, ◌≢◌, ℕ, ◌≤◌, ◌⊎◌, false, List, Option, IfOk, length, map, string_bytes};
 ghost use Rattle.link_io.specs.Causes.{Rose};
 ghost use Rattle.live_client.specs.Ask.{CanOpen};
 ghost use Rattle.live_client.specs.declared.ask.Opening.{Opening as Opened};
 ghost use Rattle.pw_run.specs.declared.outcome.Outcome.TheVariants.{BadWords, LinkFault, SinkFault, SourceFault, StoreFault};
-ghost use Rattle.pw_run.specs.CallCommand.{CanCall, DidCall, TellsOpening};
+ghost use Rattle.pw_run.specs.CallCommand.{CanCall, DidCall, FitsKind, TellEach, TellsOpening, messages_of as told_messages, request_of};
 ghost use Rattle.pw_run.specs.Devices.{devices};
 ghost use Rattle.pw_run.specs.Outcome.{IsSilent};
 
@@ -15,7 +15,8 @@ use crate::client_text::Reported;
 use crate::payload::read_payload;
 use bytes::Bytes;
 use link_io::{Clock, Linker, Sink, Store};
-use live_client::{LiveAsk, MAX_MESSAGES, Opening};
+use live_client::{LiveAsk, MAX_MESSAGES, Messages, Opening};
+use rpc_ids::Kind;
 use std::alloc::{AllocError, Global};
 use std::sync::Wait;
 use std::thread::Threads;
@@ -34,7 +35,7 @@ pub(crate) fn call<R: Threads + Wait + Sync, O: Sink, S: Store + Send, N: Linker
     requires can { CanCall words }
     requires open { O.finished output.old ≡ false }
     ensures words { result ≢ BadWords }
-    ensures did { (left : Option (List ℕ)) (opening : Opened) → TellsOpening words.entry opening → DidCall opening words.entry.limit
+    ensures did { (left : Option (List ℕ)) (opening : Opened) → TellsOpening words.entry opening → DidCall opening words.entry.limit words.entry.within
         (devices left (O.written output.old) (O.faults output.old) (S.holds store.old) (N.links net.old) (C.last clock.old))
         (devices left (O.written output.new) (O.faults output.new) (S.holds store.new) (N.links net.new) (C.last clock.new)) result }
     ensures silent { IsSilent result → output.new ≡ output.old }
@@ -53,6 +54,7 @@ pub(crate) fn call<R: Threads + Wait + Sync, O: Sink, S: Store + Send, N: Linker
     let ask = LiveAsk::Call {
         opening,
         limit: words.limit.unwrap_or(MAX_MESSAGES),
+        within: words.within,
     };
     ask_over_link(
         rt,
@@ -67,17 +69,47 @@ pub(crate) fn call<R: Threads + Wait + Sync, O: Sink, S: Store + Send, N: Linker
     )
 }
 
-#[tactic(auto, using(crate::proofs::CallLemmas::not_long, crate::proofs::CallLemmas::opening_same))]
+#[tactic(auto, using(crate::proofs::CallLemmas::can_open, crate::proofs::CallLemmas::opening_same))]
 // The opening that the words tell.
 fn opening_of(alloc: Global, words: CallWords<'_>) -> Result<Opening, AllocError>
     requires { CanCall words }
     ensures can { IfOk result CanOpen }
     ensures only { IfOk result (λ opening. (other : Opened) → TellsOpening words.entry other → opening ≡ other) }
 {
+    let (payload, messages) = said_of(alloc, words.kind, words.payloads)?;
     Ok(Opening {
-        service: Bytes::copy_from_slice(alloc, words.service.as_bytes())?,
-        method: Bytes::copy_from_slice(alloc, words.method.as_bytes())?,
+        service: words.service,
+        method: words.method,
         kind: words.kind,
-        payload: read_payload(alloc, words.payload)?,
+        payload,
+        messages,
     })
+}
+
+// The payload of the request, and the messages, of which there are some only where the client streams them.
+fn said_of(alloc: Global, kind: Kind, words: &[String]) -> Result<(Bytes, Messages), AllocError>
+    requires { (told : List (List ℕ)) × TellEach (map string_bytes words.now) told × FitsKind kind (length told) }
+    ensures { IfOk result (λ said. (told : List (List ℕ)) → TellEach (map string_bytes words.now) told → (said.0 ≡ request_of kind told) × (said.1 ≡ told_messages kind told)) }
+{
+    match kind {
+        Kind::Unary | Kind::ServerStream => {
+            Ok((
+                read_payload(alloc, words[0].as_str())?,
+                Messages::new(alloc),
+            ))
+        }
+        Kind::ClientStream | Kind::Bidi => Ok((Bytes::new(), messages_of(alloc, words)?)),
+    }
+}
+
+// The messages that these words tell.
+fn messages_of(alloc: Global, words: &[String]) -> Result<Messages, AllocError>
+    requires { (told : List (List ℕ)) × TellEach (map string_bytes words.now) told }
+    ensures { IfOk result (λ messages. (told : List (List ℕ)) → TellEach (map string_bytes words.now) told → messages ≡ told) }
+{
+    let mut messages = Messages::new(alloc);
+    for word in words {
+        messages.push(read_payload(alloc, word.as_str())?)?;
+    }
+    Ok(messages)
 }

@@ -1,120 +1,144 @@
 //! The words of `call`.
-ghost use Rattle.std.specs.Prelude.{◌≡◌, ◌||◌, ◌==◌, ℕ, not, false, [], ◌∷◌, map, string_bytes, IfNone, IfSome, Some};
-ghost use Rattle.rpc_ids.specs.Names.{name_id};
+ghost use Rattle.std.specs.Prelude.{◌≡◌, ◌≢◌, ◌||◌, ◌==◌, ℕ, List, not, true, [], ◌∷◌, codes, length, map, string_bytes, IfNone, IfSome, IsSome, Option, Some};
 ghost use Rattle.rpc_ids.specs.declared.method.Kind.{Kind as Manner};
-ghost use Rattle.rpc_journal.specs.Kinds.{streams_up};
 ghost use Rattle.run_report.specs.Lines.{kind_name};
-ghost use Rattle.pw_run.specs.CallCommand.{CanCall, IsLimit, IsNoCall, limit_words, words_of};
+ghost use Rattle.pw_run.specs.CallCommand.{AreCall, FitsKind, IsBehind, IsNoCall, TellEach};
 
+use crate::method_id::read_id;
 use crate::payload::is_payload;
+use crate::trailing::number_behind;
 use live_client::MAX_MESSAGES;
-use rpc_ids::{Kind, hash_name};
-use text_fields::small_number;
+use rpc_ids::Kind;
+
+/// The most messages that a client of `call` streams.
+pub const MAX_SAID: usize = 64;
+
+/// The longest that `call` waits, in milliseconds.
+pub const MAX_WITHIN: u32 = 3_600_000;
 
 /// The words of `call`, as they stand.
 #[derive(Clone, Copy, Debug, PartialEq, Eq)]
 pub(crate) struct CallWords<'a> {
     pub path: &'a str,
-    pub service: &'a str,
-    pub method: &'a str,
+    /// The id of the service.
+    pub service: u32,
+    /// The id of the method.
+    pub method: u32,
     pub kind: Kind,
-    /// The payload of the request, in digits.
-    pub payload: &'a str,
+    /// The payload of the request, or the messages, in digits.
+    pub payloads: &'a [String],
     /// How many messages are waited for.
     pub limit: Option<u32>,
+    /// How long they are waited for, in milliseconds.
+    pub within: Option<u32>,
 }
 
 impl<'a> CallWords<'a> {
     /// These words, where they are those of a call.
     pub(crate) fn of(words: &'a [String]) -> Option<CallWords<'a>>
-        ensures some { IfSome result (λ c. (map string_bytes words.now ≡ words_of c) × CanCall c) }
+        ensures some { IfSome result (AreCall (map string_bytes words.now)) }
         ensures none { IfNone result (IsNoCall (map string_bytes words.now)) }
     {
-        match words {
-            [word, path, service, method, kind, payload] => lent(
-                word.as_str(),
-                path.as_str(),
-                service.as_str(),
-                method.as_str(),
-                kind.as_str(),
-                payload.as_str(),
-                None,
-            ),
-            [word, path, service, method, kind, payload, at, most] => {
-                let limit = limit_of(at.as_str(), most.as_str())?;
-                lent(
-                    word.as_str(),
-                    path.as_str(),
-                    service.as_str(),
-                    method.as_str(),
-                    kind.as_str(),
-                    payload.as_str(),
-                    Some(limit),
-                )
-            }
-            _ => None,
+        if words.len() < 5 || words[0].as_str() != "call" {
+            return None;
         }
+        with_head(
+            words[1].as_str(),
+            words[2].as_str(),
+            words[3].as_str(),
+            words[4].as_str(),
+            &words[5..],
+        )
     }
 }
 
-// The words before a limit, with the limit that stands behind them.
-fn lent<'a>(
-    word: &str,
+// The words of a call, by those behind the first.
+fn with_head<'a>(
     path: &'a str,
-    service: &'a str,
-    method: &'a str,
+    service: &str,
+    method: &str,
     kind: &str,
-    payload: &'a str,
-    limit: Option<u32>,
+    rest: &'a [String],
 ) -> Option<CallWords<'a>>
-    requires { IsLimit limit }
-    ensures some { IfSome result (λ c. (word.now ∷ path.now ∷ service.now ∷ method.now ∷ kind.now ∷ payload.now ∷ limit_words limit ≡ words_of c) × CanCall c) }
-    ensures none { IfNone result (IsNoCall (word.now ∷ path.now ∷ service.now ∷ method.now ∷ kind.now ∷ payload.now ∷ limit_words limit)) }
+    ensures some { IfSome result (AreCall (codes "call" ∷ path.now ∷ service.now ∷ method.now ∷ kind.now ∷ map string_bytes rest.now)) }
+    ensures none { IfNone result (IsNoCall (codes "call" ∷ path.now ∷ service.now ∷ method.now ∷ kind.now ∷ map string_bytes rest.now)) }
 {
-    if word != "call" || path.is_empty() || !are_names(service, method) || !is_payload(payload) {
+    let service = read_id(service)?;
+    let method = read_id(method)?;
+    let kind = kind_of(kind)?;
+    if path.is_empty() || service == 0 || method == 0 {
         return None;
     }
-    let kind = one_request(kind)?;
+    let said = said_behind(kind, rest)?;
     Some(CallWords {
         path,
         service,
         method,
         kind,
-        payload,
-        limit,
+        payloads: said.payloads,
+        limit: said.limit,
+        within: said.within,
     })
 }
 
-// Whether neither name has the id 0.
-fn are_names(service: &str, method: &str) -> bool
-    ensures { result ≡ not ((name_id service.now == 0) || (name_id method.now == 0)) }
-{
-    hash_name(service.as_bytes()) != 0 && hash_name(method.as_bytes()) != 0
-}
-
-// The kind of a method that takes one request.
-fn one_request(word: &str) -> Option<Kind>
-    ensures some { IfSome result (λ kind. (word.now ≡ kind_name kind) × (streams_up kind ≡ false)) }
-    ensures only { (kind : Manner) → word.now ≡ kind_name kind → streams_up kind ≡ false → result ≡ Some kind }
+// The kind of a method.
+fn kind_of(word: &str) -> Option<Kind>
+    ensures some { IfSome result (λ kind. word.now ≡ kind_name kind) }
+    ensures only { (kind : Manner) → word.now ≡ kind_name kind → result ≡ Some kind }
 {
     match word {
         "unary" => Some(Kind::Unary),
         "server" => Some(Kind::ServerStream),
+        "client" => Some(Kind::ClientStream),
+        "bidi" => Some(Kind::Bidi),
         _ => None,
     }
 }
 
-// How many messages are waited for.
-fn limit_of(word: &str, most: &str) -> Option<u32>
-    ensures some { IfSome result (λ limit. (word.now ∷ most.now ∷ [] ≡ limit_words (Some limit)) × IsLimit (Some limit)) }
-    ensures none { IfNone result ((limit : ℕ) → word.now ∷ most.now ∷ [] ≡ limit_words (Some limit) → IsLimit (Some limit) → ⊥) }
+// What stands behind the kind.
+#[derive(Clone, Copy, Debug)]
+struct Said<'a> {
+    payloads: &'a [String],
+    limit: Option<u32>,
+    within: Option<u32>,
+}
+
+fn said_behind<'a>(kind: Kind, words: &'a [String]) -> Option<Said<'a>>
+    ensures some { IfSome result (λ s. IsBehind kind (map string_bytes words.now) (map string_bytes s.payloads.now) s.limit s.within) }
+    ensures only { (payloads : List (List ℕ)) (limit within : Option ℕ) → IsBehind kind (map string_bytes words.now) payloads limit within → IsSome result }
 {
-    if word != "limit" {
+    let (limited, within) = number_behind(words, "within", MAX_WITHIN)?;
+    let (payloads, limit) = number_behind(limited, "limit", MAX_MESSAGES)?;
+    if !fits_kind(kind, payloads.len()) || !tell_each(payloads) {
         return None;
     }
-    let most = small_number(most.as_bytes())?;
-    if !(1..=MAX_MESSAGES).contains(&most) {
-        return None;
+    Some(Said {
+        payloads,
+        limit,
+        within,
+    })
+}
+
+// Whether so many payloads go with a method of this kind.
+fn fits_kind(kind: Kind, count: usize) -> bool
+    ensures some { result ≡ true → FitsKind kind count }
+    ensures only { FitsKind kind count → result ≡ true }
+{
+    match kind {
+        Kind::Unary | Kind::ServerStream => count == 1,
+        Kind::ClientStream | Kind::Bidi => count <= MAX_SAID,
     }
-    Some(most)
+}
+
+// Whether each word tells a payload.
+fn tell_each(words: &[String]) -> bool
+    ensures some { result ≡ true → (told : List (List ℕ)) × TellEach (map string_bytes words.now) told }
+    ensures only { (told : List (List ℕ)) → TellEach (map string_bytes words.now) told → result ≡ true }
+{
+    for word in words {
+        if !is_payload(word.as_str()) {
+            return false;
+        }
+    }
+    true
 }

@@ -30,7 +30,7 @@ use std::alloc::Global;
 use std::sync::Wait;
 use std::thread::Threads;
 
-#[tactic(auto, using(crate::proofs::WordLemmas::not_both, crate::proofs::WordLemmas::call_not_recorded, crate::proofs::WordLemmas::call_not_live, crate::proofs::CallLemmas::call_there, crate::proofs::CallLemmas::call_links))]
+#[tactic(auto, using(crate::proofs::WordLemmas::not_both, crate::proofs::WordLemmas::call_not_recorded, crate::proofs::WordLemmas::call_not_live, crate::proofs::CallLemmas::can_call, crate::proofs::CallLemmas::call_there, crate::proofs::CallLemmas::call_links))]
 /// Runs the command that the words name, over a source, a sink, a store, a linker and a clock. The recorded commands are those of
 /// [`run_recorded`]; the others work on threads, and may wait. The gate stands at each run of a handler of theirs.
 ///
@@ -38,7 +38,7 @@ use std::thread::Threads;
 /// serves a number of connections in turn, each over the resources that the store lists then; `host` does so without a number, and
 /// what ends a connection for its own link or a limit doesn't end the run. `bridge` connects to two paths and
 /// lets frames go between the two links by their address. `get`, `put` and `watch` connect to a path, read a resource into the store,
-/// write one out of it, or watch a stream of messages; `call` calls a method by its names. The answer is the program's exit status, as
+/// write one out of it, or watch a stream of messages; `call` calls a method by its names or its ids. The answer is the program's exit status, as
 /// [`Outcome::code`](crate::Outcome::code) tells it.
 pub fn run<
     R: Threads + Wait + Sync,
@@ -80,8 +80,8 @@ pub fn run<
         EndsWith result (DidLive command
         (devices (I.left input.old) (O.written output.old) (O.faults output.old) (S.holds store.old) (N.links net.old) (C.last clock.old))
         (devices (I.left input.new) (O.written output.new) (O.faults output.new) (S.holds store.new) (N.links net.new) (C.last clock.new))) }
-    ensures called { (opening : Opening) (limit : Option ℕ) → IsCall (map string_bytes words.now) opening limit →
-        EndsWith result (DidCall opening limit
+    ensures called { (opening : Opening) (limit within : Option ℕ) → IsCall (map string_bytes words.now) opening limit within →
+        EndsWith result (DidCall opening limit within
         (devices (I.left input.old) (O.written output.old) (O.faults output.old) (S.holds store.old) (N.links net.old) (C.last clock.old))
         (devices (I.left input.new) (O.written output.new) (O.faults output.new) (S.holds store.new) (N.links net.new) (C.last clock.new))) }
     ensures linked { MakesLinks (map string_bytes words.now) → input.new ≡ input.old }

@@ -1,12 +1,12 @@
-//! Calls of methods by their names, whose messages are kept.
-ghost use Rattle.std.specs.Prelude.{◌<◌, ◌≤◌};
+//! Calls of methods, whose messages are kept.
+ghost use Rattle.std.specs.Prelude.{◌≢◌, ◌<◌, ◌≤◌, IfOk};
 ghost use Rattle.live_client.specs.Ask.{CanAsk};
 
 use super::{does, end_is, why_is};
 use bytes::Bytes;
-use demo_services::ids::{COUNT, DEMO, ECHO, ids_are_of_names};
+use demo_services::ids::{CHAT, COUNT, DEMO, ECHO, SUM};
 use link_io::{Still, Why};
-use live_client::{Live, LiveAsk, Opening};
+use live_client::{Live, LiveAsk, Messages, Opening};
 use rpc_frames::write_frame;
 use rpc_ids::{Kind, Status};
 use rpc_packet::{CallName, Packet, PacketType};
@@ -57,37 +57,65 @@ fn answers(alloc: Global, method: u32, rows: &[Answer]) -> Result<Vec<u8>, Alloc
     Ok(stream)
 }
 
-#[tactic(auto, unfolding(rpc_ids::specs::Names::name_id))]
-fn echo() -> LiveAsk
+fn echo(alloc: Global) -> LiveAsk
     ensures { CanAsk result }
 {
-    ids_are_of_names();
     LiveAsk::Call {
         opening: Opening {
-            service: Bytes::from_static(b"demo.Demo"),
-            method: Bytes::from_static(b"Echo"),
+            service: DEMO,
+            method: ECHO,
             kind: Kind::Unary,
             payload: Bytes::from_static(b"abc"),
+            messages: Messages::new(alloc),
         },
         limit: 65_536,
+        within: None,
     }
 }
 
-#[tactic(auto, unfolding(rpc_ids::specs::Names::name_id))]
-fn count(limit: u32) -> LiveAsk
+fn count(alloc: Global, limit: u32) -> LiveAsk
     requires { (0 < limit) × (limit ≤ 65536) }
     ensures { CanAsk result }
 {
-    ids_are_of_names();
     LiveAsk::Call {
         opening: Opening {
-            service: Bytes::from_static(b"demo.Demo"),
-            method: Bytes::from_static(b"Count"),
+            service: DEMO,
+            method: COUNT,
             kind: Kind::ServerStream,
             payload: Bytes::from_static(b"\x03"),
+            messages: Messages::new(alloc),
         },
         limit,
+        within: None,
     }
+}
+
+// A call that streams two messages, and waits for so many milliseconds.
+pub(super) fn stream(
+    alloc: Global,
+    method: u32,
+    kind: Kind,
+    within: Option<u32>,
+) -> Result<LiveAsk, AllocError>
+    requires { method ≢ 0 }
+    ensures { IfOk result CanAsk }
+{
+    let mut messages = Messages::new(alloc);
+    if matches!(kind, Kind::ClientStream | Kind::Bidi) {
+        messages.push(Bytes::from_static(b"\x01\x02"))?;
+        messages.push(Bytes::from_static(b"\xFF"))?;
+    }
+    Ok(LiveAsk::Call {
+        opening: Opening {
+            service: DEMO,
+            method,
+            kind,
+            payload: Bytes::new(),
+            messages,
+        },
+        limit: 65_536,
+        within,
+    })
 }
 
 fn messages_are(rt: &impl Abort, messages: &[Bytes], wanted: &[&[u8]]) {
@@ -114,7 +142,7 @@ fn echoes<R: Threads + Wait + Sync + Abort>(
     wanted: &[&[u8]],
 ) -> Result<(), Fail> {
     let input = answers(alloc, ECHO, rows)?;
-    let did = does(rt, alloc, input, &mut Still::new(), echo())?;
+    let did = does(rt, alloc, input, &mut Still::new(), echo(alloc))?;
     ends(rt, did, end, wanted);
     Ok(())
 }
@@ -137,7 +165,7 @@ fn a_unary_call_ends_as_the_board_says(rt: HostRuntime) -> Result<(), Fail> {
 fn a_stream_is_kept_in_order(rt: HostRuntime) -> Result<(), Fail> {
     let alloc = rt.alloc();
     let input = answers(alloc, COUNT, COUNTED)?;
-    let did = does(&rt, alloc, input, &mut Still::new(), count(65_536))?;
+    let did = does(&rt, alloc, input, &mut Still::new(), count(alloc, 65_536))?;
     ends(&rt, did, Status::Okay, &[b"1", b"", b"3"]);
     Ok(())
 }
@@ -146,7 +174,30 @@ fn a_stream_is_kept_in_order(rt: HostRuntime) -> Result<(), Fail> {
 fn a_call_is_cancelled_at_its_limit(rt: HostRuntime) -> Result<(), Fail> {
     let alloc = rt.alloc();
     let input = answers(alloc, COUNT, COUNTED)?;
-    let did = does(&rt, alloc, input, &mut Still::new(), count(2))?;
+    let did = does(&rt, alloc, input, &mut Still::new(), count(alloc, 2))?;
     messages_are(&rt, &did.messages, &[b"1", b""]);
+    Ok(())
+}
+
+// The sum of what was streamed, and two answers to it.
+const SUMMED: &[Answer] = &[(PacketType::Response, 0, b"\x00\x02")];
+
+const CHATTED: &[Answer] = &[
+    (PacketType::ServerStream, 0, b"\x01\x02"),
+    (PacketType::ServerStream, 0, b"\xFF"),
+    (PacketType::Response, 0, b""),
+];
+
+#[test]
+fn a_stream_of_messages_is_answered(rt: HostRuntime) -> Result<(), Fail> {
+    let alloc = rt.alloc();
+    let input = answers(alloc, SUM, SUMMED)?;
+    let ask = stream(alloc, SUM, Kind::ClientStream, None)?;
+    let did = does(&rt, alloc, input, &mut Still::new(), ask)?;
+    ends(&rt, did, Status::Okay, &[b"\x00\x02"]);
+    let input = answers(alloc, CHAT, CHATTED)?;
+    let ask = stream(alloc, CHAT, Kind::Bidi, None)?;
+    let did = does(&rt, alloc, input, &mut Still::new(), ask)?;
+    ends(&rt, did, Status::Okay, &[b"\x01\x02", b"\xFF"]);
     Ok(())
 }

@@ -108,7 +108,7 @@ fn writes<R: Threads + Wait + Sync>(
     Ok(link_out)
 }
 
-fn bytes_are(rt: &impl Abort, bytes: &[u8], wanted: &[u8]) {
+pub(super) fn bytes_are(rt: &impl Abort, bytes: &[u8], wanted: &[u8]) {
     assert_eq!(rt; bytes, wanted);
 }
 

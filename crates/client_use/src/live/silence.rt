@@ -1,11 +1,15 @@
 //! A board that never answers, and one that closes once this end has said that nothing more comes.
 ghost use Rattle.std.specs.Prelude.{None};
 
-use super::{FETCHED, does_over, end_is, fetch, offset_is, told, why_is};
-use demo_services::ids::READ;
+use super::calls::stream;
+use super::frames::bytes_are;
+use super::{FETCHED, does_over, end_is, fetch, offset_is, say_status, told, why_is};
+use bytes::Bytes;
+use demo_services::ids::{DEMO, READ, SUM};
 use link_io::{Failed, Fulls, MemSink, MemSource, MemStore, Sink, Source, StepClock, Still, Why};
 use live_client::live;
-use rpc_ids::Status;
+use rpc_ids::{Kind, Status};
+use rpc_packet::PacketType;
 use std::process::Abort;
 use std::sync::atomic::{AtomicU64, Ordering};
 use std::test::Fail;
@@ -138,4 +142,42 @@ fn a_board_hears_that_a_store_failed(rt: HostRuntime) -> Result<(), Fail> {
 
 fn is_finished(rt: &impl Abort, finished: &AtomicU64) {
     assert_eq!(rt; finished.load(Ordering::SeqCst), 1);
+}
+
+// What a call of Sum says that streams two messages and is cancelled then.
+const SAID: &[(PacketType, &[u8], u32)] = &[
+    (PacketType::Request, b"", 0),
+    (PacketType::ClientStream, b"\x01\x02", 0),
+    (PacketType::ClientStream, b"\xFF", 0),
+    (PacketType::Completion, b"", 0),
+    (PacketType::ClientError, b"", 1),
+];
+
+// The board never answers. The call says all in order, and is cancelled once its time has passed, and not before.
+#[test]
+fn a_call_is_cancelled_when_its_time_has_passed(rt: HostRuntime) -> Result<(), Fail> {
+    let alloc = rt.alloc();
+    let finished = AtomicU64::new(0);
+    let mut link_in = Patient {
+        rt: &rt,
+        inner: MemSource::new(Vec::new(alloc), Vec::new(alloc)),
+        finished: &finished,
+    };
+    let mut link_out = Telling {
+        inner: MemSink::new(Vec::new(alloc), Vec::new(alloc)),
+        finished: &finished,
+    };
+    let moments = [5, 5, 5, 5, 5, 5, 5, 5, 1_004, 1_005];
+    let mut clock = StepClock::new(Vec::from_slice(alloc, &moments)?);
+    let ask = stream(alloc, SUM, Kind::ClientStream, Some(1_000))?;
+    let did = does_over(&rt, alloc, &mut link_in, &mut link_out, &mut clock, ask)?;
+    why_is(&rt, did.why, Why::Settled);
+    end_is(&rt, did.ended, Some(Status::Cancelled));
+    let mut wanted = Vec::new(alloc);
+    for &(ptype, payload, status) in SAID {
+        let payload = Bytes::copy_from_slice(alloc, payload)?;
+        say_status(alloc, DEMO, SUM, ptype, payload, status, &mut wanted)?;
+    }
+    bytes_are(&rt, link_out.inner.bytes(), wanted.as_slice());
+    Ok(())
 }

@@ -1,4 +1,4 @@
-//! A call of a method by its names.
+//! A call of a method by its names or its ids.
 
 use super::checks::{gone_are, told};
 use super::{one_link, run_client, store};
@@ -17,11 +17,17 @@ const ECHO: u32 = 0x8B47_0EE9;
 
 const COUNT: u32 = 0xB636_13B6;
 
+const SUM: u32 = 0x0957_0BB8;
+
+const CHAT: u32 = 0x9BA9_81BC;
+
 const ECHOED: Said = (PacketType::Response, b"abc", 0);
 
 const EMPTY: Said = (PacketType::Response, b"", 0);
 
 const REFUSED: Said = (PacketType::Response, b"abc", 3);
+
+const SUMMED: Said = (PacketType::Response, b"\x00\x02", 0);
 
 const UNKNOWN: Said = (PacketType::ServerError, b"", 5);
 
@@ -80,6 +86,34 @@ const CALLS: &[(&str, u32, &[Said], u8, &str)] = &[
         9,
         "message 01\ncall CANCELLED 1\ndone\n",
     ),
+    (
+        "call p 0x70f45cfb 0x8b470ee9 unary 616263 limit 1 within 3600000",
+        ECHO,
+        &[ECHOED],
+        0,
+        "message 616263\ncall OK 1\ndone\n",
+    ),
+    (
+        "call p demo.Demo Sum client 0102 ff",
+        SUM,
+        &[SUMMED],
+        0,
+        "message 0002\ncall OK 1\ndone\n",
+    ),
+    (
+        "call p demo.Demo Chat bidi",
+        CHAT,
+        &[FIRST, EMPTY],
+        0,
+        "message 01\ncall OK 1\ndone\n",
+    ),
+    (
+        "call p demo.Demo Chat bidi - within 1",
+        CHAT,
+        &[UNKNOWN],
+        9,
+        "call NOT_FOUND 0\ndone\n",
+    ),
 ];
 
 // The frames of these packets in call 1 of a method of demo.Demo on channel 1.
@@ -135,13 +169,26 @@ fn a_call_tells_its_messages_and_its_end(rt: HostRuntime) -> Result<(), AllocErr
     Ok(())
 }
 
+// One message too many.
+const MANY: &str =
+    "call p demo.Demo Sum client 00 00 00 00 00 00 00 00 00 00 00 00 00 00 00 00 00 00 00 00 00 00 00 00 00 00 00 00 00 00 00 00 00 00 00 00 00 00 00 00 00 00 00 00 00 00 00 00 00 00 00 00 00 00 00 00 00 00 00 00 00 00 00 00 00";
+
 // Words that ask for nothing.
 const OTHERS: &[&str] = &[
     "call p demo.Demo Echo unary",
     "call p demo.Demo Echo unary 00 01",
     "call p demo.Demo Echo one 00",
-    "call p demo.Demo Sum client 00",
-    "call p demo.Demo Chat bidi 00",
+    "call p demo.Demo Sum clients 00",
+    "call p demo.Demo Sum client 000",
+    "call p demo.Demo Chat bidi 00 within 0",
+    "call p demo.Demo Chat bidi 00 within 3600001",
+    "call p demo.Demo Chat bidi 00 within 1 limit 1",
+    "call p demo.Demo Chat bidi within",
+    "call p demo.Demo",
+    "call p 0x70f45cf 0x8b470ee9 unary -",
+    "call p 0x70f45cfb 0x00000000 unary -",
+    "call p 0x70f45cfb 0x8b470eeg unary -",
+    MANY,
     "call p demo.Demo Echo unary 0",
     "call p demo.Demo Echo unary 0g",
     "call p demo.Demo Echo unary 0A",

@@ -8,6 +8,7 @@ use std::alloc::{AllocError, Global};
 use std::env;
 use std::fs::{self, Files};
 use std::net::Net;
+use std::process::Abort;
 use std::sync::Wait;
 use std::test::Fail;
 use std::thread::{self, Threads, join};
@@ -90,15 +91,16 @@ fn fetch<R: Threads + Wait + Sync + Net + Files + time::Clock>(
     Ok((ran, came))
 }
 
-// Calls Count once the socket's file stands.
-fn count<R: Threads + Wait + Sync + Net + Files + time::Clock>(
+// Calls a method once the socket's file stands.
+fn call<R: Threads + Wait + Sync + Net + Files + time::Clock>(
     rt: &R,
     alloc: Global,
     path: &str,
+    words: &str,
 ) -> Result<Ran, AllocError> {
     await_file(rt, path);
     let mut store = store_of(alloc, None)?;
-    let line = format!(in alloc; "call {path} demo.Demo Count server 03")?;
+    let line = format!(in alloc; "call {path} {words}")?;
     run_at(rt, alloc, line.as_str(), &mut store)
 }
 
@@ -122,26 +124,59 @@ fn a_resource_is_fetched_over_a_socket(rt: HostRuntime) -> Result<(), Fail> {
     Ok(())
 }
 
+// What is called of a server, the status, and what is written.
+const CALLED: &[(&str, u8, &str)] = &[
+    (
+        "demo.Demo Echo unary 616263",
+        0,
+        "message 616263\ncall OK 1\ndone\n",
+    ),
+    (
+        "demo.Demo Count server 03 within 60000",
+        0,
+        "message 01\nmessage 02\nmessage 03\ncall OK 3\ndone\n",
+    ),
+    (
+        "demo.Demo Sum client 0102 ff",
+        0,
+        "message 0000000000000102\ncall OK 1\ndone\n",
+    ),
+    (
+        "0x70f45cfb 0x9ba981bc bidi 0102 - ff",
+        0,
+        "message 0102\nmessage -\nmessage ff\ncall OK 3\ndone\n",
+    ),
+    ("demo.Demo Reboot client 00", 9, "call NOT_FOUND 0\ndone\n"),
+];
+
+// A server answers this call.
+fn answers<R: Threads + Wait + Sync + Net + Files + time::Clock + Abort>(
+    rt: &R,
+    alloc: Global,
+    path: &str,
+    words: &str,
+    status: u8,
+    written: &str,
+) -> Result<(), Fail> {
+    let (served, called) = join(
+        rt,
+        || serve_one(rt, alloc, path),
+        || call(rt, alloc, path, words),
+    );
+    status_is(rt, "serve", served?, 0);
+    told(rt, words, &called?, status, written.as_bytes());
+    Ok(())
+}
+
 #[test]
-fn a_method_is_called_over_a_socket(rt: HostRuntime) -> Result<(), Fail> {
+fn a_method_of_each_kind_is_called_over_a_socket(rt: HostRuntime) -> Result<(), Fail> {
     let alloc = rt.alloc();
     let now = time::Clock::since_1970(&rt)?.as_nanos();
     let base = env::temp_dir(&rt)?;
     let base = base.as_str();
     let path = format!(in alloc; "{base}/pw-run-call-{now}")?;
-    let path = path.as_str();
-    let (served, counted) = join(
-        &rt,
-        || serve_one(&rt, alloc, path),
-        || count(&rt, alloc, path),
-    );
-    status_is(&rt, "serve", served?, 0);
-    told(
-        &rt,
-        "call",
-        &counted?,
-        0,
-        b"message 01\nmessage 02\nmessage 03\ncall OK 3\ndone\n",
-    );
+    for &(words, status, written) in CALLED {
+        answers(&rt, alloc, path.as_str(), words, status, written)?;
+    }
     Ok(())
 }

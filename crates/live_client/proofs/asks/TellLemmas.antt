@@ -21,7 +21,7 @@ use Rattle.task_core.specs.Hearing.{HeardAt, HeardBelow, HeardTurns, RanHearing}
 use Rattle.task_core.specs.Runs.{StopsBy, Turn}
 use Rattle.task_core.specs.Tasks.{Adds, AddsNothing, HasKey, StandsFor, Tasks, has_key}
 use Rattle.task_core.specs.bells.Bells.{Heard}
-use Rattle.live_client.specs.asks.Tasks.{AreBetween, AreTurns, AreWhole, AreWholeBefore, Given, HasGoneOn, IsAloneIn, IsPrompt, WantedIf, given_at, given_in, is_polled_since, mail_in, mail_of, mails}
+use Rattle.live_client.specs.asks.Tasks.{AreBetween, AreTurns, AreWhole, AreWholeBefore, Given, HasGoneOn, IsAloneIn, IsPrompt, WantedIf, given_in, is_polled_since, mail_in, mail_of, mails, says_at}
 use Rattle.live_client.specs.asks.Telling.{AllAdd, HasCome, IsAlone, Progress, Tells, Told, gone_on, said_all, unknown, waiting}
 
 firsts-by_task : (key : ℕ) (outs : List Out) → map (λ (said : ℕ × Out). said.1) (by_task key outs) ≡ outs
@@ -54,13 +54,13 @@ whole_before (took ∷ log) so = whole_before log so
 
 -- what waits, as it is given behind so much mail
 abbrev waits : ℕ → List (ℕ × Out) → List Given
-waits mail outs = map (given_at mail) (map (λ (said : ℕ × Out). said.1) outs)
+waits mail outs = map (says_at mail) (map (λ (said : ℕ × Out). said.1) outs)
 
-waits_more : (mail : ℕ) (outs : List (ℕ × Out)) (key : ℕ) (said : List Out) → waits mail (outs ++ by_task key said) ≡ waits mail outs ++ map (given_at mail) said
+waits_more : (mail : ℕ) (outs : List (ℕ × Out)) (key : ℕ) (said : List Out) → waits mail (outs ++ by_task key said) ≡ waits mail outs ++ map (says_at mail) said
 waits_more mail outs key said =
-    ap (map (given_at mail)) (map-append (λ (x : ℕ × Out). x.1) outs (by_task key said))
-    ∙ (map-append (given_at mail) (map (λ (x : ℕ × Out). x.1) outs) (map (λ (x : ℕ × Out). x.1) (by_task key said))
-    ∙ ap (λ s. waits mail outs ++ map (given_at mail) s) (firsts-by_task key said))
+    ap (map (says_at mail)) (map-append (λ (x : ℕ × Out). x.1) outs (by_task key said))
+    ∙ (map-append (says_at mail) (map (λ (x : ℕ × Out). x.1) outs) (map (λ (x : ℕ × Out). x.1) (by_task key said))
+    ∙ ap (λ s. waits mail outs ++ map (says_at mail) s) (firsts-by_task key said))
 
 -- ---- a task that has gone on behind its mail
 
@@ -149,9 +149,9 @@ module _ {T : Type 0} (polls : T → Visit → T → Type 0) (task : T) (start u
         whole = wanted_polled short turn.key turn.visit turn.after log so.whole;
         mail = so.mail;
         said =
-            ap (λ n. given_in log ++ map (given_at n) turn.visit.said) (ap length so.mail)
-            ∙ (ap (λ s. s ++ map (given_at (length posts)) turn.visit.said) so.said
-            ∙ (append_assoc outs (waits (length posts) (outs_of log)) (map (given_at (length posts)) turn.visit.said)
+            ap (λ n. given_in log ++ map (says_at n) turn.visit.said) (ap length so.mail)
+            ∙ (ap (λ s. s ++ map (says_at (length posts)) turn.visit.said) so.said
+            ∙ (append_assoc outs (waits (length posts) (outs_of log)) (map (says_at (length posts)) turn.visit.said)
             ∙ ap (λ s. outs ++ s) (sym (waits_more (length posts) (outs_of log) turn.key turn.visit.said))));
         early = so.early;
         late = so.late;
@@ -198,7 +198,7 @@ module _ {T : Type 0} (polls : T → Visit → T → Type 0) (task : T) where
       prompt = tt;
       whole = tt;
       mail = refl;
-      said = ap (map (given_at 0)) (sym (waiting_is tasks (added 0 task ∷ []) stands));
+      said = ap (map (says_at 0)) (sym (waiting_is tasks (added 0 task ∷ []) stands));
       result = refl;
     };
     come = tt;
@@ -306,7 +306,7 @@ module _ {T : Type 0} (polls : T → Visit → T → Type 0) (task : T) where
 
     -- an item is taken
     pub tells_some : (key : ℕ) (out : Out) → old.outs ≡ (key, out) ∷ new.outs → Adds old new took → Tells polls task old ear short far start upto cut events outs ended
-        → Tells polls task new ear short unknown start upto cut events (outs ++ given_at (mails events) out ∷ []) ended
+        → Tells polls task new ear short unknown start upto cut events (outs ++ says_at (mails events) out ∷ []) ended
     tells_some key out first adds so =
         let t = so.told in
         record {
@@ -320,7 +320,7 @@ module _ {T : Type 0} (polls : T → Visit → T → Type 0) (task : T) where
             prompt = t.prompt;
             whole = wanted_took short t.log t.whole;
             mail = t.mail;
-            said = t.said ∙ (ap (λ os. outs ++ waits (mails events) os) first ∙ sym (append_assoc outs (given_at (mails events) out ∷ []) (waits (mails events) new.outs)));
+            said = t.said ∙ (ap (λ os. outs ++ waits (mails events) os) first ∙ sym (append_assoc outs (says_at (mails events) out ∷ []) (waits (mails events) new.outs)));
             result = t.result;
           };
           come = tt;
@@ -371,7 +371,7 @@ module _ {T : Type 0} (polls : T → Visit → T → Type 0) (task : T) where
           prompt = t.prompt;
           whole = t.whole;
           mail = t.mail;
-          said = t.said ∙ ap (λ s. outs ++ map (given_at (mails events)) s) (waiting_is old t.log t.stands);
+          said = t.said ∙ ap (λ s. outs ++ map (says_at (mails events)) s) (waiting_is old t.log t.stands);
           early = early;
           late = omega arith;
         }
@@ -398,7 +398,7 @@ module _ {T : Type 0} (polls : T → Visit → T → Type 0) (task : T) where
                   prompt = sound.0.prompt;
                   whole = sound.0.whole;
                   mail = sound.0.mail;
-                  said = sound.0.said ∙ ap (λ s. outs ++ map (given_at (mails events)) s) (sym (waiting_is new ran.0 sound.1));
+                  said = sound.0.said ∙ ap (λ s. outs ++ map (says_at (mails events)) s) (sym (waiting_is new ran.0 sound.1));
                   result = refl;
                 };
                 come = sound.2;

@@ -12,13 +12,33 @@ use Rattle.task_core.specs.Runs.{Turn}
 use Rattle.transfer_words.specs.Saying.{Saying, Stepped, outs_of}
 use Rattle.transfer_client.specs.Machine.{Rules}
 use Rattle.transfer_client.specs.Polling as polling
-use Rattle.live_client.specs.asks.Tasks.{AreBetween, AreTurns, AreWhole, AreWholeBefore, Given, IsAloneIn, given_at, given_in, mail_in}
+use Rattle.live_client.specs.asks.Tasks.{AreBetween, AreTurns, AreWhole, AreWholeBefore, Given, IsAloneIn, given_in, mail_in, says_at}
+use Rattle.live_client.specs.declared.asks.utterance.Utterance.{Utterance}
+use Rattle.live_client.specs.declared.asks.utterance.Utterance.TheVariants.{Says, Completes}
+
+-- the out that is said, if it is one
+abbrev pub outs_by : Utterance → List Out
+outs_by (Says out) = out ∷ []
+outs_by Completes = []
+
+abbrev pub outs_in : List Utterance → List Out
+outs_in [] = []
+outs_in (out ∷ said) = outs_by out ++ outs_in said
+
+pub outs_in-append : (xs ys : List Utterance) → outs_in (xs ++ ys) ≡ outs_in xs ++ outs_in ys
+outs_in-append [] ys = refl
+outs_in-append (x ∷ xs) ys = ap (λ outs. outs_by x ++ outs) (outs_in-append xs ys) ∙ sym (append_assoc (outs_by x) (outs_in xs) (outs_in ys))
 
 -- the outs, without the mail that had come by then
 abbrev pub bare : List Given → List Out
-bare outs = map (λ given. given.out) outs
+bare [] = []
+bare (given ∷ outs) = outs_by given.out ++ bare outs
 
-bare-given : (mail : ℕ) (said : List Out) → bare (map (given_at mail) said) ≡ said
+bare-append : (xs ys : List Given) → bare (xs ++ ys) ≡ bare xs ++ bare ys
+bare-append [] ys = refl
+bare-append (x ∷ xs) ys = ap (λ outs. outs_by x.out ++ outs) (bare-append xs ys) ∙ sym (append_assoc (outs_by x.out) (bare xs) (bare ys))
+
+bare-given : (mail : ℕ) (said : List Out) → bare (map (says_at mail) said) ≡ said
 bare-given mail [] = refl
 bare-given mail (out ∷ said) = ap (λ rest. out ∷ rest) (bare-given mail said)
 
@@ -234,7 +254,7 @@ module _ {A : Type 0} (k : Rules A) (session : ℕ) (J : ℕ → A → List Mail
               taken = s.taken ++ t.front;
               said = s.said ++ gave.sayings;
               mail = append_assoc s.taken t.front visit.left ∙ (ap (λ ms. s.taken ++ (t.front ++ ms)) poll.left ∙ (ap (λ ms. s.taken ++ ms) (t.split ∙ mail_is) ∙ s.mail));
-              says = (map-append (λ given. given.out) (given_in log) (map (given_at (length (mail_in log))) visit.said) ∙ ap (λ outs. bare (given_in log) ++ outs) (bare-given (length (mail_in log)) visit.said)) ∙ ap (λ outs. outs ++ visit.said) s.says ∙ (ap (λ outs. outs_of session s.said ++ outs) poll.said ∙ sym (map-append _ s.said gave.sayings));
+              says = (bare-append (given_in log) (map (says_at (length (mail_in log))) visit.said) ∙ ap (λ outs. bare (given_in log) ++ outs) (bare-given (length (mail_in log)) visit.said)) ∙ ap (λ outs. outs ++ visit.said) s.says ∙ (ap (λ outs. outs_of session s.said ++ outs) poll.said ∙ sym (map-append _ s.said gave.sayings));
               holds = subst (λ m. J m (state_of after) (s.taken ++ t.front) (s.said ++ gave.sayings)) moment_is (subst (λ x. J visit.moment x (s.taken ++ t.front) (s.said ++ gave.sayings)) (sym poll.after) t.holds);
               result = ending_back (k.end_of (state_of after)) visit.ending poll.ending;
             })

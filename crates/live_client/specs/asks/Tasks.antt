@@ -10,6 +10,8 @@ use Rattle.task_core.specs.Visit.{Visit}
 use Rattle.task_core.specs.Log.{Step, added, posted, woken, advanced, heard, polled, took, moment_of, task_of}
 use Rattle.task_core.specs.Due.{is_due, result_of}
 use Rattle.task_core.specs.Runs.{Turn}
+use Rattle.live_client.specs.declared.asks.utterance.Utterance.{Utterance}
+use Rattle.live_client.specs.declared.asks.utterance.Utterance.TheVariants.{Says}
 
 -- the mail that an event of the call is to the task
 abbrev pub mail_of : Event → List Mail
@@ -21,13 +23,16 @@ mail_of _ = []
 abbrev pub mails : List Event → ℕ
 mails events = length (flat_map mail_of events)
 
--- an out of the task, and how much mail had come to it when it gave that
+-- what was given to be said, and how much mail had come then
 pub record Given : Type 0 where
   pub mail : ℕ
-  pub out : Out
+  pub out : Utterance
 
-abbrev pub given_at : ℕ → Out → Given
+abbrev pub given_at : ℕ → Utterance → Given
 given_at mail out = record { mail = mail; out = out }
+
+abbrev pub says_at : ℕ → Out → Given
+says_at mail out = given_at mail (Says out)
 
 module _ {T : Type 0} where
   -- all mail that was posted, in order
@@ -49,7 +54,7 @@ module _ {T : Type 0} where
   given_in (woken key ∷ log) = given_in log
   given_in (advanced moment ∷ log) = given_in log
   given_in (heard key total ∷ log) = given_in log
-  given_in (polled key visit short task ∷ log) = given_in log ++ map (given_at (length (mail_in log))) visit.said
+  given_in (polled key visit short task ∷ log) = given_in log ++ map (says_at (length (mail_in log))) visit.said
   given_in (took ∷ log) = given_in log
 
   -- the polls lie between these moments

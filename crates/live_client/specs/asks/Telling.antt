@@ -8,7 +8,7 @@ use Rattle.task_core.specs.Visit.{Visit}
 use Rattle.task_core.specs.Log.{Step, looks_of}
 use Rattle.task_core.specs.Due.{result_of}
 use Rattle.task_core.specs.Tasks.{Adds, AddsNothing, HasKey, StandsFor, Tasks}
-use Rattle.live_client.specs.asks.Tasks.{AreBetween, AreTurns, Given, HasGoneOn, IsAloneIn, IsPrompt, WantedIf, given_at, given_in, mail_in, mail_of, mails}
+use Rattle.live_client.specs.asks.Tasks.{AreBetween, AreTurns, Given, HasGoneOn, IsAloneIn, IsPrompt, WantedIf, given_in, mail_in, mail_of, mails, says_at}
 
 -- the ear of these words, of which there is one
 pub record HasWord (ear : Heard) (tower : Tower) : Type 0 where
@@ -53,7 +53,7 @@ module _ {T : Type 0} where
     pub prompt : IsPrompt log
     pub whole : WantedIf short log
     pub mail : mail_in log ≡ flat_map mail_of events
-    pub said : given_in log ≡ outs ++ map (given_at (mails events)) (waiting tasks)
+    pub said : given_in log ≡ outs ++ map (says_at (mails events)) (waiting tasks)
     pub result : result_of log 0 ≡ ended
 
   -- the same of a task that is never cancelled

@@ -3,17 +3,19 @@ ghost use Rattle.std.specs.Prelude.{◌≡◌, ℕ, ◌≤◌, ◌++◌, [], ◌
 ghost use Rattle.rpc_handlers.specs.declared.event.Event.{Event as Heard};
 ghost use Rattle.rpc_ids.specs.declared.status.Status.{Status as End};
 ghost use Rattle.task_core.specs.bells.Bells.{Tower};
+ghost use Rattle.live_client.specs.Histories.{is_completion};
 ghost use Rattle.live_client.specs.asks.Tasks.{Given, given_at, mails};
 ghost use Rattle.live_client.specs.asks.Telling.{Progress, gone_on, said_all, unknown};
 
-use rpc_handlers::{Event, Out};
+use crate::asks::utterance::Utterance;
+use rpc_handlers::Event;
 use rpc_ids::Status;
 use std::alloc::AllocError;
 use task_core::bells::Bells;
 
 /// What the one call of a live client is for: it hears the events of the call, and says what is to be said there.
 pub trait Errand {
-    /// Whether it watches: then it says nothing, and else it never has the call cancelled.
+    /// Whether it watches: else it never ends the client's stream, and never has the call cancelled.
     ghost watches: { Bool };
 
     /// What it keeps between its steps.
@@ -73,17 +75,17 @@ pub trait Errand {
         ensures moment { moment self.new ≡ now }
         ensures origin { origin self.new ≡ origin self.old }
         ensures whole { OnOk result (short self.new ≡ false) }
-        ensures uncut { cuts self.old ≡ false → cuts self.new ≡ false }
+        ensures uncut { OnErr result (cuts self.old ≡ false → cuts self.new ≡ false) }
         ensures fits { fits self.new bells.now };
 
     /// Takes what is to be said next.
-    fn next_out(&mut self) -> Option<Out>
+    fn next_out(&mut self) -> Option<Utterance>
         requires ready { ready self.old }
         ensures ready { ready self.new }
         ensures some { IfSome result (λ out. (far : Progress) (start upto : ℕ) (cut : Option End) (events : List Heard) (outs : List Given) (ended : Option End) → did self.old far start upto cut events outs ended → did self.new unknown start upto cut events (outs ++ given_at (mails events) out ∷ []) ended) }
         ensures none { IfNone result ((start upto : ℕ) (cut : Option End) (events : List Heard) (outs : List Given) (ended : Option End) → did self.old gone_on start upto cut events outs ended → did self.new said_all start upto cut events outs ended) }
         ensures kept { IfNone result ((far : Progress) (start upto : ℕ) (cut : Option End) (events : List Heard) (outs : List Given) (ended : Option End) → did self.old far start upto cut events outs ended → did self.new unknown start upto cut events outs ended) }
-        ensures speaks { IfSome result (λ _. watches ≡ false) }
+        ensures completes { IfSome result (λ out. is_completion out ≡ true → watches ≡ true) }
         ensures moment { moment self.new ≡ moment self.old }
         ensures origin { origin self.new ≡ origin self.old }
         ensures short { short self.new ≡ short self.old }

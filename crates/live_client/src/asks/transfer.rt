@@ -6,7 +6,8 @@ ghost use Rattle.live_client.specs.asks.Tasks.{mail_of};
 ghost use Rattle.live_client.specs.asks.Telling.{AllAdd, HasWord, IsAlone, Tells, told_weaker, unknown};
 
 use crate::asks::errand::Errand;
-use rpc_handlers::{Event, Out};
+use crate::asks::utterance::Utterance;
+use rpc_handlers::Event;
 use rpc_ids::Status;
 use std::alloc::{AllocError, Global};
 use std::snapshot::Snapshot;
@@ -119,9 +120,9 @@ impl<T: Task + Drop> Errand for TaskErrand<T> {
         }
     }
 
-    fn next_out(&mut self) -> Option<Out> {
+    fn next_out(&mut self) -> Option<Utterance> {
         match self.tasks.take_out() {
-            Some((_, out)) => Some(out),
+            Some((_, out)) => Some(Utterance::Says(out)),
             None => None,
         }
     }

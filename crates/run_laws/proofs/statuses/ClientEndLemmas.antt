@@ -147,26 +147,26 @@ not_okay_is_other command status before after ends is =
 
 -- ---- a call
 
-call_okay : (opening : Opening) (limit : Option ℕ) (before after : Devices) → DidCall opening limit before after Done → CalledOkay opening limit before after
-call_okay opening limit before after (inl (inl run)) =
+call_okay : (opening : Opening) (limit within : Option ℕ) (before after : Devices) → DidCall opening limit within before after Done → CalledOkay opening limit within before after
+call_okay opening limit within before after (inl (inl run)) =
     let so = okay_of run.did.why run.did.ended (own_done before.written after.written _ (client_outcome run.did.why run.did.ended) (only_writes _ _ _ _ _ _ _ run.writes.1)) in
     record { run = run; settled = so.0; okay = so.1 }
-call_okay opening limit before after (inl (inr (inl given))) = absurd (not_memory given.memory)
-call_okay opening limit before after (inl (inr (inr fails))) = absurd (not_link fails.fault)
-call_okay opening limit before after (inr nothing) = absurd (not_memory nothing.memory)
+call_okay opening limit within before after (inl (inr (inl given))) = absurd (not_memory given.memory)
+call_okay opening limit within before after (inl (inr (inr fails))) = absurd (not_link fails.fault)
+call_okay opening limit within before after (inr nothing) = absurd (not_memory nothing.memory)
 
 pub called_means_okay : CalledMeansOkay
-called_means_okay opening limit status before after ends is =
-    call_okay opening limit before after (subst (DidCall opening limit before after) (done_of ends.0 (sym ends.1 ∙ is)) ends.2)
+called_means_okay opening limit within status before after ends is =
+    call_okay opening limit within before after (subst (DidCall opening limit within before after) (done_of ends.0 (sym ends.1 ∙ is)) ends.2)
 
-call_other : (opening : Opening) (limit : Option ℕ) (before after : Devices) → DidCall opening limit before after NotOkay → CalledOtherwise opening limit before after
-call_other opening limit before after (inl (inl run)) =
+call_other : (opening : Opening) (limit within : Option ℕ) (before after : Devices) → DidCall opening limit within before after NotOkay → CalledOtherwise opening limit within before after
+call_other opening limit within before after (inl (inl run)) =
     let so = other_of run.did.why run.did.ended (other_own before.written after.written _ (client_outcome run.did.why run.did.ended) (only_writes _ _ _ _ _ _ _ run.writes.1)) in
     record { run = run; settled = so.0; other = so.1 }
-call_other opening limit before after (inl (inr (inl given))) = absurd (silent given.memory)
-call_other opening limit before after (inl (inr (inr fails))) = absurd (linked fails.fault)
-call_other opening limit before after (inr nothing) = absurd (silent nothing.memory)
+call_other opening limit within before after (inl (inr (inl given))) = absurd (silent given.memory)
+call_other opening limit within before after (inl (inr (inr fails))) = absurd (linked fails.fault)
+call_other opening limit within before after (inr nothing) = absurd (silent nothing.memory)
 
 pub other_means_other : OtherMeansOther
-other_means_other opening limit status before after ends is =
-    call_other opening limit before after (subst (DidCall opening limit before after) (not_okay_of ends.0 (sym ends.1 ∙ is)) ends.2)
+other_means_other opening limit within status before after ends is =
+    call_other opening limit within before after (subst (DidCall opening limit within before after) (not_okay_of ends.0 (sym ends.1 ∙ is)) ends.2)

@@ -62,25 +62,25 @@ NotOkayIsOther =
     → status ≡ code_of NotOkay → EndedOtherwise command before after ⊎ HasNoneToSend command before
 
 -- a call settled, and ended OK
-pub record CalledOkay (opening : Opening) (limit : Option ℕ) (before after : Devices) : Type 0 where
-  pub run : RunsClient Messages (Call opening (unwrap_or limit MAX_MESSAGES)) before after Done
+pub record CalledOkay (opening : Opening) (limit within : Option ℕ) (before after : Devices) : Type 0 where
+  pub run : RunsClient Messages (Call opening (unwrap_or limit MAX_MESSAGES) within) before after Done
   pub settled : run.did.why ≡ Settled
   pub okay : run.did.ended ≡ Some Okay
 
 -- it settled, and didn't end OK
-pub record CalledOtherwise (opening : Opening) (limit : Option ℕ) (before after : Devices) : Type 0 where
-  pub run : RunsClient Messages (Call opening (unwrap_or limit MAX_MESSAGES)) before after NotOkay
+pub record CalledOtherwise (opening : Opening) (limit within : Option ℕ) (before after : Devices) : Type 0 where
+  pub run : RunsClient Messages (Call opening (unwrap_or limit MAX_MESSAGES) within) before after NotOkay
   pub settled : run.did.why ≡ Settled
   pub other : run.did.ended ≢ Some Okay
 
 -- With status 0 a call ended OK.
 abbrev pub CalledMeansOkay : Type 0
 CalledMeansOkay =
-    (opening : Opening) (limit : Option ℕ) (status : ℕ) (before after : Devices) → EndsWith status (DidCall opening limit before after)
-    → status ≡ code_of Done → CalledOkay opening limit before after
+    (opening : Opening) (limit within : Option ℕ) (status : ℕ) (before after : Devices) → EndsWith status (DidCall opening limit within before after)
+    → status ≡ code_of Done → CalledOkay opening limit within before after
 
 -- With status 9 it ended otherwise.
 abbrev pub OtherMeansOther : Type 0
 OtherMeansOther =
-    (opening : Opening) (limit : Option ℕ) (status : ℕ) (before after : Devices) → EndsWith status (DidCall opening limit before after)
-    → status ≡ code_of NotOkay → CalledOtherwise opening limit before after
+    (opening : Opening) (limit within : Option ℕ) (status : ℕ) (before after : Devices) → EndsWith status (DidCall opening limit within before after)
+    → status ≡ code_of NotOkay → CalledOtherwise opening limit within before after

@@ -1,25 +1,24 @@
 use Rattle.std.proofs.Common.{◌≡◌, Ok, true, false, ap, ◌∙◌}
-use Rattle.rpc_shared.proofs.session.PassLemmas.{adds_trans, adds_weaker}
-use Rattle.live_client.specs.Driving.{is_saying, is_talking}
+use Rattle.rpc_shared.proofs.session.PassLemmas.{adds_trans}
+use Rattle.live_client.specs.Driving.{is_talking}
 use Rattle.live_client.specs.asks.Telling.{unknown}
 use Rattle.live_client.specs.Silent.{silent_rule}
 use Rattle.live_client.proofs.FeedLemmas.{on_err_with, on_ok_with}
 use Rattle.live_client.proofs.StepsOf.{can_on}
 use Rattle.live_client.proofs.TalkLemmas.{talks_weaker}
-use Rattle.live_client.proofs.WorkLemmas.{say_talks}
 use Rattle.live_client.proofs.driver.talk.Given.{Over}
 use Rattle.live_client.proofs.driver.talk.Goals as goal
 
 pub listen-requires-clause-can : goal.listen-requires-clause-can
-listen-requires-clause-can g c = can_on c.args.table.now c.args.call is_saying c.args.pass.now c.speak.new.pass c.requires.can c.speak.ensures.adds
+listen-requires-clause-can g c = can_on c.args.table.now c.args.call is_talking c.args.pass.now c.speak.new.pass c.requires.can c.speak.ensures.adds
 
 pub returns-in-Ok-true-clause-adds : goal.returns-in-Ok-true-clause-adds
-returns-in-Ok-true-clause-adds g c = adds_weaker silent_rule c.args.table.now is_saying is_talking c.args.pass.now c.speak.new.pass say_talks c.speak.ensures.adds
+returns-in-Ok-true-clause-adds g c = c.speak.ensures.adds
 
 pub returns-in-Ok-false-clause-adds : goal.returns-in-Ok-false-clause-adds
 returns-in-Ok-false-clause-adds g c =
     adds_trans silent_rule c.args.table.now is_talking c.args.pass.now c.speak.new.pass c.listen.new.pass
-    (adds_weaker silent_rule c.args.table.now is_saying is_talking c.args.pass.now c.speak.new.pass say_talks c.speak.ensures.adds) c.listen.ensures.adds
+    c.speak.ensures.adds c.listen.ensures.adds
 
 idle : (g : Over) (c : goal.After-listen g) → c.speak.result ≡ Ok false
 idle g c = c.in-Ok-false.is ∙ ap Ok c.in-Ok-false.field-0-test
@@ -41,4 +40,7 @@ returns-in-Ok-false-clause-stopped g c = on_err_with _ c.listen.result (λ _. λ
     ))
 
 pub returns-in-Err-clause-adds : goal.returns-in-Err-clause-adds
-returns-in-Err-clause-adds g c = adds_weaker silent_rule c.args.table.now is_saying is_talking c.args.pass.now c.speak.new.pass say_talks c.speak.ensures.adds
+returns-in-Err-clause-adds g c = c.speak.ensures.adds
+
+pub returns-in-Err-clause-stopped : goal.returns-in-Err-clause-stopped
+returns-in-Err-clause-stopped g c = λ opening far start items early t. (unknown, c.in-Err.ensures.stopped opening far start items early t)

@@ -21,10 +21,10 @@ returns-in-None-clause-none g c = λ _ opening start upto items t.
 
 pub returns-in-Ok-clause-talks : goal.returns-in-Ok-clause-talks
 returns-in-Ok-clause-talks g c = λ opening all start upto items t.
-    talks_said g.W.Errand.watches opening c.args.table.now c.args.call (g.W.Errand.did c.args.errand.now all start upto) (g.W.Errand.did c.next_out.new.self unknown start upto) items c.in-Some.out
-    c.args.pass.now c.say.new.pass c.in-Some.ensures.speaks (λ cut events outs ended so. c.in-Some.ensures.some all start upto cut events outs ended so) c.in-Ok.ensures.said t
+    talks_said g.W.Errand.watches opening c.args.table.now c.args.call (g.W.Errand.did c.args.errand.now all start upto) (g.W.Errand.did c.next_out.new.self unknown start upto) items c.in-Some.utterance
+    c.args.pass.now c.utter.new.pass c.in-Some.ensures.completes (λ cut events outs ended so. c.in-Some.ensures.some all start upto cut events outs ended so) c.in-Ok.ensures.said t
 
 pub returns-in-Err-clause-talks : goal.returns-in-Err-clause-talks
 returns-in-Err-clause-talks g c = λ opening all start upto items t.
-    talks_unsaid g.W.Errand.watches opening c.args.table.now c.args.call (g.W.Errand.did c.args.errand.now all start upto) (g.W.Errand.did c.next_out.new.self unknown start upto) items c.in-Some.out
-    c.args.pass.now c.say.new.pass c.in-Some.ensures.speaks (λ cut events outs ended so. c.in-Some.ensures.some all start upto cut events outs ended so) c.in-Err.ensures.unsaid t
+    talks_unsaid g.W.Errand.watches opening c.args.table.now c.args.call (g.W.Errand.did c.args.errand.now all start upto) (g.W.Errand.did c.next_out.new.self unknown start upto) items c.in-Some.utterance
+    c.args.pass.now c.utter.new.pass c.in-Some.ensures.completes (λ cut events outs ended so. c.in-Some.ensures.some all start upto cut events outs ended so) c.in-Err.ensures.unsaid t

@@ -11,5 +11,5 @@ invoke-requires-clause-own g c = record { table = c.requires.new.pass.table; bas
 
 pub returns-in-Ok-clause-opens : goal.returns-in-Ok-clause-opens
 returns-in-Ok-clause-opens g c =
-    open_opens c.args.table.now c.args.pass.now c.invoke.new.pass c.requires.new c.args.name c.args.payload c.in-Ok.call
+    open_opens c.args.table.now c.args.pass.now c.invoke.new.pass c.requires.can.client c.requires.new c.args.name c.args.payload c.in-Ok.call
     (subst (λ result. Steps silent_rule c.args.table.now c.args.pass.now c.invoke.new.pass (λ set seat. InvokeDid set seat c.args.name c.args.payload empty_memo result)) c.in-Ok.is c.invoke.ensures.did)

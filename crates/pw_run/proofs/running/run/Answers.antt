@@ -10,16 +10,16 @@ returns-in-Some-Crew-clause-read g c =
 pub returns-in-Some-clause-words : goal.returns-in-Some-clause-words
 returns-in-Some-clause-words g c = (
   λ is. absurd (c.call.ensures.words (bad_words_of c.call.result (sym c.code.ensures ∙ is))),
-  λ none. absurd (call_there _ c.in-Some.words c.in-Some.ensures.some.0 c.in-Some.ensures.some.1 none.2),
+  λ none. absurd (call_there _ c.in-Some.words c.in-Some.ensures.some none.2),
 )
 
 pub returns-in-Some-clause-called : goal.returns-in-Some-clause-called
-returns-in-Some-clause-called g c = λ opening limit is.
-    let tells = call_tells _ c.in-Some.words opening limit c.in-Some.ensures.some.0 c.in-Some.ensures.some.1 is in (
+returns-in-Some-clause-called g c = λ opening limit within is.
+    let tells = call_tells _ c.in-Some.words opening limit within c.in-Some.ensures.some is in (
       c.call.result,
       c.code.ensures,
-      called_by opening limit c.in-Some.words.limit _ _ c.call.result tells.1 (c.call.ensures.did (g.I.Source.left c.args.input.now) opening tells.0),
+      called_by opening limit c.in-Some.words.limit within c.in-Some.words.within _ _ c.call.result tells.limit_is tells.within_is (c.call.ensures.did (g.I.Source.left c.args.input.now) opening tells.tells),
     )
 
 pub returns-in-None-clause-called : goal.returns-in-None-clause-called
-returns-in-None-clause-called g c = λ opening limit is. absurd (c.in_default.ensures.none opening limit is)
+returns-in-None-clause-called g c = λ opening limit within is. absurd (c.in_default.ensures.none opening limit within is)
