@@ -124,8 +124,8 @@ AreSaidOver set runs c h (given ∷ outs) says =
 abbrev pub AreSaid : Setting → ℕ → List Entry → List Given → List Utterance → Type 0
 AreSaid set c h outs says = AreSaidOver set (λ front. events_run set front c) c h outs says
 
--- ONE'S OWN WORDS COME FIRST. Of these, which were given before any event of call 0 was run, the first were said, in order; of the
--- others the table refused the first before any event was run, and so all.
+-- ONE'S OWN WORDS, none of which answers an event of call 0. The first of these were said, in order; of the others the table refused the
+-- first before any event was run, and so all.
 pub record SaysFirst (set : Setting) (h : List Entry) (given : List Utterance) : Type 0 where
   pub unsaid : List Utterance
   pub parts : given ≡ utterances_of h ++ unsaid

@@ -112,9 +112,9 @@ pub record TransferRan (method : MethodRef) {T : Type 0} (Ran : List Given → T
   pub now : T
   pub ran : Ran (outs ++ unsaid) now
 
--- A call that says these, and whose messages are told, up to a limit. It says them before it hears anything, each in its order; at a
--- halt the last may be unsaid. It is cancelled at the limit, or where the clock has gone on by so many milliseconds since its start,
--- and nowhere else, and has the status that this answered. Else it ends with the call.
+-- A call that says these, each in its order, and whose messages are told, up to a limit; at a halt the last may be unsaid. It is
+-- cancelled at the limit, or where the clock has gone on by so many milliseconds from its start to its end, and nowhere else, and has
+-- the status that the cancel answered. Else it ends with the call.
 pub record CallRan (method : MethodRef) (says : List Utterance) (limit : ℕ) (within : Option ℕ) (start end : ℕ) (l : Live) : Type 0 where
   pub given : List Utterance
   pub begins : IsPrefix given says
