@@ -7,6 +7,7 @@ mod Examples
 mod Flags
 pub mod Headers
 mod Tables
+mod TextRuns
 mod Texts
 pub mod Machines
 pub mod Numbers

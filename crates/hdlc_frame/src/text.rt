@@ -1,11 +1,11 @@
 //! The text between two flags, and the content that it stands for (RFC 1662, section 4.2).
 
-ghost use Rattle.std.specs.Prelude.{◌≡◌, ◌+◌, ◌≤◌, ◌==◌, ◌||◌, length, take, ◌++◌, ◌∷◌, [], OnOk, List, ℕ};
+ghost use Rattle.std.specs.Prelude.{◌≡◌, ◌<◌, ◌+◌, ◌≤◌, ◌==◌, ◌||◌, length, take, ◌++◌, ◌∷◌, [], OnOk, IfOk, List, ℕ};
 ghost use Rattle.hdlc_frame.specs.Encoded.{text_of, text_of_octet};
 ghost use Rattle.hdlc_frame.specs.Laid.{Lays};
 ghost use Rattle.hdlc_frame.specs.Steps.{Unescapes};
 
-use crate::octets::{ESCAPE, ESCAPE_BIT, FLAG};
+use crate::octets::{ESCAPE, ESCAPE_BIT, FLAG, ordinary_len};
 use std::alloc::AllocError;
 
 /// Writes what `octets` stand for behind the first `len` octets of `buffer`, one at a time, while escapes are close
@@ -57,10 +57,28 @@ pub(crate) fn push_text(content: &[u8], out: &mut Vec<u8>) -> Result<(), AllocEr
     ensures ok { OnOk result (out.new.items ≡ out.old.items ++ text_of content.now) }
     ensures kept { (more : List ℕ) × (out.new.items ≡ out.old.items ++ more) }
 {
-    for octet in content {
-        push_octet(*octet, out)?;
+    let mut done = 0;
+    'runs: while done < content.len() {
+        done += push_run(&content[done..], out)?;
     }
     Ok(())
+}
+
+// Appends the text of the octets up to and with the first one that is escaped, else of all. Answers how many those are.
+fn push_run(content: &[u8], out: &mut Vec<u8>) -> Result<usize, AllocError>
+    requires more { 0 < length content.now }
+    ensures taken { IfOk result (λ n. (0 < n) × (n ≤ length content.now)) }
+    ensures ok { IfOk result (λ n. out.new.items ≡ out.old.items ++ text_of (take n content.now)) }
+    ensures kept { (more : List ℕ) × (out.new.items ≡ out.old.items ++ more) }
+{
+    let run = ordinary_len(content);
+    out.extend_from_slice(&content[..run])?;
+    if run == content.len() {
+        return Ok(run);
+    }
+    let octet = content[run];
+    push_octet(octet, out)?;
+    Ok(run + 1)
 }
 
 fn needs_escape(octet: u8) -> bool
