@@ -49,7 +49,7 @@ impl Outs {
     }
 }
 
-/// The numbers of a state, in order. It is one pointer, since each entry of a journal has room for a state.
+/// The numbers of a state, in order. It is two words long, since each entry of a journal has room for a state.
 #[derive(Clone, Debug, Drop)]
 pub struct Words {
     words: Option<Box<Vec<u64>>>,
@@ -92,7 +92,7 @@ impl Words {
     }
 }
 
-/// The texts of a state, in order. It is one pointer, as `Words` is.
+/// The texts of a state, in order. It is as short as `Words`.
 #[derive(Clone, Debug, Drop)]
 pub struct Parts {
     parts: Option<Box<Vec<Bytes>>>,
