@@ -1,6 +1,7 @@
 -- The words of a call tell one opening.
-use Rattle.std.proofs.Common.{◌≡◌, ℕ, zero, suc, ◌<◌, ◌≤◌, false, List, [], ◌∷◌, ◌++◌, All, length, map, slice_get, string_bytes, codes, Option, Some, None, unwrap_or, refl, ap, ap₂, sym, ◌∙◌, subst, inl, inr, arith}
+use Rattle.std.proofs.Common.{◌≡◌, ℕ, zero, suc, ◌<◌, ◌≤◌, false, List, [], ◌∷◌, ◌++◌, ◌+◌, All, length, map, take, get_or, string_bytes, String, Global, codes, Option, Some, None, IfNone, unwrap_or, refl, ap, ap₂, sym, ◌∙◌, subst, inl, inr, arith}
 use Rattle.std.proofs.lemmas.Bool.{le-ltb, true≢false}
+use Rattle.std.proofs.lemmas.List.{map-append, take_more}
 use Rattle.std.proofs.lemmas.List.Elements.{All-cons, All-nil}
 use Rattle.rpc_ids.specs.declared.method.Kind.{Kind}
 use Rattle.rpc_ids.specs.declared.method.Kind.TheVariants.{Unary, ServerStream, ClientStream, Bidi}
@@ -16,7 +17,7 @@ use Rattle.pw_run.specs.declared.call_words.CallWords.{CallWords}
 use Rattle.pw_run.specs.declared.call_words.TheConstants.{MAX_WITHIN}
 use Rattle.pw_run.specs.declared.outcome.Outcome.{Outcome}
 use Rattle.pw_run.specs.declared.outcome.Outcome.TheVariants.{BadLine, BadWords, Done, FrameLimit, InputLimit, JournalLimit, LinkFault, NoMemory, NotOkay, SinkFault, SourceFault, StoreFault}
-use Rattle.pw_run.specs.CallCommand.{AreCall, AsksForCall, CanCall, DidCall, IsBehind, IsCall, IsNoCall, TellEach, TellsOpening, first_of, messages_of, request_of}
+use Rattle.pw_run.specs.CallCommand.{AreCall, AsksForCall, CanCall, DidCall, FitsKind, IsBehind, IsCall, IsNoCall, TellEach, TellsOpening, first_of, messages_of, request_of}
 use Rattle.pw_run.specs.Devices.{Devices}
 use Rattle.pw_run.specs.Live.{MakesLinks}
 use Rattle.pw_run.specs.MethodId.{IsId}
@@ -50,11 +51,31 @@ told_length (word ∷ words) [] tells = absurd tells
 told_length (word ∷ words) (b ∷ told) tells = let rest = told_length words told tells.1 in omega (arith, rest)
 
 -- one of them
-pub told_at : (words told : List (List ℕ)) (i : ℕ) (word : List ℕ) → TellEach words told → slice_get words i ≡ Some word → (bytes : List ℕ) × IsPayload word bytes × (slice_get told i ≡ Some bytes)
-told_at [] told i word tells there = absurd (cc there)
-told_at (w ∷ words) [] i word tells there = absurd tells
-told_at (w ∷ words) (b ∷ told) zero word tells there = let same : w ≡ word = cc there in (b, subst (λ x. IsPayload x b) same tells.0, refl)
-told_at (w ∷ words) (b ∷ told) (suc i) word tells there = told_at words told i word tells.1 there
+pub word_tells : (ws : List (String Global)) (told : List (List ℕ)) (i : ℕ) (d : String Global) → i < length ws → TellEach (map string_bytes ws) told → (bytes : List ℕ) × IsPayload (string_bytes (get_or ws i d)) bytes
+word_tells [] told i d below tells = absurd (omega (arith, below))
+word_tells (w ∷ ws) [] i d below tells = absurd tells
+word_tells (w ∷ ws) (b ∷ told) zero d below tells = (b, tells.0)
+word_tells (w ∷ ws) (b ∷ told) (suc i) d below tells = word_tells ws told i d (omega (arith, below)) tells.1
+
+-- one more
+pub tell_next : (ws : List (String Global)) (told : List (List ℕ)) (i : ℕ) (d : String Global) (bytes : List ℕ) → i < length ws → TellEach (map string_bytes (take i ws)) told → IsPayload (string_bytes (get_or ws i d)) bytes
+    → TellEach (map string_bytes (take (i + 1) ws)) (told ++ bytes ∷ [])
+tell_next ws told i d bytes below tells one =
+    subst (λ xs. TellEach (map string_bytes xs) (told ++ bytes ∷ [])) (sym (take_more ws i d below))
+    (subst (λ xs. TellEach xs (told ++ bytes ∷ [])) (sym (map-append string_bytes (take i ws) (get_or ws i d ∷ [])))
+    (tell_more (map string_bytes (take i ws)) told (string_bytes (get_or ws i d)) bytes tells one))
+
+-- the first, of a method that takes one
+pub one_word : (kind : Kind) (count : ℕ) → streams_up kind ≡ false → FitsKind kind count → count ≡ 1
+one_word Unary count quiet fits = fits
+one_word ServerStream count quiet fits = fits
+one_word ClientStream count quiet fits = absurd (true≢false quiet)
+one_word Bidi count quiet fits = absurd (true≢false quiet)
+
+pub first_tells : (ws : List (String Global)) (told : List (List ℕ)) (d : String Global) → 0 < length ws → TellEach (map string_bytes ws) told → IsPayload (string_bytes (get_or ws 0 d)) (first_of told)
+first_tells [] told d some tells = absurd (omega (arith, some))
+first_tells (w ∷ ws) [] d some tells = absurd tells
+first_tells (w ∷ ws) (b ∷ told) d some tells = tells.0
 
 -- a word that is no payload ends none of them
 no_name : (word : List ℕ) → (word ≡ codes "-" → ⊥) → are_digits word ≡ false → (bytes : List ℕ) → IsPayload word bytes → ⊥
@@ -86,10 +107,10 @@ pub record BehindSame (payloads payloads' : List (List ℕ)) (limit limit' withi
 pub behind_same : (kind kind' : Kind) (words payloads payloads' : List (List ℕ)) (limit limit' within within' : Option ℕ) → IsBehind kind words payloads limit within → IsBehind kind' words payloads' limit' within' → BehindSame payloads payloads' limit limit' within within'
 behind_same kind kind' words payloads payloads' limit limit' within within' first second =
     let outer =
-    named_same (codes "within") MAX_WITHIN (payloads ++ named_number (codes "limit") limit) (payloads' ++ named_number (codes "limit") limit') within within'
+    named_same (codes "within") MAX_WITHIN (payloads ++ named_number (codes "limit") limit) (payloads' ++ named_number (codes "limit") limit') within within' (omega arith)
     (no_within payloads first.told limit first.tell) (no_within payloads' second.told limit' second.tell) first.timed second.timed (sym first.spelled ∙ second.spelled) in
     let inner =
-    named_same (codes "limit") MAX_MESSAGES payloads payloads' limit limit' (no_limit payloads first.told first.tell) (no_limit payloads' second.told second.tell) first.limited second.limited outer.front_is in
+    named_same (codes "limit") MAX_MESSAGES payloads payloads' limit limit' (omega arith) (no_limit payloads first.told first.tell) (no_limit payloads' second.told second.tell) first.limited second.limited outer.front_is in
     record { payloads_are = inner.front_is; limit_is = inner.number_is; within_is = outer.number_is }
 
 -- ---- one opening
@@ -119,7 +140,13 @@ messages_short ServerStream words told tells = All-nil (λ message. is_long mess
 messages_short ClientStream words told tells = each_short words told tells
 messages_short Bidi words told tells = each_short words told tells
 
-messages_quiet : (kind : Kind) (told : List (List ℕ)) → streams_up kind ≡ false → messages_of kind told ≡ []
+pub request_first : (kind : Kind) (told : List (List ℕ)) → streams_up kind ≡ false → request_of kind told ≡ first_of told
+request_first Unary told quiet = refl
+request_first ServerStream told quiet = refl
+request_first ClientStream told quiet = absurd (true≢false quiet)
+request_first Bidi told quiet = absurd (true≢false quiet)
+
+pub messages_quiet : (kind : Kind) (told : List (List ℕ)) → streams_up kind ≡ false → messages_of kind told ≡ []
 messages_quiet Unary told quiet = refl
 messages_quiet ServerStream told quiet = refl
 messages_quiet ClientStream told quiet = absurd (true≢false quiet)
@@ -188,6 +215,25 @@ opening_same a b service method kind payload messages =
     ∙ (ap (λ x. record { service = b.service; method = b.method; kind = x; payload = a.payload; messages = a.messages }) kind
     ∙ (ap (λ x. record { service = b.service; method = b.method; kind = b.kind; payload = x; messages = a.messages }) payload
     ∙ ap (λ x. record { service = b.service; method = b.method; kind = b.kind; payload = b.payload; messages = x }) messages)))
+
+-- ---- words that are none
+
+pub no_service : (path service method kind : List ℕ) (rest : List (List ℕ)) → ((id : ℕ) → IsId service id → ⊥) → IsNoCall (codes "call" ∷ path ∷ service ∷ method ∷ kind ∷ rest)
+no_service path service method kind rest none opening limit within is = none opening.service (subst (λ word. IsId word opening.service) (cc (sym is.spelled)) is.service_is)
+
+pub no_method : (path service method kind : List ℕ) (rest : List (List ℕ)) → ((id : ℕ) → IsId method id → ⊥) → IsNoCall (codes "call" ∷ path ∷ service ∷ method ∷ kind ∷ rest)
+no_method path service method kind rest none opening limit within is = none opening.method (subst (λ word. IsId word opening.method) (cc (sym is.spelled)) is.method_is)
+
+pub no_behind : (path service method word : List ℕ) (rest : List (List ℕ)) (kind : Kind) → word ≡ kind_name kind → ((payloads : List (List ℕ)) (limit within : Option ℕ) → IsBehind kind rest payloads limit within → ⊥)
+    → IsNoCall (codes "call" ∷ path ∷ service ∷ method ∷ word ∷ rest)
+no_behind path service method word rest kind named none opening limit within is =
+    let same : kind_name opening.kind ≡ kind_name kind = cc (is.spelled, named) in
+    let rests : is.rest ≡ rest = cc (sym is.spelled) in
+    none is.payloads limit within (subst (λ k. IsBehind k rest is.payloads limit within) (kind_same opening.kind kind same) (subst (λ words. IsBehind opening.kind words is.payloads limit within) rests is.behind))
+
+pub if_none : {A X : Type 0} (o : Option A) → X → IfNone o X
+if_none None x = x
+if_none (Some a) x = tt
 
 -- a word tells one id
 id_same : (word : List ℕ) (a b : ℕ) → IsId word a → IsId word b → a ≡ b

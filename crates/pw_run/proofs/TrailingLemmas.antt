@@ -1,6 +1,7 @@
 -- A name and a number behind further words are found.
-use Rattle.std.proofs.Common.{◌≡◌, ℕ, zero, suc, ◌+◌, ◌<◌, ◌≤◌, List, [], ◌∷◌, ◌++◌, length, take, drop, slice_get, get_or, Option, Some, None, refl, ap, ap₂, sym, ◌∙◌, subst, arith, length-append}
-use Rattle.std.proofs.lemmas.List.{append-nil}
+use Rattle.std.proofs.Common.{◌≡◌, ℕ, ◌+◌, ◌-◌, ◌<◌, ◌≤◌, Bool, true, false, not, List, [], ◌∷◌, ◌++◌, ◌^◌, length, map, string_bytes, String, Global, take, drop, get_or, Option, Some, None, refl, ap, ap₂, sym, ◌∙◌, subst, arith, append_assoc, length-append}
+use Rattle.std.proofs.lemmas.Bool.{true≢false}
+use Rattle.std.proofs.lemmas.List.{append-nil, get_or-map, length-map, map-append, take_all, take_more}
 use Rattle.std.proofs.lemmas.Fmt.{decimal_injective}
 use Rattle.std.specs.Fmt.{decimal}
 use Rattle.pw_run.specs.Trailing.{EndsOtherwise, EndsWithName, IsUpTo, named_number}
@@ -46,14 +47,14 @@ some_behind name last words front front' (Some n) ends is other =
     record { front_is = two.front; n = n; number_is = refl; last_is = two.second }
 
 -- a name and a number behind words that don't end so are one
-pub named_same : (name : List ℕ) (most : ℕ) (front front' : List (List ℕ)) (number number' : Option ℕ) → EndsOtherwise name front → EndsOtherwise name front' → IsUpTo most number → IsUpTo most number'
+pub named_same : (name : List ℕ) (most : ℕ) (front front' : List (List ℕ)) (number number' : Option ℕ) → most < 2 ^ 32 → EndsOtherwise name front → EndsOtherwise name front' → IsUpTo most number → IsUpTo most number'
     → front ++ named_number name number ≡ front' ++ named_number name number' → Found front front' number number'
-named_same name most front front' None None first second up up' is = record { front_is = sym (append-nil front) ∙ (is ∙ append-nil front'); number_is = refl }
-named_same name most front front' None (Some n) first second up up' is = absurd (first front' (decimal n) (sym (append-nil front) ∙ is))
-named_same name most front front' (Some m) None first second up up' is = absurd (second front (decimal m) (sym (append-nil front') ∙ sym is))
-named_same name most front front' (Some m) (Some n) first second up up' is =
+named_same name most front front' None None small first second up up' is = record { front_is = sym (append-nil front) ∙ (is ∙ append-nil front'); number_is = refl }
+named_same name most front front' None (Some n) small first second up up' is = absurd (first front' (decimal n) (sym (append-nil front) ∙ is))
+named_same name most front front' (Some m) None small first second up up' is = absurd (second front (decimal m) (sym (append-nil front') ∙ sym is))
+named_same name most front front' (Some m) (Some n) small first second up up' is =
     let two = two_last front front' name (decimal m) name (decimal n) is in
-    record { front_is = two.front; number_is = ap Some (decimal_injective m n (omega (arith, up.0)) (omega (arith, up'.0)) two.second) }
+    record { front_is = two.front; number_is = ap Some (decimal_injective m n (omega (arith, up.1, small)) (omega (arith, up'.1, small)) two.second) }
 
 -- behind another name and its number the words don't end with this name
 pub otherwise : (name other : List ℕ) (front : List (List ℕ)) (number : Option ℕ) → (other ≡ name → ⊥) → EndsOtherwise name front → EndsOtherwise name (front ++ named_number other number)
@@ -62,30 +63,43 @@ otherwise name other front (Some n) apart so f last is = apart (two_last front f
 
 -- ---- a list by its items
 
-pub last_are : {A : Type 0} (xs : List A) (n : ℕ) (a b : A) → length xs ≡ n + 2 → slice_get xs n ≡ Some a → slice_get xs (n + 1) ≡ Some b → xs ≡ take n xs ++ a ∷ b ∷ []
-last_are [] n a b many first second = absurd (omega (arith, many))
-last_are (x ∷ []) zero a b many first second = absurd (omega (arith, many))
-last_are (x ∷ y ∷ []) zero a b many first second = let left : x ≡ a = cc first in let right : y ≡ b = cc second in ap (λ z. z ∷ y ∷ []) left ∙ ap (λ z. a ∷ z ∷ []) right
-last_are (x ∷ y ∷ z ∷ xs) zero a b many first second = absurd (omega (arith, many))
-last_are (x ∷ xs) (suc n) a b many first second = ap (λ ys. x ∷ ys) (last_are xs n a b (omega (arith, many)) first second)
+pub last_are : {A : Type 0} (xs : List A) (n : ℕ) (a b : A) → length xs ≡ n + 2 → a ≡ get_or xs n a → b ≡ get_or xs (n + 1) b → xs ≡ take n xs ++ a ∷ b ∷ []
+last_are xs n a b many first second =
+    sym (take_all ((n + 1) + 1) xs (omega (arith, many)))
+    ∙ (take_more xs (n + 1) b (omega (arith, many))
+    ∙ (ap (λ ys. ys ++ get_or xs (n + 1) b ∷ []) (take_more xs n a (omega (arith, many)))
+    ∙ (append_assoc (take n xs) (get_or xs n a ∷ []) (get_or xs (n + 1) b ∷ [])
+    ∙ ap₂ (λ u v. take n xs ++ u ∷ v ∷ []) (sym first) (sym second))))
+
+pub ends_so : (name last : List ℕ) (ws : List (String Global)) (n : ℕ) (a b : String Global) → length ws ≡ n + 2 → a ≡ get_or ws n a → b ≡ get_or ws (n + 1) b → string_bytes a ≡ name → string_bytes b ≡ last
+    → EndsWithName name (map string_bytes (take n ws)) last (map string_bytes ws)
+ends_so name last ws n a b many first second is same =
+    ap (map string_bytes) (last_are ws n a b many first second)
+    ∙ (map-append string_bytes (take n ws) (a ∷ b ∷ []) ∙ ap₂ (λ u v. map string_bytes (take n ws) ++ u ∷ v ∷ []) is same)
 
 pub few_otherwise : (name : List ℕ) (words : List (List ℕ)) → length words < 2 → EndsOtherwise name words
 few_otherwise name words few front last is = let n = ap length is in omega (arith, n, few, length-append front (name ∷ last ∷ []))
 
-there_is : {A : Type 0} (front : List A) (a b : A) → slice_get (front ++ a ∷ b ∷ []) (length front) ≡ Some a
-there_is [] a b = refl
-there_is (x ∷ front) a b = there_is front a b
+there_is : {A : Type 0} (front : List A) (a b d : A) → get_or (front ++ a ∷ b ∷ []) (length front) d ≡ a
+there_is [] a b d = refl
+there_is (x ∷ front) a b d = there_is front a b d
 
-pub other_otherwise : (name word : List ℕ) (words : List (List ℕ)) (n : ℕ) → length words ≡ n + 2 → slice_get words n ≡ Some word → (word ≡ name → ⊥) → EndsOtherwise name words
-other_otherwise name word words n many there apart front last is =
+pub other_otherwise : (name : List ℕ) (ws : List (String Global)) (n : ℕ) (d : String Global) → length ws ≡ n + 2 → (string_bytes (get_or ws n d) ≡ name → ⊥) → EndsOtherwise name (map string_bytes ws)
+other_otherwise name ws n d many apart front last is =
     let count = ap length is in
-    let same : length front ≡ n = omega (arith, count, many, length-append front (name ∷ last ∷ [])) in
-    apart (cc (sym there ∙ (ap (λ ws. slice_get ws n) is ∙ subst (λ k. slice_get (front ++ name ∷ last ∷ []) k ≡ Some name) same (there_is front name last))))
+    let same : length front ≡ n = omega (arith, count, many, length-append front (name ∷ last ∷ []), length-map ws string_bytes) in
+    apart
+    (sym (get_or-map string_bytes ws n d (string_bytes d) (omega (arith, many)))
+    ∙ (ap (λ ws. get_or ws n (string_bytes d)) is ∙ subst (λ k. get_or (front ++ name ∷ last ∷ []) k (string_bytes d) ≡ name) same (there_is front name last (string_bytes d))))
 
-pub five_are : {A : Type 0} (xs : List A) (a b c d e : A) → 5 ≤ length xs → a ≡ get_or xs 0 a → b ≡ get_or xs 1 b → c ≡ get_or xs 2 c → d ≡ get_or xs 3 d → e ≡ get_or xs 4 e → xs ≡ a ∷ b ∷ c ∷ d ∷ e ∷ drop 5 xs
+pub not_false : (b : Bool) → not b ≡ false → b ≡ true
+not_false true is = refl
+not_false false is = absurd (true≢false is)
+
+pub five_are : {A : Type 0} (xs : List A) (a b c d e : A) → 5 ≤ length xs → a ≡ get_or xs 0 a → b ≡ get_or xs 1 b → c ≡ get_or xs 2 c → d ≡ get_or xs 3 d → e ≡ get_or xs 4 e → xs ≡ a ∷ b ∷ c ∷ d ∷ e ∷ take (length xs - 5) (drop 5 xs)
 five_are [] a b c d e low ea eb ec ed ee = absurd (omega arith)
 five_are (x0 ∷ []) a b c d e low ea eb ec ed ee = absurd (omega arith)
 five_are (x0 ∷ x1 ∷ []) a b c d e low ea eb ec ed ee = absurd (omega arith)
 five_are (x0 ∷ x1 ∷ x2 ∷ []) a b c d e low ea eb ec ed ee = absurd (omega arith)
 five_are (x0 ∷ x1 ∷ x2 ∷ x3 ∷ []) a b c d e low ea eb ec ed ee = absurd (omega arith)
-five_are (x0 ∷ x1 ∷ x2 ∷ x3 ∷ x4 ∷ xs) a b c d e low ea eb ec ed ee = ap₂ ◌∷◌ (sym ea) (ap₂ ◌∷◌ (sym eb) (ap₂ ◌∷◌ (sym ec) (ap₂ ◌∷◌ (sym ed) (ap₂ ◌∷◌ (sym ee) refl))))
+five_are (x0 ∷ x1 ∷ x2 ∷ x3 ∷ x4 ∷ xs) a b c d e low ea eb ec ed ee = ap₂ ◌∷◌ (sym ea) (ap₂ ◌∷◌ (sym eb) (ap₂ ◌∷◌ (sym ec) (ap₂ ◌∷◌ (sym ed) (ap₂ ◌∷◌ (sym ee) (sym (take_all (length (x0 ∷ x1 ∷ x2 ∷ x3 ∷ x4 ∷ xs) - 5) xs (omega arith)))))))

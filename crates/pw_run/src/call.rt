@@ -16,7 +16,8 @@ use crate::payload::read_payload;
 use bytes::Bytes;
 use link_io::{Clock, Linker, Sink, Store};
 use live_client::{LiveAsk, MAX_MESSAGES, Messages, Opening};
-use rpc_ids::Kind;
+use rpc_ids::{Kind, Role};
+use rpc_journal::streams_out;
 use std::alloc::{AllocError, Global};
 use std::sync::Wait;
 use std::thread::Threads;
@@ -91,15 +92,13 @@ fn said_of(alloc: Global, kind: Kind, words: &[String]) -> Result<(Bytes, Messag
     requires { (told : List (List ℕ)) × TellEach (map string_bytes words.now) told × FitsKind kind (length told) }
     ensures { IfOk result (λ said. (told : List (List ℕ)) → TellEach (map string_bytes words.now) told → (said.0 ≡ request_of kind told) × (said.1 ≡ told_messages kind told)) }
 {
-    match kind {
-        Kind::Unary | Kind::ServerStream => {
-            Ok((
-                read_payload(alloc, words[0].as_str())?,
-                Messages::new(alloc),
-            ))
-        }
-        Kind::ClientStream | Kind::Bidi => Ok((Bytes::new(), messages_of(alloc, words)?)),
+    if streams_out(Role::Client, kind) {
+        return Ok((Bytes::new(), messages_of(alloc, words)?));
     }
+    Ok((
+        read_payload(alloc, words[0].as_str())?,
+        Messages::new(alloc),
+    ))
 }
 
 // The messages that these words tell.

@@ -109,7 +109,10 @@ fn said_behind<'a>(kind: Kind, words: &'a [String]) -> Option<Said<'a>>
 {
     let (limited, within) = number_behind(words, "within", MAX_WITHIN)?;
     let (payloads, limit) = number_behind(limited, "limit", MAX_MESSAGES)?;
-    if !fits_kind(kind, payloads.len()) || !tell_each(payloads) {
+    if !fits_kind(kind, payloads.len()) {
+        return None;
+    }
+    if !tell_each(payloads) {
         return None;
     }
     Some(Said {
