@@ -13,12 +13,14 @@ pub(crate) const ROUND: u64 = 2;
 #[derive(Drop)]
 pub(crate) struct Signal {
     rings: AtomicU64,
+    waiting: AtomicU64,
 }
 
 impl Signal {
     pub fn new() -> Signal {
         Signal {
             rings: AtomicU64::new(0),
+            waiting: AtomicU64::new(0),
         }
     }
 
@@ -27,15 +29,24 @@ impl Signal {
         (self.rings.load(Ordering::SeqCst) % 4_294_967_296) as u32
     }
 
+    /// Rings, and wakes the thread that sleeps. Where none does, that is no call of the system.
     pub fn ring(&self) {
         self.rings.fetch_add(1, Ordering::SeqCst);
-        self.rings.wake_one();
+        if self.waiting.load(Ordering::SeqCst) != 0 {
+            self.rings.wake_one();
+        }
     }
 
-    /// Sleeps while the count is this one, for so many milliseconds at most.
+    /// Sleeps while the count is this one, for so many milliseconds at most. Where it is another one already, that is no call of the
+    /// system.
     pub fn wait_for<R: Wait>(&self, rt: &R, heard: u32, millis: u64) {
+        if self.rings() != heard {
+            return;
+        }
+        self.waiting.fetch_add(1, Ordering::SeqCst);
         self.rings
             .park_timeout(rt, heard, Duration::from_millis(millis));
+        self.waiting.fetch_sub(1, Ordering::SeqCst);
     }
 }
 

@@ -1,4 +1,5 @@
 //! A bell for threads that have nothing to do.
+ghost use Rattle.std.specs.Prelude.{◌≡◌, ◌<◌, ◌≤◌};
 
 use std::sync::Wait;
 use std::sync::atomic::{AtomicU64, Ordering};
@@ -26,24 +27,36 @@ impl Bell {
         (self.rings.load(Ordering::SeqCst) % 4_294_967_296) as u32
     }
 
-    /// Rings for one of those who wait.
-    pub fn ring_for_one(&self) {
+    /// Rings for so many of those who wait.
+    pub fn ring_for(&self, count: u32) -> Rung {
         self.rings.fetch_add(1, Ordering::SeqCst);
-        if self.waiting.load(Ordering::SeqCst) != 0 {
+        let waiting = self.waiting.load(Ordering::SeqCst);
+        if waiting <= u64::from(count) {
+            if waiting != 0 {
+                self.rings.wake_all();
+            }
+            return Rung { _private: () };
+        }
+        for _ in 0..count {
             self.rings.wake_one();
         }
+        Rung { _private: () }
     }
 
     /// Rings for all who wait.
-    pub fn ring(&self) {
+    pub fn ring(&self) -> Rung {
         self.rings.fetch_add(1, Ordering::SeqCst);
         if self.waiting.load(Ordering::SeqCst) != 0 {
             self.rings.wake_all();
         }
+        Rung { _private: () }
     }
 
-    /// Sleeps while the count is this one.
+    /// Sleeps while the count is this one. Where it is another one already, that is no call of the system.
     pub fn wait<R: Wait>(&self, rt: &R, heard: u32) {
+        if self.rings() != heard {
+            return;
+        }
         self.waiting.fetch_add(1, Ordering::SeqCst);
         self.rings.park(rt, heard);
         self.waiting.fetch_sub(1, Ordering::SeqCst);
@@ -51,10 +64,51 @@ impl Bell {
 
     /// The same, for so many milliseconds at most.
     pub fn wait_for<R: Wait>(&self, rt: &R, heard: u32, millis: u64) {
+        if self.rings() != heard {
+            return;
+        }
         self.waiting.fetch_add(1, Ordering::SeqCst);
         self.rings
             .park_timeout(rt, heard, Duration::from_millis(millis));
         self.waiting.fetch_sub(1, Ordering::SeqCst);
+    }
+}
+
+/// A bell was rung. Only a bell makes one.
+#[derive(Clone, Copy, Debug)]
+pub(crate) struct Rung {
+    _private: (),
+}
+
+/// For how many threads something was done since a bell was last rung for them. A thread that rings once for a burst owes so many
+/// rings in between; it owes none before it waits.
+#[derive(Clone, Copy, Debug)]
+pub(crate) struct Owed {
+    pub rings: u32,
+}
+
+impl Owed {
+    /// None.
+    pub fn none() -> Owed
+        ensures { result.rings ≡ 0 }
+    {
+        Owed { rings: 0 }
+    }
+
+    /// So many more.
+    pub fn add(&mut self, count: u32)
+        requires { 0 < count }
+        ensures owed { 0 < self.new.rings }
+        ensures more { self.old.rings ≤ self.new.rings }
+    {
+        self.rings = self.rings.saturating_add(count);
+    }
+
+    /// The bell was rung for all of them.
+    pub fn pay(&mut self, _rung: Rung)
+        ensures { self.new.rings ≡ 0 }
+    {
+        self.rings = 0;
     }
 }
 

@@ -1,5 +1,5 @@
 //! The pump: it tells the table the time, and takes what goes out to the ring.
-ghost use Rattle.std.specs.Prelude.{◌≡◌, ℕ, ◌+◌, ◌<◌, ◌≤◌, true, false, [], ◌∷◌, ◌++◌, Some, None, is_some, IfOk, OnOk, OnErr};
+ghost use Rattle.std.specs.Prelude.{◌≡◌, ◌⊎◌, ℕ, ◌+◌, ◌<◌, ◌≤◌, true, false, [], ◌∷◌, ◌++◌, Some, None, is_some, IfOk, OnOk, OnErr};
 ghost use Rattle.rpc_journal.specs.Items.{flushes, moments};
 ghost use Rattle.rtrb.specs.Ring.{SameProducer, sent};
 ghost use Rattle.rtrb.specs.declared.errors.PushError.TheVariants.{Full};
@@ -10,7 +10,7 @@ ghost use Rattle.rpc_shared.specs.session.Sessions.{AreSpaced, TicksInTime, is_h
 ghost use Rattle.rpc_shared.specs.declared.session.parcel.Parcel.{Parcel};
 ghost use Rattle.rpc_shared.specs.declared.session.parcel.Parcel.TheVariants.{End};
 
-use crate::bell::Bell;
+use crate::bell::{Bell, Bells, Owed};
 use crate::halting::{Halted, halt};
 use crate::table::Table;
 use link_io::{Clock, Why};
@@ -27,6 +27,9 @@ pub(crate) const TICK: u64 = 500;
 // The pump waits so many milliseconds at most before it asks the clock again. So a Tick comes 2 ms late at most, a thousand rounds
 // take about 2 s, and a pump that finds nothing to do takes less than a hundredth of a processor.
 const ROUND: u64 = 2;
+
+// The pump rings for the writer once it has flushed all that waits, and within a burst once for so many parcels.
+const BURST: u32 = 32;
 
 /// The pump is done: the end is in the ring, or the table is halted.
 #[derive(Clone, Copy, Debug)]
@@ -55,13 +58,17 @@ pub(crate) fn pump<H: Handler, C: Clock, R: Wait>(
     shared.bells().begun.ring();
     let mut ticked = began;
     let mut hand = None;
+    let mut owed = Owed::none();
     for _ in rt.forever() {
         if tick(rt, shared, pass, clock, &mut ticked).is_err() {
             return;
         }
-        match go_on(rt, shared, pass, ring, hand) {
+        match go_on(rt, shared, pass, ring, hand, &mut owed) {
             Ok(next) => hand = next,
             Err(_) => return,
+        }
+        if owed.rings >= BURST {
+            owed.pay(shared.bells().writer.ring());
         }
     }
     unreachable!()
@@ -111,6 +118,7 @@ fn go_on<H: Handler, R: Wait>(
     pass: &mut Pass<H>,
     ring: &mut Producer<Parcel>,
     hand: Option<Parcel>,
+    owed: &mut Owed,
 ) -> Result<Option<Parcel>, Ended>
     requires pumps { Pumps H.rule shared.now (sent ring.old) hand pass.old }
     ensures same { IsSame pass.old pass.new }
@@ -120,8 +128,8 @@ fn go_on<H: Handler, R: Wait>(
     ensures ended { OnErr result (PumpEnded H.rule shared.now (sent ring.new) pass.new) }
 {
     match hand {
-        None => flush(rt, shared, pass, ring),
-        Some(parcel) => offer(rt, shared, pass, ring, parcel),
+        None => flush(rt, shared, pass, ring, owed),
+        Some(parcel) => offer(rt, shared, pass, ring, parcel, owed),
     }
 }
 
@@ -131,6 +139,7 @@ fn flush<H: Handler, R: Wait>(
     shared: &Table<H>,
     pass: &mut Pass<H>,
     ring: &mut Producer<Parcel>,
+    owed: &mut Owed,
 ) -> Result<Option<Parcel>, Ended>
     requires pumps { Pumps H.rule shared.now (sent ring.old) None pass.old }
     ensures same { IsSame pass.old pass.new }
@@ -141,20 +150,34 @@ fn flush<H: Handler, R: Wait>(
 {
     let heard = shared.bells().pump.rings();
     match shared.flush_front(rt, pass) {
-        Some(item) => offer(rt, shared, pass, ring, Parcel::Put(item)),
-        None => rest(rt, shared, pass, ring, heard),
+        Some(item) => offer(rt, shared, pass, ring, Parcel::Put(item), owed),
+        None => {
+            pay(shared.bells(), owed);
+            rest(rt, shared, pass, ring, heard, owed)
+        }
     }
 }
 
-// Puts a parcel into the ring, or keeps it in the hand where the ring is full.
+// Rings for the writer, where parcels went into the ring since it was last rung for.
+fn pay(bells: &Bells, owed: &mut Owed)
+    ensures { owed.new.rings ≡ 0 }
+{
+    if owed.rings > 0 {
+        owed.pay(bells.writer.ring());
+    }
+}
+
+// Puts a parcel into the ring, for which the writer is owed a ring then; or keeps it in the hand where the ring is full.
 fn offer<H: Handler, R: Wait>(
     rt: &R,
     shared: &Table<H>,
     pass: &mut Pass<H>,
     ring: &mut Producer<Parcel>,
     parcel: Parcel,
+    owed: &mut Owed,
 ) -> Result<Option<Parcel>, Ended>
     requires pumps { Pumps H.rule shared.now (sent ring.old) (Some parcel) pass.old }
+    ensures owed { (sent ring.new ≡ sent ring.old) ⊎ (0 < owed.new.rings) }
     ensures same { IsSame pass.old pass.new }
     ensures mine { pass.new.view.known.mine ≡ pass.old.view.known.mine }
     ensures ring { SameProducer ring.old ring.new }
@@ -163,10 +186,19 @@ fn offer<H: Handler, R: Wait>(
 {
     match ring.push(parcel) {
         Ok(()) => {
-            shared.bells().writer.ring();
+            owed.add(1);
             Ok(None)
         }
-        Err(refused) => keep(rt, &shared.bells().pump, shared.look(rt, pass), refused),
+        Err(refused) => {
+            pay(shared.bells(), owed);
+            keep(
+                rt,
+                &shared.bells().pump,
+                shared.look(rt, pass),
+                refused,
+                owed,
+            )
+        }
     }
 }
 
@@ -177,7 +209,9 @@ fn keep<R: Wait>(
     bell: &Bell,
     look: Look,
     refused: PushError<Parcel>,
+    owed: &Owed,
 ) -> Result<Option<Parcel>, Ended>
+    requires paid { owed.now.rings ≡ 0 }
     ensures kept { IfOk result (λ hand. (parcel : Parcel) → refused ≡ Full parcel → hand ≡ Some parcel) }
     ensures halted { OnErr result (is_some look.halted ≡ true) }
 {
@@ -197,8 +231,10 @@ fn rest<H: Handler, R: Wait>(
     pass: &mut Pass<H>,
     ring: &mut Producer<Parcel>,
     heard: u32,
+    owed: &Owed,
 ) -> Result<Option<Parcel>, Ended>
     requires pumps { Pumps H.rule shared.now (sent ring.old) None pass.old }
+    requires paid { owed.now.rings ≡ 0 }
     ensures same { IsSame pass.old pass.new }
     ensures mine { pass.new.view.known.mine ≡ pass.old.view.known.mine }
     ensures ring { SameProducer ring.old ring.new }

@@ -15,7 +15,7 @@ ghost use Rattle.rpc_shared.specs.session.Crew.{Adds, Cut, Fed, HasRead, Reader,
 ghost use Rattle.rpc_shared.specs.session.Sessions.{is_halted};
 
 use crate::Gate;
-use crate::bell::Bell;
+use crate::bell::{Bell, Owed};
 use crate::halting::{Halted, halt};
 use crate::running::run;
 use crate::table::Table;
@@ -116,6 +116,7 @@ fn feed_stream<M: Maker, I: Source, R: Wait, G: Gate>(
     ensures later { I.faults input.old ≤ I.faults input.new }
 {
     let mut buffer = [0; PIECE];
+    let mut owed = Owed::none();
     let mut total = 0;
     'pieces: while total < INPUT_LIMIT {
         let room = PIECE.min(INPUT_LIMIT - total);
@@ -126,7 +127,8 @@ fn feed_stream<M: Maker, I: Source, R: Wait, G: Gate>(
             },
             Ok(count) => {
                 total += count;
-                let fed = feed_all(rt, shared, pass, listener, &buffer[..count], maker, gate);
+                let piece = &buffer[..count];
+                let fed = feed_all(rt, shared, pass, listener, piece, maker, gate, &mut owed);
                 if fed.is_err() {
                     return Reading {
                         ending: None,
@@ -146,7 +148,7 @@ fn feed_stream<M: Maker, I: Source, R: Wait, G: Gate>(
     }
 }
 
-// Feeds a piece frame by frame.
+// Feeds a piece frame by frame, and rings once for all that came in it.
 fn feed_all<M: Maker, R: Wait, G: Gate>(
     rt: &R,
     shared: &Table<M::H>,
@@ -155,6 +157,7 @@ fn feed_all<M: Maker, R: Wait, G: Gate>(
     piece: &[u8],
     maker: &M,
     gate: &G,
+    owed: &mut Owed,
 ) -> Result<(), Halted>
     requires reader { Reader M.H.rule shared.now pass.old }
     requires role { listener.old.role ≡ Server }
@@ -163,14 +166,25 @@ fn feed_all<M: Maker, R: Wait, G: Gate>(
     ensures reader { Reader M.H.rule shared.now pass.new }
     ensures same { IsSame pass.old pass.new }
     ensures role { listener.new.role ≡ Server }
+    ensures paid { OnOk result (owed.new.rings ≡ 0) }
     ensures fed { OnOk result ((bytes : List ℕ) → Fed listener.old pass.old bytes → Fed listener.new pass.new (bytes ++ piece.now)) }
     ensures cut { OnErr result ((bytes : List ℕ) → Fed listener.old pass.old bytes → Cut listener.new pass.new (bytes ++ piece.now)) }
     ensures halted { OnErr result (is_halted shared.now.base pass.new.view.known.seen ≡ true) }
 {
     let mut done = 0;
     'frames: while done < piece.len() {
-        done += feed(rt, shared, pass, listener, &piece[done..], maker, gate)?;
+        done += feed(
+            rt,
+            shared,
+            pass,
+            listener,
+            &piece[done..],
+            maker,
+            gate,
+            owed,
+        )?;
     }
+    shared.pay(owed);
     Ok(())
 }
 
@@ -183,6 +197,7 @@ fn feed<M: Maker, R: Wait, G: Gate>(
     piece: &[u8],
     maker: &M,
     gate: &G,
+    owed: &mut Owed,
 ) -> Result<usize, Halted>
     requires some { 0 < length piece.now }
     requires reader { Reader M.H.rule shared.now pass.old }
@@ -199,7 +214,7 @@ fn feed<M: Maker, R: Wait, G: Gate>(
 {
     match listener.listen(piece) {
         Ok(listened) => {
-            take_heard(rt, shared, pass, &listened.packet, maker, gate)?;
+            take_heard(rt, shared, pass, &listened.packet, maker, gate, owed)?;
             Ok(listened.taken)
         }
         Err(_) => {
@@ -217,6 +232,7 @@ fn take_heard<M: Maker, R: Wait, G: Gate>(
     heard: &Option<Packet>,
     maker: &M,
     gate: &G,
+    owed: &mut Owed,
 ) -> Result<(), Halted>
     requires reader { Reader M.H.rule shared.now pass.old }
     requires heard { IfSome heard.now (IsHeard shared.now.base) }
@@ -228,7 +244,7 @@ fn take_heard<M: Maker, R: Wait, G: Gate>(
     ensures halted { OnErr result (is_halted shared.now.base pass.new.view.known.seen ≡ true) }
 {
     match heard {
-        Some(packet) => take_in(rt, shared, pass, packet, maker, gate),
+        Some(packet) => take_in(rt, shared, pass, packet, maker, gate, owed),
         None => Ok(()),
     }
 }
@@ -241,6 +257,7 @@ fn take_in<M: Maker, R: Wait, G: Gate>(
     packet: &Packet,
     maker: &M,
     gate: &G,
+    owed: &mut Owed,
 ) -> Result<(), Halted>
     requires reader { Reader M.H.rule shared.now pass.old }
     requires heard { IsHeard shared.now.base packet.now }
@@ -252,7 +269,7 @@ fn take_in<M: Maker, R: Wait, G: Gate>(
     ensures halted { OnErr result (is_halted shared.now.base pass.new.view.known.seen ≡ true) }
 {
     for _ in rt.forever() {
-        if try_in(rt, shared, pass, packet, maker, gate)? {
+        if try_in(rt, shared, pass, packet, maker, gate, owed)? {
             return Ok(());
         }
     }
@@ -267,6 +284,7 @@ fn try_in<M: Maker, R: Wait, G: Gate>(
     packet: &Packet,
     maker: &M,
     gate: &G,
+    owed: &mut Owed,
 ) -> Result<bool, Halted>
     requires reader { Reader M.H.rule shared.now pass.old }
     requires heard { IsHeard shared.now.base packet.now }
@@ -279,10 +297,11 @@ fn try_in<M: Maker, R: Wait, G: Gate>(
     ensures halted { OnErr result (is_halted shared.now.base pass.new.view.known.seen ≡ true) }
 {
     let heard = shared.bells().reader.rings();
-    match shared.arrive(rt, pass, packet, maker) {
+    match shared.arrive(rt, pass, packet, maker, owed) {
         Ok(_) => Ok(true),
         Err(ArriveRefused::QueueFull(call)) => {
-            make_room(rt, shared, pass, call, heard, gate)?;
+            shared.pay(owed);
+            make_room(rt, shared, pass, call, heard, gate, owed)?;
             Ok(false)
         }
         Err(ArriveRefused::JournalFull) => {
@@ -305,15 +324,23 @@ fn make_room<H: Handler, R: Wait, G: Gate>(
     call: u32,
     heard: u32,
     gate: &G,
+    owed: &Owed,
 ) -> Result<(), Halted>
-    requires { IsOwn shared.now pass.old }
+    requires own { IsOwn shared.now pass.old }
+    requires paid { owed.now.rings ≡ 0 }
     ensures adds { Adds H.rule shared.now is_workers pass.old pass.new }
     ensures halted { OnErr result (is_halted shared.now.base pass.new.view.known.seen ≡ true) }
 {
     match shared.start_of(rt, pass, call) {
         Ok(running) => run(rt, shared, pass, gate, running),
         Err(StartOfRefused::NotReady) => {
-            rest(rt, &shared.bells().reader, heard, shared.look(rt, pass))
+            rest(
+                rt,
+                &shared.bells().reader,
+                heard,
+                shared.look(rt, pass),
+                owed,
+            )
         }
         Err(StartOfRefused::JournalFull) => {
             halt(rt, shared, pass, Why::JournalLimit);
@@ -327,7 +354,8 @@ fn make_room<H: Handler, R: Wait, G: Gate>(
 }
 
 // Waits for a place in a queue, unless the table is halted.
-fn rest<R: Wait>(rt: &R, bell: &Bell, heard: u32, look: Look) -> Result<(), Halted>
+fn rest<R: Wait>(rt: &R, bell: &Bell, heard: u32, look: Look, owed: &Owed) -> Result<(), Halted>
+    requires paid { owed.now.rings ≡ 0 }
     ensures { OnErr result (is_some look.halted ≡ true) }
 {
     if look.halted.is_some() {

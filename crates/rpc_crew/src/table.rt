@@ -1,5 +1,5 @@
 //! The table that the threads share, and the bells of those who wait for what is done at it.
-ghost use Rattle.std.specs.Prelude.{◌≡◌, ◌<◌, ◌≤◌, [], IfErr, IfOk, IfSome, Some};
+ghost use Rattle.std.specs.Prelude.{◌≡◌, ◌<◌, ◌≤◌, [], IfErr, IfOk, IfSome, OnOk, Some};
 ghost use Rattle.turn_cell.specs.Passes.{AllFit, AreAll, IsIdle, IsNew};
 ghost use Rattle.rpc_journal.specs.Changes.{ArriveDid, EndInDid, FinishDid, FlushDid, HaltDid, StartDid, StartOfDid, TickDid};
 ghost use Rattle.rpc_journal.specs.Conditions.{CanHalt, IsHeard, IsInputOpen};
@@ -11,7 +11,7 @@ ghost use Rattle.rpc_shared.specs.Looks.{LookDid};
 ghost use Rattle.rpc_shared.specs.OwnRuns.{Runs};
 ghost use Rattle.rpc_shared.specs.Steps.{IsOwn, Steps, base_of, log_of};
 
-use crate::bell::Bells;
+use crate::bell::{Bells, Owed};
 use link_io::Why;
 use rpc_calls::{ArriveRefused, Arrived, Calls, Running, StartOfRefused, StartRefused};
 use rpc_handlers::{Handler, Maker};
@@ -107,13 +107,14 @@ impl<H: Handler> Table<H> {
     }
 
     /// A reply waits for the pump. An event makes a call ready, for one worker; a request that opens a call may also end one of its
-    /// name, for another worker.
+    /// name, for another worker. The caller owes their rings, and pays them once a burst.
     pub fn arrive<M: Maker<H = H>, R: Wait>(
         &self,
         rt: &R,
         pass: &mut Pass<H>,
         p: &Packet,
         maker: &M,
+        owed: &mut Owed,
     ) -> Result<Arrived, ArriveRefused>
         requires own { IsOwn self.now pass.old }
         requires input { IsInputOpen self.now.base pass.old.view.known.seen pass.old.view.known.number }
@@ -121,18 +122,24 @@ impl<H: Handler> Table<H> {
         requires seed { M.seed_memo maker.now ≡ self.now.base.seed }
         ensures did { Steps H.rule self.now pass.old pass.new (λ set seat. ArriveDid set seat p.now result) }
         ensures open { IsInputOpen self.now.base pass.new.view.known.seen pass.new.view.known.number }
+        ensures owed { OnOk result (0 < owed.new.rings) }
     {
         let answer = self.shared.arrive(rt, pass, p, maker);
-        self.ring_for(&answer);
+        match &answer {
+            Ok(Arrived::Opened(_)) => owed.add(2),
+            Ok(_) => owed.add(1),
+            Err(_) => {}
+        }
         answer
     }
 
-    // Rings for what an arrival left to do.
-    fn ring_for(&self, answer: &Result<Arrived, ArriveRefused>) {
-        self.bells.pump.ring();
-        self.bells.workers.ring_for_one();
-        if let Ok(Arrived::Opened(_)) = answer {
-            self.bells.workers.ring_for_one();
+    /// Rings for what arrivals left to do, for the pump and for so many workers.
+    pub fn pay(&self, owed: &mut Owed)
+        ensures { owed.new.rings ≡ 0 }
+    {
+        if owed.rings > 0 {
+            self.bells.pump.ring();
+            owed.pay(self.bells.workers.ring_for(owed.rings));
         }
     }
 
@@ -190,7 +197,7 @@ impl<H: Handler> Table<H> {
         self.bells.pump.ring();
         self.bells.reader.ring();
         if pass.number() == 0 {
-            self.bells.workers.ring_for_one();
+            self.bells.workers.ring_for(1);
         }
         answer
     }

@@ -20,12 +20,10 @@ offer-requires g c = record {
       (subst (λ o. Steps g.H.Handler.rule c.args.shared.now c.args.pass.now c.flush_front.new.pass (λ set seat. FlushDid set seat o)) c.in-Some.is c.flush_front.ensures.did);
 }
 
-pub rest-requires : goal.rest-requires
-rest-requires g c = record {
-  pumps =
-      pumps_idle g.H.Handler.rule c.args.shared.now c.args.pass.now c.flush_front.new.pass (sent c.args.ring.now) c.requires.pumps
-      (subst (λ o. Steps g.H.Handler.rule c.args.shared.now c.args.pass.now c.flush_front.new.pass (λ set seat. FlushDid set seat o)) c.in-None.is c.flush_front.ensures.did);
-}
+pub rest-requires-clause-pumps : goal.rest-requires-clause-pumps
+rest-requires-clause-pumps g c =
+    pumps_idle g.H.Handler.rule c.args.shared.now c.args.pass.now c.flush_front.new.pass (sent c.args.ring.now) c.requires.pumps
+    (subst (λ o. Steps g.H.Handler.rule c.args.shared.now c.args.pass.now c.flush_front.new.pass (λ set seat. FlushDid set seat o)) c.in-None.is c.flush_front.ensures.did)
 
 pub returns-in-Some-clause-same : goal.returns-in-Some-clause-same
 returns-in-Some-clause-same g c = same_trans c.args.pass.now c.flush_front.new.pass c.offer.new.pass c.flush_front.ensures.did.same c.offer.ensures.same
