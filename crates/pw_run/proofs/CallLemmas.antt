@@ -1,5 +1,5 @@
 -- The words of a call tell one opening.
-use Rattle.std.proofs.Common.{◌≡◌, ℕ, zero, suc, ◌<◌, ◌≤◌, false, List, [], ◌∷◌, ◌++◌, ◌+◌, All, length, map, take, get_or, string_bytes, String, Global, codes, Option, Some, None, IfNone, unwrap_or, refl, ap, ap₂, sym, ◌∙◌, subst, inl, inr, arith}
+use Rattle.std.proofs.Common.{◌≡◌, ◌⊎◌, ℕ, zero, suc, ◌<◌, ◌≤◌, false, List, [], ◌∷◌, ◌++◌, ◌+◌, All, length, map, take, get_or, string_bytes, String, Global, codes, Option, Some, None, IfNone, unwrap_or, refl, ap, ap₂, sym, ◌∙◌, subst, inl, inr, arith}
 use Rattle.std.proofs.lemmas.Bool.{le-ltb, true≢false}
 use Rattle.std.proofs.lemmas.List.{map-append, take_more}
 use Rattle.std.proofs.lemmas.List.Elements.{All-cons, All-nil}
@@ -9,6 +9,7 @@ use Rattle.rpc_handlers.specs.declared.answer.TheConstants.{MAX_PAYLOAD}
 use Rattle.rpc_handlers.specs.Limits.{is_long}
 use Rattle.rpc_journal.specs.Kinds.{streams_up}
 use Rattle.rpc_journal.specs.Lawful.{has_zero}
+use Rattle.live_client.specs.declared.ask.LiveAsk.TheVariants as ask
 use Rattle.live_client.specs.declared.ask.Opening.{Opening}
 use Rattle.live_client.specs.declared.ask.TheConstants.{MAX_MESSAGES}
 use Rattle.live_client.specs.Ask.{CanOpen, call_method, live_name}
@@ -18,6 +19,9 @@ use Rattle.pw_run.specs.declared.call_words.TheConstants.{MAX_WITHIN}
 use Rattle.pw_run.specs.declared.outcome.Outcome.{Outcome}
 use Rattle.pw_run.specs.declared.outcome.Outcome.TheVariants.{BadLine, BadWords, Done, FrameLimit, InputLimit, JournalLimit, LinkFault, NoMemory, NotOkay, SinkFault, SourceFault, StoreFault}
 use Rattle.pw_run.specs.CallCommand.{AreCall, AsksForCall, CanCall, DidCall, FitsKind, IsBehind, IsCall, IsNoCall, TellEach, TellsOpening, first_of, messages_of, request_of}
+use Rattle.pw_run.specs.declared.client_text.Reported.TheVariants.{Messages}
+use Rattle.pw_run.specs.Client.{AsksOverLink}
+use Rattle.pw_run.specs.Crew.{DoesNothing}
 use Rattle.pw_run.specs.Devices.{Devices}
 use Rattle.pw_run.specs.Live.{MakesLinks}
 use Rattle.pw_run.specs.MethodId.{IsId}
@@ -286,3 +290,10 @@ pub called_by : (opening : Opening) (limit limit' within within' : Option ℕ) (
     → DidCall opening limit within before after outcome
 called_by opening limit limit' within within' before after outcome same same' did =
     subst (λ l. DidCall opening l within before after outcome) (sym same) (subst (λ w. DidCall opening limit' w before after outcome) (sym same') did)
+
+-- the call that was asked over a link is the one that the words tell
+pub did_call : (opening other : Opening) (limit within : Option ℕ) (most : ℕ) (before after : Devices) (outcome : Outcome) → opening ≡ other → most ≡ unwrap_or limit MAX_MESSAGES
+    → AsksOverLink Messages (ask.Call opening most within) before after outcome ⊎ DoesNothing before after outcome → DidCall other limit within before after outcome
+did_call opening other limit within most before after outcome same is did =
+    subst (λ o. DidCall o limit within before after outcome) same
+    (subst (λ n. AsksOverLink Messages (ask.Call opening n within) before after outcome ⊎ DoesNothing before after outcome) is did)
