@@ -86,24 +86,6 @@ fn a_call_ends_with_its_call(rt: HostRuntime) -> Result<(), Fail> {
 }
 
 #[test]
-fn a_call_is_cut_when_its_time_has_passed(rt: HostRuntime) -> Result<(), Fail> {
-    let alloc = rt.alloc();
-    let (bells, _ear, _ringers) = Bells::with(alloc, 1, 1)?;
-    let mut call = CallErrand::new(alloc, VecDeque::new(alloc), 2, Some(1_000));
-    is_cut(&rt, &mut call, false);
-    call.go_on(&bells, 5)?;
-    takes(&rt, &mut call, message(), true)?;
-    is_cut(&rt, &mut call, false);
-    call.go_on(&bells, 1_004)?;
-    is_cut(&rt, &mut call, false);
-    call.go_on(&bells, 1_005)?;
-    is_cut(&rt, &mut call, true);
-    end_is(&rt, call.end(), Some(Status::Cancelled));
-    count_is(&rt, call.messages.len(), 1);
-    Ok(())
-}
-
-#[test]
 fn a_call_says_what_it_was_given(rt: HostRuntime) -> Result<(), Fail> {
     let alloc = rt.alloc();
     let mut given = VecDeque::new(alloc);

@@ -8,7 +8,6 @@ use std::alloc::{AllocError, Global};
 use std::env;
 use std::fs::{self, Files};
 use std::net::Net;
-use std::process::Abort;
 use std::sync::Wait;
 use std::test::Fail;
 use std::thread::{self, Threads, join};
@@ -149,25 +148,6 @@ const CALLED: &[(&str, u8, &str)] = &[
     ("demo.Demo Reboot client 00", 9, "call NOT_FOUND 0\ndone\n"),
 ];
 
-// A server answers this call.
-fn answers<R: Threads + Wait + Sync + Net + Files + time::Clock + Abort>(
-    rt: &R,
-    alloc: Global,
-    path: &str,
-    words: &str,
-    status: u8,
-    written: &str,
-) -> Result<(), Fail> {
-    let (served, called) = join(
-        rt,
-        || serve_one(rt, alloc, path),
-        || call(rt, alloc, path, words),
-    );
-    status_is(rt, "serve", served?, 0);
-    told(rt, words, &called?, status, written.as_bytes());
-    Ok(())
-}
-
 #[test]
 fn a_method_of_each_kind_is_called_over_a_socket(rt: HostRuntime) -> Result<(), Fail> {
     let alloc = rt.alloc();
@@ -175,8 +155,15 @@ fn a_method_of_each_kind_is_called_over_a_socket(rt: HostRuntime) -> Result<(), 
     let base = env::temp_dir(&rt)?;
     let base = base.as_str();
     let path = format!(in alloc; "{base}/pw-run-call-{now}")?;
+    let path = path.as_str();
     for &(words, status, written) in CALLED {
-        answers(&rt, alloc, path.as_str(), words, status, written)?;
+        let (served, called) = join(
+            &rt,
+            || serve_one(&rt, alloc, path),
+            || call(&rt, alloc, path, words),
+        );
+        status_is(&rt, "serve", served?, 0);
+        told(&rt, words, &called?, status, written.as_bytes());
     }
     Ok(())
 }
