@@ -123,47 +123,116 @@ fn a_resource_is_fetched_over_a_socket(rt: HostRuntime) -> Result<(), Fail> {
     Ok(())
 }
 
-// What is called of a server, the status, and what is written.
-const CALLED: &[(&str, u8, &str)] = &[
-    (
-        "demo.Demo Echo unary 616263",
-        0,
-        "message 616263\ncall OK 1\ndone\n",
-    ),
-    (
-        "demo.Demo Count server 03 within 60000",
-        0,
-        "message 01\nmessage 02\nmessage 03\ncall OK 3\ndone\n",
-    ),
-    (
-        "demo.Demo Sum client 0102 ff",
-        0,
-        "message 0000000000000102\ncall OK 1\ndone\n",
-    ),
-    (
-        "0x70f45cfb 0x9ba981bc bidi 0102 - ff",
-        0,
-        "message 0102\nmessage -\nmessage ff\ncall OK 3\ndone\n",
-    ),
-    ("demo.Demo Reboot client 00", 9, "call NOT_FOUND 0\ndone\n"),
-];
-
 #[test]
-fn a_method_of_each_kind_is_called_over_a_socket(rt: HostRuntime) -> Result<(), Fail> {
+fn a_unary_method_is_called_over_a_socket(rt: HostRuntime) -> Result<(), Fail> {
     let alloc = rt.alloc();
     let now = time::Clock::since_1970(&rt)?.as_nanos();
     let base = env::temp_dir(&rt)?;
     let base = base.as_str();
-    let path = format!(in alloc; "{base}/pw-run-call-{now}")?;
+    let path = format!(in alloc; "{base}/pw-run-unary-{now}")?;
     let path = path.as_str();
-    for &(words, status, written) in CALLED {
-        let (served, called) = join(
-            &rt,
-            || serve_one(&rt, alloc, path),
-            || call(&rt, alloc, path, words),
-        );
-        status_is(&rt, "serve", served?, 0);
-        told(&rt, words, &called?, status, written.as_bytes());
-    }
+    let (served, called) = join(
+        &rt,
+        || serve_one(&rt, alloc, path),
+        || call(&rt, alloc, path, "demo.Demo Echo unary 616263"),
+    );
+    status_is(&rt, "serve", served?, 0);
+    told(
+        &rt,
+        "call",
+        &called?,
+        0,
+        b"message 616263\ncall OK 1\ndone\n",
+    );
+    Ok(())
+}
+
+#[test]
+fn a_stream_of_a_server_is_called_over_a_socket(rt: HostRuntime) -> Result<(), Fail> {
+    let alloc = rt.alloc();
+    let now = time::Clock::since_1970(&rt)?.as_nanos();
+    let base = env::temp_dir(&rt)?;
+    let base = base.as_str();
+    let path = format!(in alloc; "{base}/pw-run-server-{now}")?;
+    let path = path.as_str();
+    let (served, called) = join(
+        &rt,
+        || serve_one(&rt, alloc, path),
+        || call(&rt, alloc, path, "demo.Demo Count server 03 within 60000"),
+    );
+    status_is(&rt, "serve", served?, 0);
+    told(
+        &rt,
+        "call",
+        &called?,
+        0,
+        b"message 01\nmessage 02\nmessage 03\ncall OK 3\ndone\n",
+    );
+    Ok(())
+}
+
+#[test]
+fn a_stream_of_a_client_is_called_over_a_socket(rt: HostRuntime) -> Result<(), Fail> {
+    let alloc = rt.alloc();
+    let now = time::Clock::since_1970(&rt)?.as_nanos();
+    let base = env::temp_dir(&rt)?;
+    let base = base.as_str();
+    let path = format!(in alloc; "{base}/pw-run-client-{now}")?;
+    let path = path.as_str();
+    let (served, called) = join(
+        &rt,
+        || serve_one(&rt, alloc, path),
+        || call(&rt, alloc, path, "demo.Demo Sum client 0102 ff"),
+    );
+    status_is(&rt, "serve", served?, 0);
+    told(
+        &rt,
+        "call",
+        &called?,
+        0,
+        b"message 0000000000000102\ncall OK 1\ndone\n",
+    );
+    Ok(())
+}
+
+#[test]
+fn both_streams_are_called_over_a_socket(rt: HostRuntime) -> Result<(), Fail> {
+    let alloc = rt.alloc();
+    let now = time::Clock::since_1970(&rt)?.as_nanos();
+    let base = env::temp_dir(&rt)?;
+    let base = base.as_str();
+    let path = format!(in alloc; "{base}/pw-run-bidi-{now}")?;
+    let path = path.as_str();
+    let (served, called) = join(
+        &rt,
+        || serve_one(&rt, alloc, path),
+        || call(&rt, alloc, path, "0x70f45cfb 0x9ba981bc bidi 0102 - ff"),
+    );
+    status_is(&rt, "serve", served?, 0);
+    told(
+        &rt,
+        "call",
+        &called?,
+        0,
+        b"message 0102\nmessage -\nmessage ff\ncall OK 3\ndone\n",
+    );
+    Ok(())
+}
+
+#[test]
+fn an_unknown_method_is_called_over_a_socket(rt: HostRuntime) -> Result<(), Fail> {
+    let alloc = rt.alloc();
+    let now = time::Clock::since_1970(&rt)?.as_nanos();
+    let base = env::temp_dir(&rt)?;
+    let base = base.as_str();
+    let path = format!(in alloc; "{base}/pw-run-unknown-{now}")?;
+    let path = path.as_str();
+    let (served, called) = join(
+        &rt,
+        || serve_one(&rt, alloc, path),
+        || call(&rt, alloc, path, "demo.Demo Reboot client 00"),
+    );
+    status_is(&rt, "serve", served?, 0);
+    told(&rt, "call", &called?, 9, b"call NOT_FOUND 0\ndone\n");
     Ok(())
 }
