@@ -1,5 +1,7 @@
 //! Tables at work.
 
+mod both;
+mod both_clients;
 mod boxed_handlers;
 mod claims;
 mod client;
@@ -9,6 +11,8 @@ mod desk;
 mod letters;
 mod limits;
 mod many;
+mod plain;
 mod rows;
 mod runs;
 mod threads;
+mod turns;

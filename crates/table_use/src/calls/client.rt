@@ -125,7 +125,7 @@ fn row_holds(rt: &impl Abort, alloc: Global, row: &Row, invoked: Method) -> Resu
     invokes(rt, &mut calls, alloc, name, false, Ok(0));
     sends(rt, &mut calls, ITS_REQUEST);
     let p = from_server(ptype, methods.of(method), 1, status);
-    hears_from(rt, &mut calls, alloc, &p, answer);
+    hears_from(rt, &mut calls, alloc, &p, Ok(answer));
     sends(rt, &mut calls, sent);
     counts(rt, &calls, 1);
     waits(rt, &calls, 0, waiting);
@@ -221,7 +221,13 @@ fn a_response_waits_before_the_end_of_its_call(rt: HostRuntime) -> Result<(), Fa
     let name = name_on(1, methods.echo, 1);
     invokes(&rt, &mut calls, rt.alloc(), name, true, Ok(0));
     let response = from_server(Response, methods.echo, 1, Status::Okay);
-    hears_from(&rt, &mut calls, rt.alloc(), &response, Arrived::Closed(0));
+    hears_from(
+        &rt,
+        &mut calls,
+        rt.alloc(),
+        &response,
+        Ok(Arrived::Closed(0)),
+    );
     let first = start_next(&rt, &mut calls, 2);
     hears_message(&rt, &first);
     came_back(&rt, end_run(&rt, &mut calls, first), None);
@@ -239,8 +245,20 @@ fn an_answer_of_a_client_ends_its_stream_once(rt: HostRuntime) -> Result<(), Fai
     let name = name_on(1, methods.chat, 1);
     invokes(&rt, &mut calls, rt.alloc(), name, true, Ok(0));
     let message = from_server(ServerStream, methods.chat, 1, Status::Okay);
-    hears_from(&rt, &mut calls, rt.alloc(), &message, Arrived::Queued(0));
-    hears_from(&rt, &mut calls, rt.alloc(), &message, Arrived::Queued(0));
+    hears_from(
+        &rt,
+        &mut calls,
+        rt.alloc(),
+        &message,
+        Ok(Arrived::Queued(0)),
+    );
+    hears_from(
+        &rt,
+        &mut calls,
+        rt.alloc(),
+        &message,
+        Ok(Arrived::Queued(0)),
+    );
     came_back(&rt, run_next(&rt, &mut calls, 2), None);
     came_back(&rt, run_next(&rt, &mut calls, 2), None);
     sends(&rt, &mut calls, ITS_REQUEST);

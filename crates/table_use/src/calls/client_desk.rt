@@ -52,8 +52,8 @@ impl Methods {
     }
 }
 
-// What the client knows.
-fn known(alloc: Global) -> Result<(Channels, Registry, Methods), Fail> {
+/// What the client knows.
+pub fn known(alloc: Global) -> Result<(Channels, Registry, Methods), Fail> {
     let mut channels = Channels::new(alloc);
     channels.add(1)?;
     let mut registry = Registry::new(alloc);
@@ -200,13 +200,13 @@ pub fn hears_from(
     calls: &mut Calls<Letter>,
     alloc: Global,
     p: &Packet,
-    want: Arrived,
+    want: Result<Arrived, ArriveRefused>,
 )
     requires role { calls.old.setting.role ≡ Client }
     requires seed { calls.old.setting.seed ≡ empty_memo }
     ensures { calls.new.setting ≡ calls.old.setting }
 {
-    assert_eq!(rt; arrive(rt, calls, alloc, p), Ok(want));
+    assert_eq!(rt; arrive(rt, calls, alloc, p), want);
 }
 
 /// The client ends its stream of this call, which must be there, with this answer.

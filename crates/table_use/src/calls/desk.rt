@@ -57,8 +57,8 @@ pub fn letters(alloc: Global, letter: u8, ends: bool) -> Letters {
     }
 }
 
-// What the server serves.
-fn served(alloc: Global) -> Result<(Channels, Registry, Methods), Fail> {
+/// What the server serves.
+pub fn served(alloc: Global) -> Result<(Channels, Registry, Methods), Fail> {
     let mut channels = Channels::new(alloc);
     channels.add(1)?;
     channels.add(2)?;

@@ -126,7 +126,7 @@ pub fn refuses(
 }
 
 /// The input ends, which it must not have done before.
-fn end_input(rt: &impl Abort, calls: &mut Calls<Letter>)
+pub fn end_input(rt: &impl Abort, calls: &mut Calls<Letter>)
     ensures { calls.new.setting ≡ calls.old.setting }
 {
     assert!(rt; !calls.input_ended());
