@@ -1,34 +1,64 @@
 #!/usr/bin/env python3
-"""Prints how many arrivals, starts and finishes a second the plain table of calls makes, with 1, 100 and 1,000 calls.
+"""Prints how many arrivals, starts and finishes a second the table of calls makes with 1 to 30,000 live calls, how long an
+opening takes, and what stays of a call of Echo that was opened and closed.
 
 Builds the program crates/speed with rt (proved, by LLVM). It opens calls of Chat and then lets messages of eight
 octets go to them by turns, each followed by a run of its call, and times each step; the time of as many readings of the
 clock is taken away. The best of three runs counts.
+
+Of calls of Echo each is opened, answered and flushed before the next comes. The memory that the program then holds, with the
+table still there, is compared with that of the same program over the same entries in a journal alone, with as much room
+as a table keeps: the difference, by the number of calls, is what stays of a call beside its entries and items.
 """
 import os
 import subprocess
 
 HERE = os.path.dirname(os.path.abspath(__file__))
 CRATE = os.path.join(os.path.dirname(os.path.dirname(HERE)), "crates", "speed")
+PROGRAM = os.path.join(CRATE, "out", "speed")
 MESSAGES = 100_000
+LIVE = (1, 100, 1000, 10_000, 30_000)
+CLOSED = (50_000, 100_000, 200_000)
 STEPS = ("arrivals", "starts", "finishes")
 
 
-def nanoseconds(program, live):
-    told = subprocess.run([program, "calls", str(live), str(MESSAGES)], check=True, capture_output=True, text=True).stderr.split()
-    spent = {name: int(value) for name, value in zip(told[::2], told[1::2])}
-    return [max(1, spent[step] - spent["readings"]) for step in STEPS]
+def told(*words):
+    return subprocess.run([PROGRAM, *map(str, words)], check=True, capture_output=True, text=True).stderr.split()
+
+
+# The nanoseconds that all openings took, and those of each step, the readings of the clock apart.
+def nanoseconds(live):
+    words = told("calls", live, MESSAGES)
+    spent = {name: int(value) for name, value in zip(words[::2], words[1::2])}
+    return [spent["openings"]] + [max(1, spent[step] - spent["readings"]) for step in STEPS]
+
+
+# The nanoseconds that so many calls took, and the octets that the program then held.
+def ended(mode, calls):
+    nanos, _, resident = told(mode, calls)[:3]
+    return int(nanos), int(resident) * os.sysconf("SC_PAGE_SIZE")
+
+
+def best(runs):
+    return [min(values) for values in zip(*runs)]
 
 
 def main():
     subprocess.run(["rt", "run"], cwd=CRATE, check=True, stdout=subprocess.DEVNULL, stderr=subprocess.DEVNULL)
-    program = os.path.join(CRATE, "out", "speed")
-    print(f"{os.cpu_count()} processors, thousands a second, best of 3")
-    print("| live calls | arrivals | starts | finishes |")
-    print("|---|---|---|---|")
-    for live in (1, 100, 1000):
-        best = [min(spent) for spent in zip(*(nanoseconds(program, live) for _ in range(3)))]
-        print(f"| {live} | " + " | ".join(f"{MESSAGES / spent * 1e6:.0f}" for spent in best) + " |", flush=True)
+    print(f"{os.cpu_count()} processors, thousands a second, and microseconds an opening, best of 3")
+    print("| live calls | arrivals | starts | finishes | an opening |")
+    print("|---|---|---|---|---|")
+    for live in LIVE:
+        openings, *steps = best(nanoseconds(live) for _ in range(3))
+        rates = " | ".join(f"{MESSAGES / spent * 1e6:.0f}" for spent in steps)
+        print(f"| {live} | {rates} | {openings / live / 1000:.2f} |", flush=True)
+    print()
+    print("| closed calls | microseconds each | octets each, entries and items apart |")
+    print("|---|---|---|")
+    for calls in CLOSED:
+        nanos, held = best(ended("closed", calls) for _ in range(3))
+        _, written = best(ended("written", calls) for _ in range(3))
+        print(f"| {calls} | {nanos / calls / 1000:.2f} | {(held - written) / calls:.0f} |", flush=True)
 
 
 if __name__ == "__main__":

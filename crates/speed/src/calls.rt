@@ -1,21 +1,62 @@
 //! What `bench/calls` measures: calls of Chat are opened, and then messages go to them by turns, each followed by a run
-//! of its call.
+//! of its call; and calls of Echo are opened and closed, one behind another.
 
+mod closed;
 mod fed;
 mod timed;
 
+use closed::Written;
 use fed::{bare_maker, open_table};
-use timed::{Times, open_calls, serve};
+use std::fs;
+use std::time::Instant;
+use timed::{Times, close_calls, open_calls, serve};
 
 /// Opens so many calls, lets so many messages go to them, and prints how many entries and calls the table then has, and to standard
-/// error the nanoseconds that all arrivals, starts, handlers and finishes took, and as many readings of the clock.
+/// error the nanoseconds that the openings, all arrivals, starts, handlers and finishes took, and as many readings of the clock.
 pub fn measure(rt: &HostRuntime, live: u32, messages: u32) -> anyhow::Result<()> {
     let maker = bare_maker(rt.alloc())?;
     let mut calls = open_table(rt.alloc(), &maker)?;
+    let begun = Instant::now(rt)?;
     open_calls(&mut calls, &maker, live)?;
+    let opened = Instant::now(rt)?;
     let mut times = Times::default();
     serve(rt, &mut calls, &maker, live, messages, &mut times)?;
     println!(rt; "entries {} calls {}", calls.journal().len(), calls.count())?;
-    eprintln!(rt; "{}", times)?;
+    eprintln!(rt;
+        "openings {} {}",
+        opened.duration_since(begun).as_nanos(),
+        times
+    )?;
+    Ok(())
+}
+
+/// Opens and closes so many calls of Echo on one table, and prints how many entries and calls it then has, and to standard
+/// error the nanoseconds that they took, and what the system tells of the program's memory while the table is there.
+pub fn measure_closed(rt: &HostRuntime, count: u32) -> anyhow::Result<()> {
+    let maker = bare_maker(rt.alloc())?;
+    let mut calls = open_table(rt.alloc(), &maker)?;
+    let begun = Instant::now(rt)?;
+    close_calls(&mut calls, &maker, count)?;
+    let closed = Instant::now(rt)?;
+    println!(rt; "entries {} calls {}", calls.journal().len(), calls.count())?;
+    tell_memory(rt, closed.duration_since(begun).as_nanos())
+}
+
+/// Writes the entries of so many such calls into a journal, with as much room as a table keeps for them, and prints the same.
+pub fn measure_written(rt: &HostRuntime, count: u32) -> anyhow::Result<()> {
+    let mut written = Written::new(rt.alloc());
+    let begun = Instant::now(rt)?;
+    for call in 0..count {
+        written.write_call(rt.alloc(), call)?;
+    }
+    let ended = Instant::now(rt)?;
+    println!(rt; "entries {} calls {}", written.len(), count)?;
+    tell_memory(rt, ended.duration_since(begun).as_nanos())
+}
+
+// The nanoseconds, and behind them the sizes in pages that the system tells of this program.
+fn tell_memory(rt: &HostRuntime, nanoseconds: u128) -> anyhow::Result<()> {
+    let pages = fs::read_to_string(rt, "/proc/self/statm")?;
+    eprintln!(rt; "{} {}", nanoseconds, pages)?;
     Ok(())
 }

@@ -1,5 +1,5 @@
-//! What the benchmarks measure. The first word names it, and the others say how much: `frames FILE TIMES`, `calls LIVE MESSAGES` or
-//! `crew WORKERS CALLS ROUNDS`. Without words each is run over little.
+//! What the benchmarks measure. The first word names it, and the others say how much: `frames FILE TIMES`, `calls LIVE MESSAGES`,
+//! `closed CALLS`, `written CALLS` or `crew WORKERS CALLS ROUNDS`. Without words each is run over little.
 #![tactic(auto)]
 
 mod calls;
@@ -17,6 +17,8 @@ fn main(rt: HostRuntime) -> anyhow::Result<()> {
         [] => {
             frames::measure(&rt, "stream", 2)?;
             calls::measure(&rt, 3, 4)?;
+            calls::measure_closed(&rt, 3)?;
+            calls::measure_written(&rt, 3)?;
             crew::tell(&rt, crew::measure(&rt, rt.alloc(), 2, 3, 10)?)
         }
         [name, file, times] if name.as_str() == "frames" => {
@@ -24,6 +26,12 @@ fn main(rt: HostRuntime) -> anyhow::Result<()> {
         }
         [name, live, messages] if name.as_str() == "calls" => {
             calls::measure(&rt, number(live.as_str()), number(messages.as_str()))
+        }
+        [name, count] if name.as_str() == "closed" => {
+            calls::measure_closed(&rt, number(count.as_str()))
+        }
+        [name, count] if name.as_str() == "written" => {
+            calls::measure_written(&rt, number(count.as_str()))
         }
         [name, workers, calls, rounds] if name.as_str() == "crew" => {
             let did = crew::measure(

@@ -1,5 +1,7 @@
 //! A server's table of the demo service, and what is done with it.
-ghost use Rattle.std.specs.Prelude.{◌≡◌, Some, None, IfOk, IfSome};
+ghost use Rattle.std.specs.Prelude.{◌≡◌, true, false, Some, None, IfOk, IfSome};
+ghost use Rattle.rpc_ids.specs.declared.method.Role.TheVariants.{Server};
+ghost use Rattle.rpc_journal.specs.Lawful.{has_zero, hears};
 ghost use Rattle.rpc_journal.specs.Runs.{IsRunning};
 ghost use Rattle.speed.specs.Fed.{IsFed, bare_seed};
 
@@ -42,14 +44,41 @@ pub fn open_table(alloc: Global, maker: &DemoMaker) -> anyhow::Result<Calls<Demo
     Ok(Calls::new(alloc, Role::Server, channels, registry, seed)?)
 }
 
-/// What a client sends to a call of Chat, of eight octets.
+/// What a client sends, of eight octets.
 #[derive(Clone, Copy)]
 pub enum Sent {
+    /// The request of a call of Chat.
     Request,
+    /// A message to a call of Chat.
     Message,
+    /// The request of a call of Echo.
+    Echo,
 }
 
-/// A packet for the call of Chat with this id arrives.
+/// A packet of this kind for the call with this id.
+pub fn sent_packet(sent: Sent, id: u32) -> Packet
+    ensures heard { hears Server result.ptype ≡ true }
+    ensures named { has_zero result.name ≡ false }
+{
+    let (ptype, method) = match sent {
+        Sent::Request => (PacketType::Request, ids::CHAT),
+        Sent::Message => (PacketType::ClientStream, ids::CHAT),
+        Sent::Echo => (PacketType::Request, ids::ECHO),
+    };
+    Packet {
+        ptype,
+        name: CallName {
+            channel: 1,
+            service: ids::DEMO,
+            method,
+            call: id,
+        },
+        payload: Bytes::from_static(b"12345678"),
+        status: 0,
+    }
+}
+
+/// A packet of this kind for the call with this id arrives.
 pub fn arrive(
     calls: &mut Calls<DemoCall>,
     maker: &DemoMaker,
@@ -60,20 +89,7 @@ pub fn arrive(
     requires fed { IsFed calls.old }
     ensures { IsFed calls.new }
 {
-    let p = Packet {
-        ptype: match sent {
-            Sent::Request => PacketType::Request,
-            Sent::Message => PacketType::ClientStream,
-        },
-        name: CallName {
-            channel: 1,
-            service: ids::DEMO,
-            method: ids::CHAT,
-            call: id,
-        },
-        payload: Bytes::from_static(b"12345678"),
-        status: 0,
-    };
+    let p = sent_packet(sent, id);
     calls.arrive(0, &p, maker)
 }
 

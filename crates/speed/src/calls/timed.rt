@@ -72,8 +72,31 @@ pub fn open_calls(calls: &mut Calls<DemoCall>, maker: &DemoMaker, live: u32) -> 
     requires fed { IsFed calls.old }
     ensures { OnOk result (IsFed calls.new) }
 {
-    for id in 0..live {
-        arrive(calls, maker, Sent::Request, id)?;
+    open_each(calls, maker, Sent::Request, live)
+}
+
+/// So many calls of Echo are opened, and the run of each answers it.
+pub fn close_calls(calls: &mut Calls<DemoCall>, maker: &DemoMaker, count: u32) -> anyhow::Result<()>
+    requires seed { ⟦<DemoMaker as Maker>⟧.seed_memo maker.now ≡ bare_seed }
+    requires fed { IsFed calls.old }
+    ensures { OnOk result (IsFed calls.new) }
+{
+    open_each(calls, maker, Sent::Echo, count)
+}
+
+// So many of these come, each with an id of its own and followed by a run of its call.
+fn open_each(
+    calls: &mut Calls<DemoCall>,
+    maker: &DemoMaker,
+    sent: Sent,
+    count: u32,
+) -> anyhow::Result<()>
+    requires seed { ⟦<DemoMaker as Maker>⟧.seed_memo maker.now ≡ bare_seed }
+    requires fed { IsFed calls.old }
+    ensures { OnOk result (IsFed calls.new) }
+{
+    for id in 0..count {
+        arrive(calls, maker, sent, id)?;
         run(calls)?;
     }
     Ok(())
