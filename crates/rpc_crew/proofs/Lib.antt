@@ -2,3 +2,4 @@ pub mod PumpLemmas
 pub mod RingLemmas
 pub mod WholeSession
 pub mod WorkerLists
+pub mod WriterRounds

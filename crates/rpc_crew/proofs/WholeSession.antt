@@ -1,5 +1,5 @@
 -- The clauses of a session.
-use Rattle.std.proofs.Common.{◌≡◌, ◌⊎◌, ℕ, ◌+◌, ◌<◌, ◌≤◌, ◌^◌, Bool, true, false, List, [], ◌∷◌, ◌++◌, length, Option, Some, None, is_some, is_none, refl, ap, sym, ◌∙◌, subst, inl, inr, arith, length-append}
+use Rattle.std.proofs.Common.{◌≡◌, ◌⊎◌, ℕ, ◌+◌, ◌<◌, ◌≤◌, ◌^◌, Bool, true, false, List, [], ◌∷◌, ◌++◌, length, take, drop, Option, Some, None, is_some, is_none, refl, ap, sym, ◌∙◌, subst, inl, inr, arith, append_assoc, length-append, length-take, take-append-drop}
 use Rattle.std.proofs.lemmas.Bool.{false≢true, true≢false}
 use Rattle.std.proofs.lemmas.List.{append-nil}
 use Rattle.std.specs.Io.KnownBytes.{Appends, IsAtEnd}
@@ -31,7 +31,7 @@ use Rattle.rpc_shared.specs.declared.session.parcel.Parcel.{Parcel}
 use Rattle.rpc_shared.specs.session.Crew.{AllWorked, AreWorkers, Fed, HasRead, Lock, ReaderEnded, Seat}
 use Rattle.rpc_shared.specs.session.Leaving.{LeavesLink, WriterLeaves}
 use Rattle.rpc_shared.specs.session.Reasons.{reason_of, reason_read}
-use Rattle.rpc_shared.specs.session.Ring.{HaltsFor, PumpEnded, WriterEnded}
+use Rattle.rpc_shared.specs.session.Ring.{HaltsFor, MakesSome, PumpEnded, WriterEnded}
 use Rattle.rpc_shared.specs.session.Sessions.{AreSpaced, Begins, Explains, IsSessionHistory, LeavesNoneDue, TicksBetween, is_halted, is_halting, last_from, wire}
 use Rattle.rpc_crew.proofs.PumpLemmas.{last_earlier, spaced_earlier, spaced_up}
 use Rattle.rpc_shared.proofs.session.SessionLemmas.{AllMade, Closed, all_idle_again, all_late, all_worked, few_flushed, few_made, flushed_begin, halting_reason, made_all, made_begin, pump_begins, pump_halted_too, reader_halted, session_arrivals, session_kinds, session_moments, settled_items, settled_then, settled_whole, writer_halted_too, writers_halt}
@@ -70,24 +70,31 @@ module _ (rule : HandlerRule) (r : Lock) (workers : ℕ) (left_old left_new w0 w
     legal = s.legal;
   }
 
-  few : length s.writer.items ≤ length t.entries
+  abbrev m : MakesSome w0 w d0 d l0 l s.writer.came 0 done
+  m = s.writer.makes
+
+  few : length m.items ≤ length t.entries
   unfolding closed
   few = omega (arith, few_made rule r w0 w d0 d l0 l s.put s.got s.known done q1 qw s.pump s.writer s.fifo, few_flushed rule r workers q0 q1 qw qs t closed)
 
-  exact : done ≡ length s.writer.items
-  exact = let h = few in let b = s.bound in omega (arith, s.writer.counted, h, b)
+  exact : done ≡ length m.items
+  exact = let h = few in let b = s.bound in omega (arith, m.counted, h, b)
 
-  sent : IsPrefix (s.writer.items ++ s.writer.next) (items_sent (history r.base t.entries))
+  first_of_rest : IsPrefix (m.items ++ take 1 m.rest) (m.items ++ m.rest)
+  first_of_rest = (drop 1 m.rest, append_assoc m.items (take 1 m.rest) (drop 1 m.rest) ∙ ap (λ items. m.items ++ items) (take-append-drop 1 m.rest))
+
+  sent : IsPrefix (m.items ++ take 1 m.rest) (items_sent (history r.base t.entries))
   unfolding closed
   sent =
-      prefix_trans (s.writer.items ++ s.writer.next) s.pump.items (items_sent (history r.base t.entries))
-      (made_begin rule r w0 w d0 d l0 l s.put s.got s.known done q1 qw s.pump s.writer s.fifo) (flushed_begin rule r workers q0 q1 qw qs t closed)
+      prefix_trans (m.items ++ take 1 m.rest) (m.items ++ m.rest) (items_sent (history r.base t.entries)) first_of_rest
+      (prefix_trans (m.items ++ m.rest) s.pump.items (items_sent (history r.base t.entries))
+      (made_begin rule r w0 w d0 d l0 l s.put s.got s.known done q1 qw s.pump s.writer s.fifo) (flushed_begin rule r workers q0 q1 qw qs t closed))
 
   arrived : IsPrefix (arrivals t.entries) (heard_packets Server s.has_read.cut.fed)
   arrived =
       subst (λ ps. IsPrefix ps (heard_packets Server s.has_read.cut.fed)) (sym (session_arrivals rule r workers q0 q1 qw qs t closed)) s.has_read.cut.arrived
 
-  pub begins : Begins r.base left_old left_new w0 w d0 d counts read done s.writer.items t.entries
+  pub begins : Begins r.base left_old left_new w0 w d0 d counts read done m.items t.entries
   begins =
       let cut = s.has_read.cut in
       record {
@@ -102,22 +109,27 @@ module _ (rule : HandlerRule) (r : Lock) (workers : ℕ) (left_old left_new w0 w
             prefix_trans (arrivals t.entries) (heard_packets Server cut.fed) (heard_packets Server s.has_read.bytes) arrived
             (subst (λ bytes. IsPrefix (heard_packets Server cut.fed) (heard_packets Server bytes)) cut.within.1 (packets_begin Server cut.fed cut.within.0));
         counts_are = s.counts_are cut.fed cut.listener ∙ ap (λ role. counts_of role cut.fed) cut.role;
-        next = s.writer.next;
-        part = s.writer.part;
+        next = take 1 m.rest;
+        part = m.part;
         sent = sent;
-        one = s.writer.one;
-        begun = s.writer.begun;
-        written = s.writer.written;
-        stored = s.writer.stored;
+        one = omega (arith, length-take 1 m.rest);
+        begun = (m.begun.unwritten, m.begun.begins);
+        unfinished = λ whole. m.begun.unmade (none_behind m.part m.begun.unwritten (m.begun.begins ∙ sym whole));
+        written = m.written;
+        stored = m.stored;
         counted = exact;
       }
-
-  no_part : s.writer.next ≡ [] → s.writer.part ≡ []
-  no_part none = nothing s.writer.part (subst (λ next. IsPrefix s.writer.part (wire next)) none s.writer.begun)
     where
-      nothing : (part : List ℕ) → IsPrefix part [] → part ≡ []
-      nothing [] begins = refl
-      nothing (b ∷ part) begins = absurd (cc (begins.1))
+      none_behind : (xs ys : List ℕ) → xs ++ ys ≡ xs → ys ≡ []
+      none_behind [] ys is = is
+      none_behind (x ∷ xs) ys is = none_behind xs ys (cc is)
+
+  no_part : m.rest ≡ [] → m.part ≡ []
+  no_part none = nothing m.part m.begun.unwritten (m.begun.begins ∙ ap (λ rest. wire (take 1 rest)) none)
+    where
+      nothing : (part more : List ℕ) → part ++ more ≡ [] → part ≡ []
+      nothing [] more is = refl
+      nothing (b ∷ part) more is = absurd (cc is)
 
   pub explains : is_halted r.base t.entries ≡ false → Explains r.base left_old left_new w0 w d0 d counts read done t.entries
   unfolding closed
@@ -134,11 +146,11 @@ module _ (rule : HandlerRule) (r : Lock) (workers : ℕ) (left_old left_new w0 w
       settled : is_settled (history r.base t.entries) ≡ true
       settled = subst (λ h. is_settled (history r.base h) ≡ true) (settled_whole rule r workers q0 q1 qw qs t closed made.settled calm) made.settled
 
-      items : s.writer.items ≡ items_sent (history r.base t.entries)
+      items : m.items ≡ items_sent (history r.base t.entries)
       items = made.same ∙ settled_items rule r workers q0 q1 qw qs t closed settled
 
-      bytes_written : wire s.writer.items ++ s.writer.part ≡ wire (items_sent (history r.base t.entries))
-      bytes_written = ap (λ part. wire s.writer.items ++ part) (no_part made.none) ∙ (append-nil (wire s.writer.items) ∙ ap wire items)
+      bytes_written : wire m.items ++ m.part ≡ wire (items_sent (history r.base t.entries))
+      bytes_written = ap (λ part. wire m.items ++ part) (no_part made.none) ∙ (append-nil (wire m.items) ∙ ap wire items)
 
       at : Fed listener q0 s.has_read.bytes ⊎ (is_halted r.base q0.view.known.seen ≡ true) → Explains r.base left_old left_new w0 w d0 d counts read done t.entries
       at (inr halted) = no_halt (reader_halted rule r workers q0 q1 qw qs t closed halted)
@@ -149,8 +161,8 @@ module _ (rule : HandlerRule) (r : Lock) (workers : ℕ) (left_old left_new w0 w
         arrived = session_arrivals rule r workers q0 q1 qw qs t closed ∙ fed.arrived;
         counts_are = s.counts_are s.has_read.bytes fed.listener ∙ ap (λ role. counts_of role s.has_read.bytes) fed.role;
         settled = settled;
-        written = subst (Appends w0 w) bytes_written s.writer.written;
-        stored = subst (λ made. store.Holds made d0 d) items s.writer.stored;
+        written = subst (Appends w0 w) bytes_written m.written;
+        stored = subst (λ made. store.Holds made d0 d) items m.stored;
         all = exact ∙ ap length items;
       }
 

@@ -2,13 +2,16 @@
 //! what goes out, and a writer. docs/THREADS.md shows who holds what, and how a session ends. Enter at [`session`].
 #![tactic(auto)]
 
+mod batch;
 mod bell;
 mod gate;
+mod gathering;
 mod halting;
 mod outcome;
 mod pumping;
 mod reading;
 mod running;
+mod sending;
 mod serving;
 mod table;
 mod threads;

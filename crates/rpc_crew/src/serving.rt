@@ -29,8 +29,8 @@ use std::alloc::{AllocError, Global};
 use std::sync::Wait;
 use std::thread::Threads;
 
-// How many parcels the ring has room for.
-const PLACES: usize = 256;
+/// How many parcels the ring has room for.
+pub(crate) const PLACES: usize = 256;
 
 /// Serves one link until its input has ended and all that it asked for is done, or the table is halted. A reader, a pump, a writer
 /// and 1 to 16 workers share one table of calls, each in a thread of its own; where one can't be made the table is halted for want

@@ -32,14 +32,18 @@ pub writer_kept : (rule : HandlerRule) (r : Lock) (w0 w w' : Option (List ℕ)) 
 writer_kept rule r w0 w w' d0 d l0 l got done p kept ended = record {
   stands = ended.stands;
   kinds = ended.kinds;
-  items = ended.items;
-  next = ended.next;
-  part = ended.part;
-  one = ended.one;
-  begun = ended.begun;
-  written = Appends-kept w0 w w' _ ended.written kept;
-  stored = ended.stored;
-  logged = ended.logged;
-  counted = ended.counted;
+  came = ended.came;
+  received = ended.received;
+  makes = record {
+    items = ended.makes.items;
+    rest = ended.makes.rest;
+    part = ended.makes.part;
+    parts = ended.makes.parts;
+    begun = ended.makes.begun;
+    written = Appends-kept w0 w w' _ ended.makes.written kept;
+    stored = ended.makes.stored;
+    logged = ended.makes.logged;
+    counted = ended.makes.counted;
+  };
   cause = ended.cause;
 }

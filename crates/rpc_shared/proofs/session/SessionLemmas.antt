@@ -36,7 +36,7 @@ use Rattle.rpc_shared.specs.declared.session.parcel.Parcel.{Parcel}
 use Rattle.rpc_shared.specs.declared.session.parcel.Parcel.TheVariants.{End}
 use Rattle.rpc_shared.specs.session.Crew.{AllWorked, AreOf, AreWorkers, IsLate, Lock, Reader, ReaderEnded, Seat, Stands, Worker, is_feeding, is_pumps, is_readers, is_stop, is_want, is_workers}
 use Rattle.rpc_shared.specs.session.Leaving.{HasEnd}
-use Rattle.rpc_shared.specs.session.Ring.{HaltsFor, PumpEnded, Takes, WriterEnded, closed, parcels}
+use Rattle.rpc_shared.specs.session.Ring.{HaltsFor, MakesSome, PumpEnded, Takes, WriterEnded, closed, parcels}
 use Rattle.rpc_shared.specs.session.Sessions.{AreLate, AreOfSession, is_entry_of, is_halted, is_halting, runs_handlers}
 use Rattle.rpc_shared.proofs.session.PassLemmas.{late_still, own_there}
 
@@ -456,52 +456,54 @@ all_came (x ∷ xs) (y ∷ ys) rest is = let more = all_came xs ys rest (cc is) 
 
 module _ (rule : HandlerRule) (r : Lock) (w0 w : Option (List ℕ)) (d0 d : Option Stored) (l0 l : ItemLog) (put got known : List Parcel) (done : ℕ) (q1 qw : Seat)
     (x : PumpEnded rule r put q1) (y : WriterEnded rule r w0 w d0 d l0 l got done qw) (fifo : got ++ known ≡ put) where
-  -- what was made, and what failed, is a beginning of what was flushed
-  pub made_begin : IsPrefix (y.items ++ y.next) x.items
-  made_begin = at x.cause y.cause
-    where
-      closing : closed y.items ++ known ≡ parcels y.items ++ (End ∷ [] ++ known)
-      closing = append_assoc (parcels y.items) (End ∷ []) known
+  abbrev m : MakesSome w0 w d0 d l0 l y.came 0 done
+  m = y.makes
 
-      alone : y.next ≡ [] → IsPrefix y.items x.items → IsPrefix (y.items ++ y.next) x.items
-      alone none begins = subst (λ items. IsPrefix items x.items) (sym (append-nil y.items) ∙ ap (λ next. y.items ++ next) (sym none)) begins
+  -- what was received is a beginning of what was flushed
+  came_begin : IsPrefix y.came x.items
+  came_begin = at x.cause y.received
+    where
+      closing : closed y.came ++ known ≡ parcels y.came ++ (End ∷ [] ++ known)
+      closing = append_assoc (parcels y.came) (End ∷ []) known
+
+      within : (more : List Parcel) → got ++ known ≡ parcels y.came ++ more
+          → ((put ≡ closed x.items) × (is_settled (history r.base q1.view.known.seen) ≡ true)) ⊎ ((hand : List Parcel) × (put ++ hand ≡ parcels x.items) × (is_halted r.base q1.view.known.seen ≡ true))
+          → IsPrefix y.came x.items
+      within more is (inl whole) = cut_closed y.came x.items more (sym is ∙ (fifo ∙ whole.0))
+      within more is (inr cut_short) =
+          cut_parcels y.came x.items (more ++ cut_short.0)
+          (sym (append_assoc (parcels y.came) more cut_short.0) ∙ (ap (λ ps. ps ++ cut_short.0) (sym is ∙ fifo) ∙ cut_short.1))
 
       at : ((put ≡ closed x.items) × (is_settled (history r.base q1.view.known.seen) ≡ true)) ⊎ ((hand : List Parcel) × (put ++ hand ≡ parcels x.items) × (is_halted r.base q1.view.known.seen ≡ true))
-          → ((got ≡ closed y.items) × (y.next ≡ [])) ⊎ ((got ≡ parcels (y.items ++ y.next)) × (is_halted r.base qw.view.known.seen ≡ true))
-          → IsPrefix (y.items ++ y.next) x.items
-      at (inl whole) (inl end) =
-          alone end.1 (cut_closed y.items x.items (End ∷ [] ++ known) (sym closing ∙ (ap (λ ps. ps ++ known) (sym end.0) ∙ (fifo ∙ whole.0))))
-      at (inl whole) (inr cut) = cut_closed (y.items ++ y.next) x.items known (ap (λ ps. ps ++ known) (sym cut.0) ∙ (fifo ∙ whole.0))
-      at (inr cut_short) (inl end) =
-          alone end.1
-          (cut_parcels y.items x.items ((End ∷ [] ++ known) ++ cut_short.0)
-          (sym (append_assoc (parcels y.items) (End ∷ [] ++ known) cut_short.0)
-          ∙ (ap (λ ps. ps ++ cut_short.0) (sym closing ∙ (ap (λ ps. ps ++ known) (sym end.0) ∙ fifo)) ∙ cut_short.1)))
-      at (inr cut_short) (inr cut) =
-          cut_parcels (y.items ++ y.next) x.items (known ++ cut_short.0)
-          (sym (append_assoc (parcels (y.items ++ y.next)) known cut_short.0)
-          ∙ (ap (λ ps. ps ++ cut_short.0) (ap (λ ps. ps ++ known) (sym cut.0) ∙ fifo) ∙ cut_short.1))
+          → (got ≡ parcels y.came) ⊎ (got ≡ closed y.came) → IsPrefix y.came x.items
+      at cause (inl unended) = within known (ap (λ ps. ps ++ known) unended) cause
+      at cause (inr end) = within (End ∷ [] ++ known) (ap (λ ps. ps ++ known) end ∙ closing) cause
 
-  pub few_made : length y.items ≤ length x.items
-  few_made = omega (arith, prefix_length (y.items ++ y.next) x.items made_begin, length-append y.items y.next)
+  pub made_begin : IsPrefix (m.items ++ m.rest) x.items
+  made_begin = subst (λ items. IsPrefix items x.items) m.parts came_begin
+
+  pub few_made : length m.items ≤ length x.items
+  few_made = omega (arith, prefix_length (m.items ++ m.rest) x.items made_begin, length-append m.items m.rest)
 
   -- where neither met a halt, all was made
   pub record AllMade : Type 0 where
-    pub same : y.items ≡ x.items
-    pub none : y.next ≡ []
+    pub same : m.items ≡ x.items
+    pub none : m.rest ≡ []
     pub settled : is_settled (history r.base q1.view.known.seen) ≡ true
 
   pub made_all : (is_halted r.base q1.view.known.seen ≡ true → ⊥) → (is_halted r.base qw.view.known.seen ≡ true → ⊥) → AllMade
   made_all calm1 calmw = at x.cause y.cause
     where
       at : ((put ≡ closed x.items) × (is_settled (history r.base q1.view.known.seen) ≡ true)) ⊎ ((hand : List Parcel) × (put ++ hand ≡ parcels x.items) × (is_halted r.base q1.view.known.seen ≡ true))
-          → ((got ≡ closed y.items) × (y.next ≡ [])) ⊎ ((got ≡ parcels (y.items ++ y.next)) × (is_halted r.base qw.view.known.seen ≡ true)) → AllMade
+          → ((got ≡ closed y.came) × (m.rest ≡ [])) ⊎ (is_halted r.base qw.view.known.seen ≡ true) → AllMade
       at (inl whole) (inl end) = record {
-        same = all_came y.items x.items known (ap (λ ps. ps ++ known) (sym end.0) ∙ (fifo ∙ whole.0));
+        same =
+            sym (m.parts ∙ (ap (λ rest. m.items ++ rest) end.1 ∙ append-nil m.items))
+            ∙ all_came y.came x.items known (ap (λ ps. ps ++ known) (sym end.0) ∙ (fifo ∙ whole.0));
         none = end.1;
         settled = whole.1;
       }
-      at (inl whole) (inr cut) = absurd (calmw cut.1)
+      at (inl whole) (inr halted) = absurd (calmw halted)
       at (inr cut_short) end = absurd (calm1 cut_short.2)
 
 -- no end stands among items

@@ -8,7 +8,6 @@ use Rattle.std.specs.Io.Iter.{u64_saturate}
 use Rattle.std.specs.Io.KnownBytes.{Appends}
 use Rattle.std.proofs.KnownBytes.{Appends-nil, Appends-trans}
 use Rattle.link_io.specs.Causes.{Rose}
-use Rattle.link_io.specs.Device.{AppendsSome}
 use Rattle.link_io.specs.Stored.{Stored}
 use Rattle.link_io.specs.declared.why.Why.{Why}
 use Rattle.rpc_handlers.specs.HandlerRule.{HandlerRule}
@@ -26,10 +25,9 @@ use Rattle.rpc_shared.specs.declared.session.parcel.Parcel.{Parcel}
 use Rattle.rpc_shared.specs.declared.session.parcel.Parcel.TheVariants.{End, Put}
 use Rattle.rpc_shared.specs.session.Crew.{Adds, Lock, Seat, Stands, is_stop}
 use Rattle.rpc_shared.specs.session.Log.{Logs}
-use Rattle.rpc_shared.specs.session.Ring.{HaltsFor, Made, WriterEnded, Writes, parcels}
+use Rattle.rpc_shared.specs.session.Ring.{HaltsFor, IsUnfinished, Made, MakesSome, WriterEnded, Writes, closed, parcels}
 use Rattle.rpc_shared.specs.session.Sessions.{is_halted, wire}
 use Rattle.rpc_shared.proofs.session.PassLemmas.{kinds_after, stands_after}
-use Rattle.rpc_shared.proofs.session.ReaderLemmas.{take_begins}
 
 -- ---- frames and store actions, one after another
 
@@ -65,60 +63,96 @@ made_more w0 w w' d0 d d' l0 l l' xs ys first second = record {
   logged = logs_more xs ys l0 l l' first.logged second.logged;
 }
 
-saturate_one : (n : ℕ) → u64_saturate (u64_saturate n + 1) ≡ u64_saturate (n + 1)
-saturate_one n = omega arith
+saturate_more : (n m : ℕ) → u64_saturate (u64_saturate n + m) ≡ u64_saturate (n + m)
+saturate_more n m = omega arith
 
-module _ (rule : HandlerRule) (r : Lock) (w0 w w' : Option (List ℕ)) (d0 d d' : Option Stored) (l0 l l' : ItemLog) (got now : List Parcel) (done : ℕ) (p q : Seat) where
-  -- one item more was received and made
-  pub writes_more : (item : Item) → Writes rule r w0 w d0 d l0 l got done p → now ≡ got ++ Put item ∷ [] → Made w w' d d' l l' (item ∷ []) → Writes rule r w0 w' d0 d' l0 l' now (u64_saturate (done + 1)) p
-  writes_more item writes is made = record {
+-- nothing of no item is unfinished
+pub none_unfinished : IsUnfinished [] []
+none_unfinished = record { unwritten = []; begins = refl; unmade = λ none. refl }
+
+received_more : (got now : List Parcel) (first items : List Item) → got ≡ parcels first → (now ≡ got ++ parcels items) ⊎ (now ≡ got ++ closed items) → (now ≡ parcels (first ++ items)) ⊎ (now ≡ closed (first ++ items))
+received_more got now first items begun = at
+  where
+    at : (now ≡ got ++ parcels items) ⊎ (now ≡ got ++ closed items) → (now ≡ parcels (first ++ items)) ⊎ (now ≡ closed (first ++ items))
+    at (inl is) = inl (is ∙ (ap (λ ps. ps ++ parcels items) begun ∙ sym (map-append Put first items)))
+    at (inr is) =
+        inr (is ∙ (ap (λ ps. ps ++ closed items) begun ∙ (sym (append_assoc (parcels first) (parcels items) (End ∷ [])) ∙ ap (λ ps. ps ++ End ∷ []) (sym (map-append Put first items)))))
+
+module _ (rule : HandlerRule) (r : Lock) (w0 w w' : Option (List ℕ)) (d0 d d' : Option Stored) (l0 l l' : ItemLog) (got now : List Parcel) (done done' : ℕ) (p q : Seat) where
+  -- items more were received and made
+  pub writes_more : (items : List Item) → Writes rule r w0 w d0 d l0 l got done p → now ≡ got ++ parcels items → Made w w' d d' l l' items → done' ≡ u64_saturate (done + length items)
+      → Writes rule r w0 w' d0 d' l0 l' now done' p
+  writes_more items writes is made counted = record {
     stands = writes.stands;
     none = writes.none;
-    items = writes.items ++ item ∷ [];
-    received = is ∙ (ap (λ ps. ps ++ Put item ∷ []) writes.received ∙ sym (map-append Put writes.items (item ∷ [])));
-    made = made_more w0 w w' d0 d d' l0 l l' writes.items (item ∷ []) writes.made made;
+    items = writes.items ++ items;
+    received = is ∙ (ap (λ ps. ps ++ parcels items) writes.received ∙ sym (map-append Put writes.items items));
+    made = made_more w0 w w' d0 d d' l0 l l' writes.items items writes.made made;
     counted =
-        ap (λ n. u64_saturate (n + 1)) writes.counted
-        ∙ (saturate_one (length writes.items) ∙ ap u64_saturate (sym (length-append writes.items (item ∷ []))));
+        counted ∙ (ap (λ n. u64_saturate (n + length items)) writes.counted
+        ∙ (saturate_more (length writes.items) (length items) ∙ ap u64_saturate (sym (length-append writes.items items))));
   }
 
-  -- one was received, and failed; then the writer halted the table
-  pub writer_failed : (item : Item) → Writes rule r w0 w d0 d l0 l got done p → now ≡ got ++ Put item ∷ [] → AppendsSome w w' (wire (item ∷ [])) → d' ≡ d → Logs l l' []
-      → Adds rule r is_stop p q → is_halted r.base q.view.known.seen ≡ true → WriterEnded rule r w0 w' d0 d' l0 l' now done q
-  writer_failed item writes is begun same logs adds halted = record {
+  -- of more items some were made
+  makes_behind : (all : List Item) (writes : Writes rule r w0 w d0 d l0 l got done p) → MakesSome w w' d d' l l' all done done' → MakesSome w0 w' d0 d' l0 l' (writes.items ++ all) 0 done'
+  makes_behind all writes makes = record {
+    items = writes.items ++ makes.items;
+    rest = makes.rest;
+    part = makes.part;
+    parts = ap (λ items. writes.items ++ items) makes.parts ∙ sym (append_assoc writes.items makes.items makes.rest);
+    begun = makes.begun;
+    written =
+        subst (Appends w0 w') (sym (append_assoc (wire writes.items) (wire makes.items) makes.part) ∙ ap (λ bytes. bytes ++ makes.part) (sym (wire-append writes.items makes.items)))
+        (Appends-trans w0 w w' (wire writes.items) (wire makes.items ++ makes.part) writes.made.written makes.written);
+    stored = holds_more writes.items makes.items d0 d d' writes.made.stored makes.stored;
+    logged = logs_more writes.items makes.items l0 l l' writes.made.logged makes.logged;
+    counted =
+        makes.counted ∙ (ap (λ n. u64_saturate (n + length makes.items)) writes.counted
+        ∙ (saturate_more (length writes.items) (length makes.items) ∙ ap u64_saturate (sym (length-append writes.items makes.items) ∙ plus_none (length (writes.items ++ makes.items)))));
+  }
+    where
+      plus_none : (n : ℕ) → n ≡ 0 + n
+      plus_none n = omega arith
+
+  -- and then the writer halted the table
+  pub writer_failed : (all : List Item) → Writes rule r w0 w d0 d l0 l got done p → (now ≡ got ++ parcels all) ⊎ (now ≡ got ++ closed all) → MakesSome w w' d d' l l' all done done'
+      → Adds rule r is_stop p q → is_halted r.base q.view.known.seen ≡ true → WriterEnded rule r w0 w' d0 d' l0 l' now done' q
+  writer_failed all writes is makes adds halted = record {
     stands = stands_after rule r is_stop p q writes.stands adds;
     kinds = kinds_after rule r is_stop p q (subst (λ es. AllByRecursion (λ e. is_stop e.kind ≡ true) es) (sym writes.none) tt) adds;
-    items = writes.items;
-    next = item ∷ [];
-    part = take begun.0 (wire (item ∷ []));
-    one = omega arith;
-    begun = take_begins begun.0 (wire (item ∷ []));
-    written = Appends-trans w0 w w' (wire writes.items) (take begun.0 (wire (item ∷ []))) writes.made.written begun.2;
-    stored = same ∙ writes.made.stored;
-    logged = subst (Logs l0 l') (append-nil writes.items) (logs_more writes.items [] l0 l l' writes.made.logged logs);
-    counted = writes.counted;
-    cause = inr (is ∙ (ap (λ ps. ps ++ Put item ∷ []) writes.received ∙ sym (map-append Put writes.items (item ∷ []))), halted);
+    came = writes.items ++ all;
+    received = received_more got now writes.items all writes.received is;
+    makes = makes_behind all writes makes;
+    cause = inr halted;
   }
 
 module _ (rule : HandlerRule) (r : Lock) (w0 w : Option (List ℕ)) (d0 d : Option Stored) (l0 l : ItemLog) (got now : List Parcel) (done : ℕ) (p q : Seat) where
-  all_made : (items : List Item) → Made w0 w d0 d l0 l items → Appends w0 w (wire items ++ [])
-  all_made items made = subst (Appends w0 w) (sym (append-nil (wire items))) made.written
-
-  pub writer_closed : Writes rule r w0 w d0 d l0 l got done p → now ≡ got ++ End ∷ [] → WriterEnded rule r w0 w d0 d l0 l now done p
-  writer_closed writes is = record {
-    stands = writes.stands;
-    kinds = subst (λ es. AllByRecursion (λ e. is_stop e.kind ≡ true) es) (sym writes.none) tt;
+  -- all that was received was made
+  makes_all : (writes : Writes rule r w0 w d0 d l0 l got done p) → MakesSome w0 w d0 d l0 l writes.items 0 done
+  makes_all writes = record {
     items = writes.items;
-    next = [];
+    rest = [];
     part = [];
-    one = omega arith;
-    begun = ([], refl);
-    written = all_made writes.items writes.made;
+    parts = sym (append-nil writes.items);
+    begun = none_unfinished;
+    written = subst (Appends w0 w) (sym (append-nil (wire writes.items))) writes.made.written;
     stored = writes.made.stored;
     logged = writes.made.logged;
-    counted = writes.counted;
-    cause = inl (is ∙ ap (λ ps. ps ++ End ∷ []) writes.received, refl);
+    counted = writes.counted ∙ ap u64_saturate (omega arith);
   }
+
+  pub writer_closed : Writes rule r w0 w d0 d l0 l got done p → now ≡ got ++ End ∷ [] → WriterEnded rule r w0 w d0 d l0 l now done p
+  unfolding makes_all
+  writer_closed writes is =
+      let all : now ≡ closed writes.items = is ∙ ap (λ ps. ps ++ End ∷ []) writes.received in
+      record {
+        stands = writes.stands;
+        kinds = subst (λ es. AllByRecursion (λ e. is_stop e.kind ≡ true) es) (sym writes.none) tt;
+        came = writes.items;
+        received = inr all;
+        makes = makes_all writes;
+        cause = inl (all, refl);
+      }
 
   pub writes_looked : Writes rule r w0 w d0 d l0 l got done p → Adds rule r is_stop p q → q.view.known.mine ≡ p.view.known.mine → now ≡ got → Writes rule r w0 w d0 d l0 l now done q
   writes_looked writes adds same is = record {
@@ -130,20 +164,14 @@ module _ (rule : HandlerRule) (r : Lock) (w0 w : Option (List ℕ)) (d0 d : Opti
     counted = writes.counted;
   }
 
-  pub writer_halted : Writes rule r w0 w d0 d l0 l got done p → is_halted r.base p.view.known.seen ≡ true → WriterEnded rule r w0 w d0 d l0 l got done p
-  writer_halted writes halted = record {
+  pub writer_halted : Writes rule r w0 w d0 d l0 l got done p → now ≡ got → is_halted r.base p.view.known.seen ≡ true → WriterEnded rule r w0 w d0 d l0 l now done p
+  writer_halted writes is halted = record {
     stands = writes.stands;
     kinds = subst (λ es. AllByRecursion (λ e. is_stop e.kind ≡ true) es) (sym writes.none) tt;
-    items = writes.items;
-    next = [];
-    part = [];
-    one = omega arith;
-    begun = ([], refl);
-    written = all_made writes.items writes.made;
-    stored = writes.made.stored;
-    logged = writes.made.logged;
-    counted = writes.counted;
-    cause = inr (writes.received ∙ ap parcels (sym (append-nil writes.items)), halted);
+    came = writes.items;
+    received = inl (is ∙ writes.received);
+    makes = makes_all writes;
+    cause = inr halted;
   }
 
 -- the writer before its first item

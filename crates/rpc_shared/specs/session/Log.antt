@@ -1,5 +1,5 @@
 -- The log of the items that a session made.
-use Rattle.std.specs.Prelude.{◌≡◌, ◌<◌, true, List, ◌++◌, vec_len, vec_capacity}
+use Rattle.std.specs.Prelude.{◌≡◌, ℕ, ◌-◌, ◌≤◌, true, List, ◌++◌, vec_len, vec_capacity}
 use Rattle.rpc_journal.specs.declared.item.Item.{Item}
 use Rattle.rpc_shared.specs.declared.session.item_log.ItemLog.{ItemLog}
 
@@ -8,6 +8,6 @@ pub record Logs (old new : ItemLog) (items : List Item) : Type 0 where
   pub same : new.keeps ≡ old.keeps
   pub added : old.keeps ≡ true → new.items.items ≡ old.items.items ++ items
 
--- there is a place for one more
-abbrev pub HasPlace : ItemLog → Type 0
-HasPlace log = log.keeps ≡ true → vec_len log.items < vec_capacity log.items
+-- there are places for so many more
+abbrev pub HasPlaces : ItemLog → ℕ → Type 0
+HasPlaces log n = log.keeps ≡ true → n ≤ vec_capacity log.items - vec_len log.items

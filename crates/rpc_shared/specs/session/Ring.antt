@@ -1,5 +1,5 @@
 -- What goes through the ring between the pump and the writer, and what both did.
-use Rattle.std.specs.Prelude.{◌≡◌, ◌⊎◌, ℕ, ◌≤◌, true, List, [], ◌∷◌, ◌++◌, map, length, Option}
+use Rattle.std.specs.Prelude.{◌≡◌, ◌⊎◌, ℕ, ◌+◌, ◌≤◌, true, List, [], ◌∷◌, ◌++◌, map, length, take, Option}
 use Rattle.std.specs.Option.{option_to_list}
 use Rattle.std.specs.Io.Iter.{u64_saturate}
 use Rattle.std.specs.Io.KnownBytes.{Appends}
@@ -72,21 +72,33 @@ pub record Writes (rule : HandlerRule) (r : Lock) (w0 w : Option (List ℕ)) (d0
   pub made : Made w0 w d0 d l0 l items
   pub counted : done ≡ u64_saturate (length items)
 
--- The writer ends: at the end in the ring, with all made; or the table is halted, and the last item received may have failed, of
--- whose frame the link has then a part.
-pub record WriterEnded (rule : HandlerRule) (r : Lock) (w0 w : Option (List ℕ)) (d0 d : Option Stored) (l0 l : ItemLog) (got : List Parcel) (done : ℕ) (p : Seat) : Type 0 where
-  pub stands : Stands rule r p
-  pub kinds : AreOf is_stop p.view.known.mine
+-- a part of the frame of the next item, and not all of it; of an item that is no packet nothing
+pub record IsUnfinished (part : List ℕ) (rest : List Item) : Type 0 where
+  pub unwritten : List ℕ
+  pub begins : part ++ unwritten ≡ wire (take 1 rest)
+  pub unmade : unwritten ≡ [] → part ≡ []
+
+-- Of items in this order those in front were made, and counted from a number on. The link got their frames, and behind them at most
+-- a part of the frame of the next one.
+pub record MakesSome (w0 w : Option (List ℕ)) (d0 d : Option Stored) (l0 l : ItemLog) (all : List Item) (before done : ℕ) : Type 0 where
   pub items : List Item
-  pub next : List Item
+  pub rest : List Item
   pub part : List ℕ
-  pub one : length next ≤ 1
-  pub begun : IsPrefix part (wire next)
+  pub parts : all ≡ items ++ rest
+  pub begun : IsUnfinished part rest
   pub written : Appends w0 w (wire items ++ part)
   pub stored : store.Holds items d0 d
   pub logged : Logs l0 l items
-  pub counted : done ≡ u64_saturate (length items)
-  pub cause : ((got ≡ closed items) × (next ≡ [])) ⊎ ((got ≡ parcels (items ++ next)) × (is_halted r.base p.view.known.seen ≡ true))
+  pub counted : done ≡ u64_saturate (before + length items)
+
+-- The writer ends: at the end in the ring, with all items made that it received; or the table is halted, with some of them made.
+pub record WriterEnded (rule : HandlerRule) (r : Lock) (w0 w : Option (List ℕ)) (d0 d : Option Stored) (l0 l : ItemLog) (got : List Parcel) (done : ℕ) (p : Seat) : Type 0 where
+  pub stands : Stands rule r p
+  pub kinds : AreOf is_stop p.view.known.mine
+  pub came : List Item
+  pub received : (got ≡ parcels came) ⊎ (got ≡ closed came)
+  pub makes : MakesSome w0 w d0 d l0 l came 0 done
+  pub cause : ((got ≡ closed came) × (makes.rest ≡ [])) ⊎ (is_halted r.base p.view.known.seen ≡ true)
 
 -- there is a Halt for this reason among these entries
 abbrev pub HaltsFor : Why → List Entry → Type 0

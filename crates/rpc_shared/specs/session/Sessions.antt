@@ -78,7 +78,7 @@ wire items = frames_of_packets (packets_of items)
 
 -- What every session did, halted or not. Of the bytes read some beginning was fed, the packets in that arrived, in order, or a
 -- beginning of them, and the counts are those of it. The items made are a beginning of those of the journal: the store has got
--- just their actions, and the link their frames, and behind them at most a part of the frame of the next item.
+-- just their actions, and the link their frames, and behind them at most a part of the frame of the next item, which isn't all of it.
 pub record Begins (set : Setting) (left_old left_new written_old written_new : Option (List ℕ)) (held_old held_new : Option Stored) (counts : Counts) (read done : ℕ) (items : List Item) (h : List Entry) : Type 0 where
   pub bytes : List ℕ
   pub fed : List ℕ
@@ -94,6 +94,7 @@ pub record Begins (set : Setting) (left_old left_new written_old written_new : O
   pub sent : IsPrefix (items ++ next) (items_sent (history set h))
   pub one : length next ≤ 1
   pub begun : IsPrefix part (wire next)
+  pub unfinished : part ≡ wire next → part ≡ []
   pub written : Appends written_old written_new (wire items ++ part)
   pub stored : store.Holds items held_old held_new
   pub counted : done ≡ length items

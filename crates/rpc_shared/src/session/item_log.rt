@@ -1,6 +1,6 @@
 //! The items that were made.
-ghost use Rattle.std.specs.Prelude.{◌≡◌, [], ◌∷◌, OnErr, OnOk};
-ghost use Rattle.rpc_shared.specs.session.Log.{HasPlace, Logs};
+ghost use Rattle.std.specs.Prelude.{◌≡◌, ℕ, ◌+◌, [], ◌∷◌, OnOk};
+ghost use Rattle.rpc_shared.specs.session.Log.{HasPlaces, Logs};
 
 use rpc_journal::Item;
 use std::alloc::{AllocError, Global};
@@ -24,21 +24,23 @@ impl ItemLog {
         }
     }
 
-    /// Takes a place for one more item, where it is needed.
-    pub fn reserve(&mut self) -> Result<(), AllocError>
+    /// Takes places for so many more items, where they are needed.
+    pub fn reserve(&mut self, count: usize) -> Result<(), AllocError>
         ensures kept { Logs self.old self.new [] }
-        ensures place { OnOk result (HasPlace self.new) }
+        ensures places { OnOk result (HasPlaces self.new count) }
+        ensures still { (n : ℕ) → HasPlaces self.old n → HasPlaces self.new n }
     {
         if self.keeps {
-            self.items.reserve(1)?;
+            self.items.reserve(count)?;
         }
         Ok(())
     }
 
     /// Adds an item, or lets it go.
     pub fn add(&mut self, item: Item)
-        requires { HasPlace self.old }
-        ensures { Logs self.old self.new (item ∷ []) }
+        requires { HasPlaces self.old 1 }
+        ensures logs { Logs self.old self.new (item ∷ []) }
+        ensures places { (n : ℕ) → HasPlaces self.old (n + 1) → HasPlaces self.new n }
     {
         if self.keeps {
             self.items.push_reserved(item);

@@ -141,11 +141,11 @@ returns-clause-history g c =
 pub returns-clause-begins : goal.returns-clause-begins
 returns-clause-begins g c =
     let w = whole g c in (
-      w.writer.items,
-      subst (λ set. Begins set (g.I.Source.left c.args.link_in.now) (g.I.Source.left c.run_threads-done.new.link_in) (g.O.Sink.written c.args.link_out.now) (g.O.Sink.written c.run_threads-done.new.link_out) (g.S.Store.holds c.args.store.now) (g.S.Store.holds c.run_threads-done.new.store) c.counts.result c.run_threads-done.result.1.read c.run_threads-done.result.0 w.writer.items c.close-calls.result.entries) (base_is g c)
+      w.writer.makes.items,
+      subst (λ set. Begins set (g.I.Source.left c.args.link_in.now) (g.I.Source.left c.run_threads-done.new.link_in) (g.O.Sink.written c.args.link_out.now) (g.O.Sink.written c.run_threads-done.new.link_out) (g.S.Store.holds c.args.store.now) (g.S.Store.holds c.run_threads-done.new.store) c.counts.result c.run_threads-done.result.1.read c.run_threads-done.result.0 w.writer.makes.items c.close-calls.result.entries) (base_is g c)
           (begins g.M.H.Handler.rule c.in_ok-shared.shared c.args.workers (g.I.Source.left c.args.link_in.now) (g.I.Source.left c.run_threads-done.new.link_in) (g.O.Sink.written c.args.link_out.now) (g.O.Sink.written c.run_threads-done.new.link_out) (g.S.Store.holds c.args.store.now) (g.S.Store.holds c.run_threads-done.new.store) c.args.log.now c.run_threads-done.new.log c.run_threads-done.new.listener c.counts.result c.run_threads-done.result.1.ending c.run_threads-done.result.1.read c.run_threads-done.result.0 c.close-calls.result
           c.run_threads-done.new.reader c.run_threads-done.new.pumper c.run_threads-done.new.writer c.run_threads-done.new.workers.passes.items w),
-      w.writer.logged,
+      w.writer.makes.logged,
     )
 
 pub returns-clause-explains : goal.returns-clause-explains

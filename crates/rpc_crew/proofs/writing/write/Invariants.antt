@@ -2,6 +2,7 @@ use Rattle.std.proofs.Common.{◌≡◌, ◌≤◌, false}
 use Rattle.rtrb.specs.Ring.{SameConsumer, received}
 use Rattle.turn_cell.specs.Passes.{IsSame}
 use Rattle.rpc_shared.specs.session.Ring.{Writes}
+use Rattle.rpc_crew.specs.Batches.{no_batch}
 use Rattle.rpc_crew.proofs.writing.write.Given as goal
 
 abbrev pub invariant-loop : goal.invariant-loop
@@ -12,4 +13,5 @@ invariant-loop g l = record {
   sink_later : g.O.Sink.faults l.fn.output ≤ g.O.Sink.faults l.output;
   store_later : g.S.Store.faults l.fn.store ≤ g.S.Store.faults l.store;
   more : g.O.Sink.finished l.output ≡ false;
+  empty : l.batch ≡ no_batch;
 }
