@@ -2,11 +2,12 @@
 ghost use Rattle.std.specs.Prelude.{◌≡◌};
 ghost use Rattle.std.specs.Borrow.{Lends, sem};
 
+use crate::kept::Kept;
 use std::marker::Model;
 
 /// The value, until `Turn::give` takes it back. It can't be dropped.
 pub struct Held<T> {
-    pub(crate) value: T,
+    pub(crate) value: Kept<T>,
 }
 
 impl<T> Model for Held<T> {
@@ -23,6 +24,6 @@ impl<T> Held<T> {
         ensures* writes_back { sem 𝓛 (Lends (the_row T.row) T.row self.entry result (λ w. w)) }
         ensures value { result.now ≡ self.old }
     {
-        &mut self.value
+        self.value.get_mut()
     }
 }

@@ -5,6 +5,7 @@
 
 mod busy;
 mod held;
+mod kept;
 mod logged;
 mod pass;
 mod rule;

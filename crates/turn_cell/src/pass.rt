@@ -2,6 +2,7 @@
 ghost use Rattle.std.specs.Prelude.{◌≡◌, ◌<◌, false};
 ghost use Rattle.turn_cell.specs.Views.{giving, given_out, keeping};
 
+use crate::kept::Kept;
 use crate::logged::Logged;
 use crate::rule::{Count, Law};
 use crate::view::View;
@@ -11,7 +12,7 @@ use std::snapshot::Snapshot;
 
 // The table as its steps see it.
 pub(crate) type Top<T> = Shared<
-    Option<T>,
+    Option<Kept<T>>,
     View<<T as Logged>::Entry, <T as Logged>::Base>,
     Snapshot<T>,
     Law<T>,
@@ -23,7 +24,7 @@ pub(crate) type Top<T> = Shared<
 pub struct Pass<T: Logged> {
     number: u32,
     pub(crate) holding: bool,
-    pub(crate) seat: Seat<Option<T>, View<T::Entry, T::Base>>,
+    pub(crate) seat: Seat<Option<Kept<T>>, View<T::Entry, T::Base>>,
 }
 
 impl<T: Logged> Model for Pass<T> {
@@ -54,7 +55,7 @@ impl<T: Logged> Pass<T> {
     }
 
     // The pass of a new table's first seat.
-    pub(crate) fn first(seat: Seat<Option<T>, View<T::Entry, T::Base>>) -> Pass<T>
+    pub(crate) fn first(seat: Seat<Option<Kept<T>>, View<T::Entry, T::Base>>) -> Pass<T>
         requires { IsPassView 0 false seat }
         ensures { result ≡ pass_view seat }
     {
@@ -66,7 +67,7 @@ impl<T: Logged> Pass<T> {
     }
 
     // The seat, at the table's end.
-    pub(crate) fn into_seat(self) -> Seat<Option<T>, View<T::Entry, T::Base>>
+    pub(crate) fn into_seat(self) -> Seat<Option<Kept<T>>, View<T::Entry, T::Base>>
         requires { self.view.holds ≡ false }
         ensures { (pass_view result ≡ self) × IsPassView self.view.known.number false result }
     {

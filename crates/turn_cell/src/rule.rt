@@ -2,6 +2,7 @@
 ghost use Rattle.turn_cell.specs.Views.{giving, given_out, keeping, gone_view};
 ghost use Rattle.turn_cell.specs.Steps.{looked, grabbed, gave};
 
+use crate::kept::Kept;
 use crate::logged::Logged;
 use crate::view::View;
 use atomic_table::{Join, Play, Split, TableRule};
@@ -13,7 +14,7 @@ pub struct Law<T> {
     of: PhantomData<T>,
 }
 
-impl<T: Logged> TableRule<Option<T>, View<T::Entry, T::Base>, Snapshot<T>> for Law<T> {
+impl<T: Logged> TableRule<Option<Kept<T>>, View<T::Entry, T::Base>, Snapshot<T>> for Law<T> {
     ghost use Rattle.turn_cell.specs.Rule.{Ruled};
     ghost use Rattle.turn_cell.specs.Views.{starting};
 
@@ -32,14 +33,14 @@ impl<T, E, B> Play<Option<T>, View<E, B>> for Look {
 /// An exchange of the word, which takes the slot.
 pub(crate) struct Grab;
 
-impl<T: Logged> Play<Option<T>, View<T::Entry, T::Base>> for Grab {
+impl<T: Logged> Play<Option<Kept<T>>, View<T::Entry, T::Base>> for Grab {
     ghost then = { grabbed T.log T.maker T.base };
 }
 
 /// A store of the word, which gives the slot back.
 pub(crate) struct Leave;
 
-impl<T: Logged> Play<Option<T>, View<T::Entry, T::Base>> for Leave {
+impl<T: Logged> Play<Option<Kept<T>>, View<T::Entry, T::Base>> for Leave {
     ghost then = { gave T.log T.maker T.base };
 }
 

@@ -3,6 +3,7 @@ ghost use Rattle.std.specs.Prelude.{◌≡◌, ◌+◌, ◌*◌, ◌<◌, true, 
 
 use crate::busy::Busy;
 use crate::held::Held;
+use crate::kept::Kept;
 use crate::logged::Logged;
 use crate::pass::Pass;
 use crate::rule::{Grab, Law, Leave, Look};
@@ -21,7 +22,7 @@ mod opening;
 /// passes it has.
 #[derive(Drop)]
 pub struct Turn<T: Logged> {
-    table: Table<Option<T>, View<T::Entry, T::Base>, Snapshot<T>, Law<T>, Global>,
+    table: Table<Option<Kept<T>>, View<T::Entry, T::Base>, Snapshot<T>, Law<T>, Global>,
     count: u32,
     // How many threads sleep, or are about to: one that counts itself looks at the word again before it sleeps.
     sleepers: AtomicU64,
@@ -100,7 +101,7 @@ impl<T: Logged> Turn<T> {
         ensures given { HasGiven T.log T.maker pass.old pass.new held }
     {
         let Held { value } = held;
-        let length = value.log_len();
+        let length = value.get().log_len();
         let shared = &self.table.shared;
         let slot = shared.exchange(&mut pass.seat, 0, Some(value));
         let None = slot else { unreachable!() };

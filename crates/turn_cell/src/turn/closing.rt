@@ -39,6 +39,6 @@ impl<T: Logged> Turn<T> {
         let slot = closed.take(0);
         closed.free();
         let Some(value) = slot else { unreachable!() };
-        value
+        value.into_inner()
     }
 }

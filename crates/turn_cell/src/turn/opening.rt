@@ -3,6 +3,7 @@ ghost use Rattle.std.specs.Prelude.{◌≡◌, ◌+◌, ◌-◌, ◌<◌, ◌≤
 ghost use Rattle.turn_cell.specs.Views.{starting};
 ghost use Rattle.turn_cell.specs.Helpers.{AreNewcomers};
 
+use crate::kept::Kept;
 use crate::logged::Logged;
 use crate::pass::{Pass, Top};
 use crate::rule::Law;
@@ -13,10 +14,10 @@ use std::alloc::{AllocError, Global};
 use std::snapshot::Snapshot;
 use std::sync::atomic::AtomicU64;
 
-type Place<T> = Seat<Option<T>, View<<T as Logged>::Entry, <T as Logged>::Base>>;
+type Place<T> = Seat<Option<Kept<T>>, View<<T as Logged>::Entry, <T as Logged>::Base>>;
 
 type Board<T> = Table<
-    Option<T>,
+    Option<Kept<T>>,
     View<<T as Logged>::Entry, <T as Logged>::Base>,
     Snapshot<T>,
     Law<T>,
@@ -24,7 +25,7 @@ type Board<T> = Table<
 >;
 
 // The value of the one slot that was refused.
-fn sent_back<T>(refused: Refused<Option<T>, Global>) -> T
+fn sent_back<T>(refused: Refused<Option<Kept<T>>, Global>) -> T
     requires { (x : T) × (refused.slots.items ≡ Some x ∷ []) }
     ensures { refused.slots.items ≡ Some result ∷ [] }
 {
@@ -34,7 +35,7 @@ fn sent_back<T>(refused: Refused<Option<T>, Global>) -> T
         unreachable!()
     };
     slots.destroy_empty();
-    value
+    value.into_inner()
 }
 
 // The word and the slot with the value in it.
@@ -46,9 +47,13 @@ fn lay<T: Logged>(alloc: Global, value: T) -> Result<(Board<T>, Place<T>), (T, A
     ensures back { IfErr result (λ r. r.0 ≡ value) }
 {
     let key = Snapshot::of(&value);
+    let value = match Kept::new(alloc, value) {
+        Ok(value) => value,
+        Err(value) => return Err((value, AllocError)),
+    };
     let mut slots = match Vec::with_capacity(alloc, 1) {
         Ok(slots) => slots,
-        Err(refused) => return Err((value, refused)),
+        Err(refused) => return Err((value.into_inner(), refused)),
     };
     slots.push_reserved(Some(value));
     match Table::new(alloc, &[0], slots, &key) {

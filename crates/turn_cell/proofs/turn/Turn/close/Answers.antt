@@ -115,7 +115,7 @@ returns g c =
     (slots_items closed.slots)
     c.close_with-closed.ensures.values.2 in
     let slot : Some found.0 ≡ Some c.in-Some.value = some-injective (Some found.0) (Some c.in-Some.value) (sym found.1 ∙ (c.take-slot.ensures.value ∙ ap some c.in-Some.is)) in
-    let same : found.0 ≡ c.in-Some.value = cc in record {
-      fits = subst (λ (ps : List (PassView g.row.T-Entry.Denot g.row.T-Base.Denot)). AllFit L.log L.maker L.base ps c.in-Some.value) (sym parts)
+    let same : found.0 ≡ c.into_inner.result = let taken = c.into_inner.ensures in cc in record {
+      fits = subst (λ (ps : List (PassView g.row.T-Entry.Denot g.row.T-Base.Denot)). AllFit L.log L.maker L.base ps c.into_inner.result) (sym parts)
           (subst (λ (x : g.row.T.Denot). AllFit L.log L.maker L.base (first ∷ others) x) same found.2);
     }

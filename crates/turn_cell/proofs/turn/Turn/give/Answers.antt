@@ -1,4 +1,4 @@
-use Rattle.std.proofs.Common.{◌≡◌, ◌*◌, ℕ, List, ◌∷◌, Option, Some, ap, sym, ◌∙◌, subst, arith}
+use Rattle.std.proofs.Common.{◌≡◌, ◌*◌, ℕ, List, ◌∷◌, length, Option, Some, ap, sym, ◌∙◌, subst, arith}
 use Rattle.atomic_table.specs.Table.{Me, rest}
 use Rattle.entry_lists.specs.Entries.{made_by, GoesOn}
 use Rattle.turn_cell.specs.declared.view.View.{View}
@@ -43,7 +43,7 @@ store-requires g c =
           (ap (λ (y : g.row.T.Denot). Some (L.base y)) c.held.view_is ∙ (c.requires.base ∙ sym (ap (λ (v : View g.row.T-Entry.Denot g.row.T-Base.Denot). v.base) now)))
           goes
           (2 * c.log_len-length.result)
-          (ap (λ (n : ℕ). 2 * n) c.log_len-length.ensures.length),
+          (ap (λ (n : ℕ). 2 * n) (c.log_len-length.ensures.length ∙ ap (λ (y : g.row.T.Denot). length (L.log y)) c.get.ensures)),
     )
 
 pub returns : goal.returns

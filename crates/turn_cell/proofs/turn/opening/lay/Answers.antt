@@ -5,10 +5,11 @@ use Rattle.turn_cell.specs.Rule.{Ruled}
 use Rattle.turn_cell.proofs.Counting.{opens}
 use Rattle.turn_cell.proofs.turn.opening.lay.Goals as goal
 
-pub new-requires : goal.new-requires
-new-requires g c =
+pub new-requires-2 : goal.new-requires-2
+new-requires-2 g c =
     let L = g.T.Logged in
     let fixed = L.base c.of-key.result.value in
-    let items = c.push_reserved.ensures.items ∙ ap (λ (l : List (Option g.row.T.Denot)). l ++ Some c.args.value ∷ []) c.in-Ok.ensures.items in
+    let kept = c.in-Ok.ensures.kept in
+    let items = c.push_reserved.ensures.items ∙ ap (λ (l : List (Option g.row.T.Denot)). l ++ Some c.in-Ok.value ∷ []) c.in-Ok-with_capacity.ensures.items in
     subst (λ (xs : List (Option g.row.T.Denot)). Ruled L.log L.maker L.base fixed (opening (0 ∷ []) xs (starting fixed))) (sym items)
-    (opens L.log L.maker L.base fixed c.args.value c.requires (ap L.base (sym c.of-key.ensures)))
+    (opens L.log L.maker L.base fixed c.in-Ok.value (ap L.log kept ∙ c.requires) (ap L.base (kept ∙ sym c.of-key.ensures)))
