@@ -21,13 +21,8 @@ pub fn measure(rt: &HostRuntime, live: u32, messages: u32) -> anyhow::Result<()>
     let opened = Instant::now(rt)?;
     let mut times = Times::default();
     serve(rt, &mut calls, &maker, live, messages, &mut times)?;
-    println!(rt; "entries {} calls {}", calls.journal().len(), calls.count())?;
-    eprintln!(rt;
-        "openings {} {}",
-        opened.duration_since(begun).as_nanos(),
-        times
-    )?;
-    Ok(())
+    tell_counts(rt, calls.journal().len(), calls.count())?;
+    tell_times(rt, opened.duration_since(begun).as_nanos(), &times)
 }
 
 /// Opens and closes so many calls of Echo on one table, and prints how many entries and calls it then has, and to standard
@@ -38,7 +33,7 @@ pub fn measure_closed(rt: &HostRuntime, count: u32) -> anyhow::Result<()> {
     let begun = Instant::now(rt)?;
     close_calls(&mut calls, &maker, count)?;
     let closed = Instant::now(rt)?;
-    println!(rt; "entries {} calls {}", calls.journal().len(), calls.count())?;
+    tell_counts(rt, calls.journal().len(), calls.count())?;
     tell_memory(rt, closed.duration_since(begun).as_nanos())
 }
 
@@ -50,8 +45,20 @@ pub fn measure_written(rt: &HostRuntime, count: u32) -> anyhow::Result<()> {
         written.write_call(rt.alloc(), call)?;
     }
     let ended = Instant::now(rt)?;
-    println!(rt; "entries {} calls {}", written.len(), count)?;
+    tell_counts(rt, written.len(), count)?;
     tell_memory(rt, ended.duration_since(begun).as_nanos())
+}
+
+// How many entries and calls there are.
+fn tell_counts(rt: &HostRuntime, entries: u64, calls: u32) -> anyhow::Result<()> {
+    println!(rt; "entries {} calls {}", entries, calls)?;
+    Ok(())
+}
+
+// The nanoseconds of the openings, and what the messages took.
+fn tell_times(rt: &HostRuntime, openings: u128, times: &Times) -> anyhow::Result<()> {
+    eprintln!(rt; "openings {} {}", openings, times)?;
+    Ok(())
 }
 
 // The nanoseconds, and behind them the sizes in pages that the system tells of this program.
