@@ -60,7 +60,7 @@ impl<'a> Sink for Telling<'a> {
     }
 }
 
-// The second write fails. The client waits for its answer, and closes once it hears that nothing more comes.
+// The first write fails. The client waits for its answer, and closes once it hears that nothing more comes.
 #[test]
 fn a_client_hears_that_a_write_failed(rt: HostRuntime) -> Result<(), Fail> {
     let alloc = rt.alloc();
@@ -73,7 +73,7 @@ fn a_client_hears_that_a_write_failed(rt: HostRuntime) -> Result<(), Fail> {
         late: &late,
     };
     let mut link_out = Telling {
-        inner: MemSink::new(Vec::new(alloc), Vec::from_slice(alloc, &[2])?),
+        inner: MemSink::new(Vec::new(alloc), Vec::from_slice(alloc, &[1])?),
         finished: &finished,
     };
     let did = serve_echoes(
@@ -85,8 +85,8 @@ fn a_client_hears_that_a_write_failed(rt: HostRuntime) -> Result<(), Fail> {
         &mut Still::new(),
         &Free,
     )?;
-    ended(&rt, &did, Why::Sink, 1);
-    wrote(&rt, &link_out.inner, 1);
+    ended(&rt, &did, Why::Sink, 0);
+    wrote(&rt, &link_out.inner, 0);
     word_is(&rt, &finished, 1);
     word_is(&rt, &late, 0);
     Ok(())
