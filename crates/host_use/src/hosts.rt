@@ -5,10 +5,12 @@ ghost use Rattle.link_io.specs.LinkDevice.{IsUnused};
 mod checks;
 mod clocks;
 mod faults;
+mod one_frame;
 mod uploads;
 
 use bytes::Bytes;
 use link_io::{Fulls, MemLinker, MemSink, MemSource, MemStore, Still};
+use one_frame::OneFrames;
 use pw_run::run;
 use rpc_crew::Free;
 use std::alloc::{AllocError, Global};
@@ -69,17 +71,18 @@ fn store(alloc: Global, failing_call: u64) -> Result<MemStore, AllocError> {
     )
 }
 
-/// Runs a command over these links. The call of the output and the call of the store with these numbers fail.
+/// Runs a command over these links, with a write for each frame. The call of the output and the call of the store with these numbers fail.
 fn serve<R: Threads + Wait + Sync>(
     rt: &R,
     alloc: Global,
     line: &str,
-    mut net: MemLinker,
+    net: MemLinker,
     failing_output: u64,
     failing_store: u64,
 ) -> Result<Hosted, AllocError> {
     let mut output = MemSink::new(Vec::new(alloc), Vec::from_slice(alloc, &[failing_output])?);
     let mut store = store(alloc, failing_store)?;
+    let mut net = OneFrames { net };
     let status = run(
         rt,
         alloc,
@@ -93,7 +96,7 @@ fn serve<R: Threads + Wait + Sync>(
     );
     Ok(Hosted {
         status,
-        net,
+        net: net.net,
         output,
         store,
     })

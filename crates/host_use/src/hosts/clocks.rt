@@ -2,6 +2,7 @@
 ghost use Rattle.std.specs.Prelude.{◌≡◌, None};
 
 use super::checks::{count_is, status_is};
+use super::one_frame::frames_in;
 use super::uploads::{confirmation, frames, start};
 use super::{link, store, words};
 use link_io::{Clock, Failed, Linker, MemLinker, MemSink, MemSource, Sink, Source};
@@ -80,7 +81,7 @@ fn turn_until<R: time::Clock>(rt: &R, word: &AtomicU64, least: u64) {
     }
 }
 
-// A sink that tells how often it was written to.
+// A sink that tells how many frames were written to it.
 #[derive(Drop)]
 struct Telling<'a> {
     inner: MemSink,
@@ -96,7 +97,7 @@ impl<'a> Sink for Telling<'a> {
 
     fn write(&mut self, bytes: &[u8]) -> Result<usize, Failed> {
         let count = self.inner.write(bytes);
-        self.written.fetch_add(1, Ordering::SeqCst);
+        self.written.fetch_add(frames_in(bytes), Ordering::SeqCst);
         count
     }
 
@@ -164,7 +165,7 @@ impl<'a, R: time::Clock + Sync> Linker for Slow<'a, R> {
     }
 }
 
-// Serves a client that opens an upload and sends nothing of it, while 600 ms pass. How often the link was written to.
+// Serves a client that opens an upload and sends nothing of it, while 600 ms pass. How many frames were written to the link.
 fn writes<R: Threads + Wait + Sync + time::Clock + Abort>(
     rt: &R,
     alloc: Global,
