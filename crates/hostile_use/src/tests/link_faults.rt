@@ -93,13 +93,10 @@ const ROWS: &[Row] = &[
         FRAMES,
         2,
     ),
-    // A write for each frame.
+    // The frame before the upload's begin has a write of its own. Behind that a write takes what frames are there, so that it is up
+    // to the threads how many writes follow, but not more than frames.
     (Device::LinkOut, 1, 4, Lines::From(BEGUN, SINK_FAULT), 0, 1),
     (Device::LinkOut, 2, 4, Lines::From(BEGUN, SINK_FAULT), 1, 1),
-    (Device::LinkOut, 3, 4, Lines::From(BEGUN, SINK_FAULT), 2, 1),
-    (Device::LinkOut, 4, 4, Lines::From(BEGUN, SINK_FAULT), 3, 1),
-    (Device::LinkOut, 5, 4, Lines::From(BEGUN, SINK_FAULT), 4, 1),
-    (Device::LinkOut, 6, 4, Lines::From(BEGUN, SINK_FAULT), 5, 1),
     (
         Device::LinkOut,
         7,
