@@ -24,7 +24,7 @@ def built():
     plain = os.path.join(BUILD, "plain_crew")
     source = os.path.join(HERE, "plain_server.rs")
     subprocess.run(["rustc", "-O", "--edition", "2021", "-o", plain, source], check=True)
-    subprocess.run(["rt", "run"], cwd=CRATE, check=True, stdout=subprocess.DEVNULL, stderr=subprocess.DEVNULL)
+    subprocess.run(["rt", "run", "--", "nothing"], cwd=CRATE, check=True, stdout=subprocess.DEVNULL, stderr=subprocess.DEVNULL)
     return [os.path.join(CRATE, "out", "speed"), "crew"], plain
 
 
