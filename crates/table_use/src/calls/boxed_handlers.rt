@@ -1,15 +1,15 @@
 //! A client's table whose handlers are boxed objects.
-ghost use Rattle.std.specs.Prelude.{◌≡◌, IfOk};
+ghost use Rattle.std.specs.Prelude.{◌≡◌, [], None, IfOk};
 ghost use Rattle.rpc_ids.specs.declared.method.Role.TheVariants.{Client};
 
 use super::letters::Letter;
 use bytes::Bytes;
 use rpc_calls::Calls;
 use rpc_channel::Channels;
-use rpc_handlers::{Acts, Handler, Maker, Memo, Nobody};
+use rpc_handlers::{Acts, Answer, Event, Handler, Maker, Memo, Nobody, Outs, Parts, Words};
 use rpc_ids::{Kind, Registry, Role};
 use rpc_packet::CallName;
-use std::alloc::Global;
+use std::alloc::{AllocError, Global};
 use std::process::Abort;
 use std::test::Fail;
 
@@ -64,6 +64,50 @@ fn a_boxed_handler_is_replaced_and_comes_back(rt: HostRuntime) -> Result<(), Fai
     let alloc = rt.alloc();
     let first: Box<dyn Acts + Send> = Box::new(alloc, letter(alloc, b'a'))?;
     let second: Box<dyn Acts + Send> = Box::new(alloc, letter(alloc, b'b'))?;
+    let memo = replaced(&rt, alloc, first, second)?;
+    let Some(part) = memo.parts.as_slice().first() else {
+        panic!(rt; "no part")
+    };
+    assert_eq!(rt; part.as_slice(), b"a".as_slice());
+    Ok(())
+}
+
+// Says nothing, and its call goes on.
+#[derive(Drop)]
+struct Mute {
+    alloc: Global,
+}
+
+impl Acts for Mute {
+    ghost can_act = { λ _. Unit {0} };
+
+    ghost now = { λ _. record { words = []; parts = [] } };
+
+    ghost gives = { λ _ _. record { items = []; end = None } };
+
+    ghost moves = { λ _ _. record { words = []; parts = [] } };
+
+    fn on(&mut self, ev: &Event) -> Result<Answer, AllocError> {
+        let _ = ev;
+        Ok(Answer {
+            items: Outs::new(self.alloc),
+            end: None,
+        })
+    }
+
+    fn memo(&self) -> Result<Memo, AllocError> {
+        Ok(Memo {
+            words: Words::new(self.alloc),
+            parts: Parts::new(self.alloc),
+        })
+    }
+}
+
+#[test]
+fn a_boxed_handler_is_replaced_by_one_of_another_type(rt: HostRuntime) -> Result<(), Fail> {
+    let alloc = rt.alloc();
+    let first: Box<dyn Acts + Send> = Box::new(alloc, letter(alloc, b'a'))?;
+    let second: Box<dyn Acts + Send> = Box::new(alloc, Mute { alloc })?;
     let memo = replaced(&rt, alloc, first, second)?;
     let Some(part) = memo.parts.as_slice().first() else {
         panic!(rt; "no part")
