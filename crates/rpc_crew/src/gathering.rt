@@ -16,7 +16,7 @@ use std::alloc::{AllocError, Global};
 /// What came of the ring behind the frames of a batch.
 #[derive(Drop)]
 pub(crate) enum Behind {
-    /// Nothing was looked for, since the batch is full.
+    /// Nothing was looked for: the batch is full, or as many parcels came as the ring has places.
     Full,
     /// Nothing: the ring is empty.
     Nothing,
