@@ -15,6 +15,9 @@ import zlib
 
 HERE = os.path.dirname(os.path.abspath(__file__))
 TOP = os.path.dirname(os.path.dirname(HERE))
+sys.path.insert(0, os.path.join(TOP, "bench", "plain"))
+import debian
+
 BUILD = os.path.join(TOP, "bench", "build")
 SIZE = 64 << 20
 ROUNDS = 5
@@ -54,23 +57,9 @@ def speeds(commands, size):
     return [size * ROUNDS / max(all_rounds - one, 1e-3) / 1e6 for one, all_rounds in best]
 
 
-def table_decoder():
-    """The command of the decoder on memchr and tables of sixteen lanes, or none where it can't be built."""
-    registry = "/usr/share/cargo/registry"
-    names = os.listdir(registry) if os.path.isdir(registry) else []
-    if not all(any(name.startswith(crate) for name in names) for crate in ("memchr-", "crc32fast-")):
-        print("librust-memchr-dev and librust-crc32fast-dev aren't there, so the decoder on memchr and tables is left out")
-        return None
-    config = ["--config", "source.crates-io.replace-with='debian'", "--config", f"source.debian.directory='{registry}'"]
-    target = os.path.join(BUILD, "table_decoder")
-    subprocess.run(["cargo", "build", "--release", "--offline", "--quiet", "--target-dir", target] + config,
-                   cwd=os.path.join(HERE, "table_decoder"), check=True)
-    return os.path.join(target, "release", "table_decoder")
-
-
 def main():
     os.makedirs(BUILD, exist_ok=True)
-    table = table_decoder()
+    table = debian.built(os.path.join(HERE, "table_decoder"), ("memchr", "crc32fast"), BUILD)
     plain = os.path.join(BUILD, "plain_decoder")
     subprocess.run(["cc", "-O2", "-o", plain, os.path.join(HERE, "plain_decoder.c")], check=True)
     crate = os.path.join(TOP, "crates", "speed")

@@ -8,8 +8,11 @@
 //! plain_server recording open N                 writes one that leaves N calls of Chat open
 use std::collections::HashMap;
 use std::io::{self, Read, Write};
+use recordings::hash_name;
 use wire::{ADDRESS, CONTROL, Crc, FLAG, Name, Packet, put_frame, read_packet, read_segment};
 
+#[path = "../plain/recordings.rs"]
+mod recordings;
 #[path = "../plain/wire.rs"]
 mod wire;
 
@@ -36,16 +39,6 @@ const STATUSES: [&str; 17] = [
     "PERMISSION_DENIED", "RESOURCE_EXHAUSTED", "FAILED_PRECONDITION", "ABORTED", "OUT_OF_RANGE", "UNIMPLEMENTED",
     "INTERNAL", "UNAVAILABLE", "DATA_LOSS", "UNAUTHENTICATED",
 ];
-
-fn hash_name(name: &str) -> u32 {
-    let mut power = 1u32;
-    let mut sum = name.len() as u32;
-    for byte in name.bytes() {
-        power = power.wrapping_mul(65_599);
-        sum = sum.wrapping_add(u32::from(byte).wrapping_mul(power));
-    }
-    sum
-}
 
 // ---- the demo service and its table of calls
 
@@ -323,54 +316,11 @@ fn is_heard(p: &Packet) -> bool {
     matches!(p.ptype, REQUEST | CLIENT_STREAM | CLIENT_ERROR | COMPLETION) && channel != 0 && service != 0 && method != 0
 }
 
-// ---- recordings
-
-fn demo_packet(ptype: u64, method: &str, call: u32, payload: &[u8]) -> Packet {
-    let name = Name { channel: 1, service: hash_name("demo.Demo"), method: hash_name(method), call };
-    Packet { ptype, name, payload: payload.to_vec(), status: 0 }
-}
-
-fn echo_recording(n: u32) -> Vec<u8> {
+// A stream of frames, of the packets that `packets` puts.
+fn recording(packets: impl FnOnce(&mut dyn FnMut(u64, Name, &[u8]))) -> Vec<u8> {
     let crc = Crc::new();
     let mut out = Vec::new();
-    for i in 0..n {
-        put_frame(&crc, &mut out, &demo_packet(REQUEST, "Echo", i + 1, &i.to_be_bytes()));
-    }
-    out
-}
-
-fn open_recording(n: u32) -> Vec<u8> {
-    let crc = Crc::new();
-    let mut out = Vec::new();
-    for i in 0..n {
-        put_frame(&crc, &mut out, &demo_packet(REQUEST, "Chat", i + 1, &[]));
-    }
-    out
-}
-
-fn load_recording(n: u32, seed: u64) -> Vec<u8> {
-    let crc = Crc::new();
-    let mut out = Vec::new();
-    let mut x = seed;
-    for i in 0..n {
-        x = x.wrapping_mul(6_364_136_223_846_793_005).wrapping_add(1_442_695_040_888_963_407);
-        let top: [u8; 3] = x.to_be_bytes()[..3].try_into().unwrap();
-        let mut put = |ptype, method: &str, payload: &[u8]| {
-            put_frame(&crc, &mut out, &demo_packet(ptype, method, i + 1, payload));
-        };
-        match i % 4 {
-            0 => put(REQUEST, "Echo", &top),
-            1 => put(REQUEST, "Count", &[1 + ((x >> 32) % 64) as u8]),
-            kind => {
-                let method = if kind == 2 { "Sum" } else { "Chat" };
-                put(REQUEST, method, &[]);
-                for byte in top {
-                    put(CLIENT_STREAM, method, &[byte]);
-                }
-                put(COMPLETION, method, &[]);
-            }
-        }
-    }
+    packets(&mut |ptype, name, payload| put_frame(&crc, &mut out, &Packet { ptype, name, payload: payload.to_vec(), status: 0 }));
     out
 }
 
@@ -383,11 +333,11 @@ fn main() -> io::Result<()> {
     }
     let mut server = Server::new(keeps);
     let out = match words[..] {
-        ["recording", "echo", n] => echo_recording(n.parse().unwrap()),
-        ["recording", "open", n] => open_recording(n.parse().unwrap()),
-        ["recording", "load", n, seed] => load_recording(n.parse().unwrap(), seed.parse().unwrap()),
+        ["recording", "echo", n] => recording(|put| recordings::echo(n.parse().unwrap(), put)),
+        ["recording", "open", n] => recording(|put| recordings::open(n.parse().unwrap(), put)),
+        ["recording", "load", n, seed] => recording(|put| recordings::load(n.parse().unwrap(), seed.parse().unwrap(), put)),
         ["load", n, seed] => {
-            server.feed(&load_recording(n.parse().unwrap(), seed.parse().unwrap()));
+            server.feed(&recording(|put| recordings::load(n.parse().unwrap(), seed.parse().unwrap(), put)));
             server.end_in();
             let payload: usize = server.sent.iter().map(|p| p.payload.len()).sum();
             let (calls, packets) = (server.calls.len(), server.sent.len());

@@ -1,10 +1,12 @@
 #!/usr/bin/env python3
-"""Measures the program beside a plain server in Rust, and compares what the two write.
+"""Measures the program beside two plain servers in Rust, and compares what they write.
 
-Builds bench/replay/plain_server.rs with rustc, and the program crates/pw_main with rt (proved, by LLVM). The plain server runs in two
-ways: it keeps nothing, or each packet that came and an entry for each step, as the program has to.
+Builds bench/replay/plain_server.rs with rustc, bench/replay/crates_server with cargo on Debian's hashbrown, slab, bytes, memchr and
+crc32fast (left out where they aren't there), and the program crates/pw_main with rt (proved, by LLVM). A plain server runs in two ways:
+it keeps nothing, or each packet that came or went and an entry for each step, as the program has to.
 
-run.py            the measured table: load, recordings of 100,000 Echo calls and of calls left open, and how both grow
+run.py            the measured table: load, recordings of 100,000 Echo calls and of calls left open, how both grow, and frames for
+                  another address
 run.py compare N  N recordings with damage, repeated names and all packet types; the two must write the same
 """
 import os
@@ -16,6 +18,9 @@ import zlib
 
 HERE = os.path.dirname(os.path.abspath(__file__))
 TOP = os.path.dirname(os.path.dirname(HERE))
+sys.path.insert(0, os.path.join(TOP, "bench", "plain"))
+import debian
+
 BUILD = os.path.join(TOP, "bench", "build")
 SERVICE = 0x70F45CFB
 METHODS = [0x8B470EE9, 0xB63613B6, 0x09570BB8, 0x9BA981BC]
@@ -52,30 +57,50 @@ def seconds(command, recording=b""):
     return min(times), out
 
 
-def measured(what, ours, plain, recording=b""):
-    keeping = [plain[0], "keep", *plain[1:]]
-    (a, told), (b, wanted), (c, kept) = (seconds(command, recording) for command in (ours, plain, keeping))
-    if told != wanted or told != kept:
-        sys.exit(f"{what}: the two differ")
-    print(f"| {what} | {a:.3f} | {b:.3f} | {a / b:.1f} | {c:.3f} | {a / c:.1f} |", flush=True)
-    return a
+def measured(what, program, servers, words, recording=b""):
+    best, told = seconds([program, *words[0]], recording)
+    cells = [what, f"{best:.3f}"]
+    for server in servers:
+        for keeping in ((), ("keep",)):
+            beside, wanted = seconds([server, *keeping, *words[1]], recording)
+            if told != wanted:
+                sys.exit(f"{what}: the two differ")
+            cells += [f"{beside:.3f}", f"{best / beside:.1f}"]
+    print(f"| {' | '.join(cells)} |", flush=True)
+    return best
 
 
-def table(program, plain):
+def table(program, servers):
     print(f"{os.cpu_count()} processors, seconds of processor time, best of 5 (of 1 where a run takes more than 10)")
-    print("| what | this program | plain Rust | ratio | that keeps packets and entries | ratio |")
-    print("|---|---|---|---|---|---|")
-    echo = written([plain, "recording", "echo", "100000"])
-    measured("`replay raw`, 100,000 Echo calls", [program, "replay", "raw"], [plain, "raw"], echo)
+    heads = [f"{kind}{keeping} | ratio" for kind in ("std", "crates")[:len(servers)] for keeping in ("", ", keeps")]
+    print(f"| what | this program | {' | '.join(heads)} |")
+    print("|---" * (2 + 4 * len(servers)) + "|")
+    raw = ["replay", "raw"], ["raw"]
+    echo = written([servers[0], "recording", "echo", "100000"])
+    measured("`replay raw`, 100,000 Echo calls", program, servers, raw, echo)
     spans = []
     for n in ("10000", "30000"):
-        left_open = written([plain, "recording", "open", n])
-        spans.append(measured(f"`replay raw`, {n} calls of Chat left open", [program, "replay", "raw"], [plain, "raw"], left_open))
+        left_open = written([servers[0], "recording", "open", n])
+        spans.append(measured(f"`replay raw`, {n} calls of Chat left open", program, servers, raw, left_open))
     times = []
     for n in ("7500", "15000", "30000"):
-        times.append(measured(f"`load {n} 7`", [program, "load", n, "7"], [plain, "load", n, "7"]))
+        words = ["load", n, "7"]
+        times.append(measured(f"`load {n} 7`", program, servers, (words, words)))
+    for length in (16, 256, 4096):
+        measured(f"`replay raw`, 32 MB of frames of {length} for another address", program, servers, raw, other_frames(length))
     print(f"three times as many calls left open take {spans[1] / spans[0]:.2f} times as long")
     print(f"load grows by {times[1] / times[0]:.2f} and {times[2] / times[1]:.2f} where its calls double")
+
+
+# Some 32 MB of frames of random octets for the address 123.
+def other_frames(length):
+    rng = random.Random(length)
+    heads = (b"\xf7\x03" + rng.randbytes(length) for _ in range((1 << 20) // length))
+    return b"".join(flagged(head + zlib.crc32(head).to_bytes(4, "little")) for head in heads) * 32
+
+
+def flagged(content):
+    return b"\x7e" + content.replace(b"\x7d", b"\x7d\x5d").replace(b"\x7e", b"\x7d\x5e") + b"\x7e"
 
 
 def varint(value):
@@ -101,8 +126,7 @@ def packet(rng):
 
 def frame(rng):
     head = rng.choice([b"\xa5"] * 20 + [b"\xf7", b"\xa4\x01"]) + rng.choice([b"\x03"] * 20 + [b"\x13"]) + packet(rng)
-    content = head + zlib.crc32(head).to_bytes(4, "little")
-    return b"\x7e" + content.replace(b"\x7d", b"\x7d\x5d").replace(b"\x7e", b"\x7d\x5e") + b"\x7e"
+    return flagged(head + zlib.crc32(head).to_bytes(4, "little"))
 
 
 def recording(seed):
@@ -132,7 +156,9 @@ def main():
     if sys.argv[1:2] == ["compare"]:
         compare(program, plain, int(sys.argv[2]))
     else:
-        table(program, plain)
+        crates = ("bytes", "crc32fast", "hashbrown", "memchr", "slab")
+        fast = debian.built(os.path.join(HERE, "crates_server"), crates, BUILD)
+        table(program, [plain] + [fast] * (fast is not None))
 
 
 if __name__ == "__main__":

@@ -1,5 +1,6 @@
 pub mod PumpLemmas
 pub mod RingLemmas
+pub mod WholeFrames
 pub mod WholeSession
 pub mod WorkerLists
 pub mod WriterRounds

@@ -4,7 +4,7 @@ use Rattle.std.proofs.lemmas.Bool.{false≢true, true≢false}
 use Rattle.std.proofs.lemmas.List.{append-nil}
 use Rattle.std.specs.Io.KnownBytes.{Appends, IsAtEnd}
 use mathlib.Core.List.{IsPrefix}
-use Rattle.entry_lists.proofs.Prefixes.{prefix_trans}
+use Rattle.entry_lists.proofs.Prefixes.{prefix_length, prefix_trans}
 use Rattle.link_io.specs.declared.reading.Ending.{Ending}
 use Rattle.link_io.specs.declared.reading.Ending.TheVariants.{AtEnd, AtLimit, Failed}
 use Rattle.link_io.specs.declared.why.Why.{Why}
@@ -33,6 +33,8 @@ use Rattle.rpc_shared.specs.session.Leaving.{LeavesLink, WriterLeaves}
 use Rattle.rpc_shared.specs.session.Reasons.{reason_of, reason_read}
 use Rattle.rpc_shared.specs.session.Ring.{HaltsFor, MakesSome, PumpEnded, WriterEnded}
 use Rattle.rpc_shared.specs.session.Sessions.{AreSpaced, Begins, Explains, IsSessionHistory, LeavesNoneDue, TicksBetween, is_halted, is_halting, last_from, wire}
+use Rattle.rpc_crew.specs.WholeFrames.{SendsWholeFrames, WritesWholeFrames}
+use Rattle.rpc_crew.proofs.WholeFrames.{frames_begin}
 use Rattle.rpc_crew.proofs.PumpLemmas.{last_earlier, spaced_earlier, spaced_up}
 use Rattle.rpc_shared.proofs.session.SessionLemmas.{AllMade, Closed, all_idle_again, all_late, all_worked, few_flushed, few_made, flushed_begin, halting_reason, made_all, made_begin, pump_begins, pump_halted_too, reader_halted, session_arrivals, session_kinds, session_moments, settled_items, settled_then, settled_whole, writer_halted_too, writers_halt}
 
@@ -299,6 +301,42 @@ module _ (rule : HandlerRule) (r : Lock) (workers : ℕ) (left_old left_new w0 w
     stays_open = λ calm. absurd (true≢false (sym (writer_halted_too rule r workers q0 q1 qw qs t closed hung.0) ∙ calm));
     hung_up = λ _. inl hung.1;
   }
+
+  -- ---- what its link got where it never failed
+
+  -- the same table, by what this pump flushed
+  abbrev closed_by : (put : List Parcel) → PumpEnded rule r put q1 → Closed rule r workers q0 q1 qw qs t
+  closed_by put pump = record {
+    reader = s.reader;
+    flushed = pump.items;
+    pump = pump.takes;
+    worked = s.worked;
+    writer = s.writer.stands;
+    stops = s.writer.kinds;
+    fits = s.fits;
+    count = s.count;
+    numbers = λ k q at. (s.idle.each k q at).pass.number;
+    legal = s.legal;
+  }
+
+  pub sends_whole : (put got known : List Parcel) → PumpEnded rule r put q1 → got ++ known ≡ put → WritesWholeFrames w0 w got done → SendsWholeFrames r.base w0 w done t.entries
+  sends_whole put got known pump fifo y =
+      let front = frames_begin rule r w0 w put got known done q1 pump y fifo in
+      record {
+        items = y.items;
+        sent =
+            prefix_trans y.items pump.items (items_sent (history r.base t.entries)) (prefix_trans y.items (y.items ++ y.rest) pump.items (y.rest, refl) front)
+            (flushed_begin rule r workers q0 q1 qw qs t (closed_by put pump));
+        written = y.written;
+        counted = omega (
+          arith,
+          y.counted,
+          prefix_length (y.items ++ y.rest) pump.items front,
+          length-append y.items y.rest,
+          few_flushed rule r workers q0 q1 qw qs t (closed_by put pump),
+          s.bound,
+        );
+      }
 
 -- ---- from the passes that went out to those that came back
 

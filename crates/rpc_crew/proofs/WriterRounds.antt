@@ -1,11 +1,11 @@
 -- A round of the writer: what is gathered, written and made.
-use Rattle.std.proofs.Common.{◌≡◌, ◌⊎◌, ℕ, ◌+◌, ◌-◌, ◌<◌, ◌≤◌, Bool, true, false, List, [], ◌∷◌, ◌++◌, map, length, take, drop, Option, Some, None, Result, Ok, Err, OnErr, OnOk, is_err, refl, ap, sym, ◌∙◌, subst, inl, inr, arith, append_assoc, length-append, take-append-drop, length-drop}
+use Rattle.std.proofs.Common.{◌≡◌, ℕ, ◌+◌, ◌-◌, ◌<◌, ◌≤◌, true, false, List, [], ◌∷◌, ◌++◌, length, take, drop, Option, Some, None, Result, Ok, Err, IfErr, OnErr, OnOk, is_err, refl, ap, sym, ◌∙◌, subst, inl, inr, arith, append_assoc, length-append, take-append-drop, length-drop}
 use Rattle.std.proofs.Math.Seq.{take-append-add}
 use Rattle.std.proofs.lemmas.List.{append-nil, length-map, map-append, take-append-le}
 use Rattle.std.specs.Io.Iter.{u64_saturate}
 use Rattle.std.specs.Io.KnownBytes.{Appends}
-use Rattle.std.proofs.KnownBytes.{Appends-nil, Appends-trans}
 use Rattle.link_io.specs.Stored.{Stored}
+use Rattle.rpc_handlers.specs.HandlerRule.{HandlerRule}
 use Rattle.rpc_packet.specs.declared.owned.Packet.{Packet}
 use Rattle.rpc_journal.specs.declared.item.Act.{Act}
 use Rattle.rpc_journal.specs.declared.item.Act.TheVariants.{Send}
@@ -14,15 +14,16 @@ use Rattle.rpc_schedule.specs.Kept as store
 use Rattle.rpc_shared.specs.declared.session.item_log.ItemLog.{ItemLog}
 use Rattle.rpc_shared.specs.declared.session.parcel.Parcel.{Parcel}
 use Rattle.rpc_shared.specs.declared.session.parcel.Parcel.TheVariants.{End, Put}
+use Rattle.rpc_shared.specs.session.Crew.{Lock, Seat}
 use Rattle.rpc_shared.specs.session.Log.{HasPlaces, Logs}
-use Rattle.rpc_shared.specs.session.Ring.{IsUnfinished, Made, MakesSome, closed, parcels}
+use Rattle.rpc_shared.specs.session.Ring.{IsUnfinished, MakesSome, Writes, parcels}
 use Rattle.rpc_shared.specs.session.Sessions.{wire}
-use Rattle.rpc_shared.proofs.session.WriterLemmas.{holds_more, holds_none, logs_more, logs_none, none_unfinished, wire-append}
+use Rattle.rpc_shared.proofs.session.WriterLemmas.{holds_more, logs_more, logs_none, wire-append, writes_more}
 use Rattle.rpc_crew.specs.declared.batch.Framed.{Framed}
 use Rattle.rpc_crew.specs.declared.gathering.Behind.{Behind}
 use Rattle.rpc_crew.specs.declared.gathering.Behind.TheVariants as behind
 use Rattle.rpc_crew.specs.declared.writing.Step.{Step}
-use Rattle.rpc_crew.specs.Batches.{AreFramed, AreWithin, BatchView, CameBehind, EndsPast, FailsBehind, FailsRound, Gathers, IsBatch, IsPacket, MakesBehind, MakesRound, TakesWhole, closing, items_in, no_batch, places_for, with_frame}
+use Rattle.rpc_crew.specs.Batches.{AreFramed, AreWithin, BatchView, CameBehind, EndsPast, FailsAtLast, FailsBehind, FailsRound, Gathers, IsBatch, IsPacket, MakesBehind, MakesRound, TakesWhole, closing, items_in, no_batch, places_for, with_frame}
 
 -- ---- the frames in a batch
 
@@ -193,6 +194,11 @@ pub on_err_map : {A E X Y : Type 0} (result : Result A E) → (X → Y) → OnEr
 on_err_map (Ok a) f x = tt
 on_err_map (Err e) f x = f x
 
+-- what holds behind an error holds of each error
+pub if_err_from : {A E X : Type 0} (P : E → Type 0) (result : Result A E) → OnErr result X → (X → (e : E) → P e) → IfErr result P
+if_err_from P (Ok a) x from = tt
+if_err_from P (Err e) x from = from x e
+
 -- ---- a round
 
 pub places_behind : (next : Behind) (n : ℕ) → places_for next n ≡ n + places_for next 0
@@ -206,8 +212,14 @@ places_behind behind.Unfit n = omega arith
 pub places_framed : (next : Behind) (n : ℕ) (l : ItemLog) → HasPlaces l (places_for next n) → HasPlaces l n
 places_framed next n l has = λ keeps. omega (arith, has keeps, places_behind next n)
 
-pub came_unended : (before now : List Parcel) (w0 w : Option (List ℕ)) (d0 d : Option Stored) (l0 l : ItemLog) (start done : ℕ) (step : Step) (m : MakesRound before now w0 w d0 d l0 l start done step) → closing step ≡ [] → now ≡ before ++ parcels m.items
+came_unended : (before now : List Parcel) (w0 w : Option (List ℕ)) (d0 d : Option Stored) (l0 l : ItemLog) (start done : ℕ) (step : Step) (m : MakesRound before now w0 w d0 d l0 l start done step) → closing step ≡ [] → now ≡ before ++ parcels m.items
 came_unended before now w0 w d0 d l0 l start done step m none = m.received ∙ ap (λ ps. before ++ ps) (ap (λ ps. parcels m.items ++ ps) none ∙ append-nil (parcels m.items))
+
+-- a round without the end: all that came was made
+pub writes_round : (rule : HandlerRule) (r : Lock) (w0 w w' : Option (List ℕ)) (d0 d d' : Option Stored) (l0 l l' : ItemLog) (before now : List Parcel) (start done : ℕ) (p : Seat) (step : Step) → Writes rule r w0 w d0 d l0 l before start p
+    → MakesRound before now w w' d d' l l' start done step → closing step ≡ [] → Writes rule r w0 w' d0 d' l0 l' now done p
+writes_round rule r w0 w w' d0 d d' l0 l l' before now start done p step writes m none =
+    writes_more rule r w0 w w' d0 d d' l0 l l' before now start done p p m.items writes (came_unended before now w w' d d' l l' start done step m none) m.made m.counted
 
 pub came_ended : (before now : List Parcel) (w0 w : Option (List ℕ)) (d0 d : Option Stored) (l0 l : ItemLog) (start done : ℕ) (step : Step) (m : MakesRound before now w0 w d0 d l0 l start done step) → closing step ≡ End ∷ [] → now ≡ (before ++ parcels m.items) ++ End ∷ []
 came_ended before now w0 w d0 d l0 l start done step m end = m.received ∙ (ap (λ ps. before ++ (parcels m.items ++ ps)) end ∙ sym (append_assoc before (parcels m.items) (End ∷ [])))
@@ -354,11 +366,20 @@ module _ (before now : List Parcel) (batch : BatchView) (next : Behind) (w0 w : 
       counted = count (length b.items) b.counted ∙ ap (λ n. u64_saturate (start + n)) (sym (length-append first b.items));
     }
 
+    came_last : (b : FailsBehind g.came d0 d l2 l3 middle done) → now ≡ before ++ parcels (first ++ b.item ∷ [])
+    came_last b = g.received ∙ ap (λ ps. before ++ ps) (ap (λ ps. parcels first ++ ps) b.received ∙ sym (map-append Put first (b.item ∷ [])))
+
+    count_first : FailsBehind g.came d0 d l2 l3 middle done → done ≡ u64_saturate (start + length first)
+    count_first b = b.counted ∙ (counted ∙ ap (λ n. u64_saturate (start + n)) (sym (length-map batch.framed (λ (f : Framed). f.item))))
+
+    pub round_last : FailsBehind g.came d0 d l2 l3 middle done → FailsAtLast before now w0 w start done
+    round_last b = record { made = first; item = b.item; received = came_last b; written = frames; counted = count_first b }
+
     -- and what came behind wasn't made
     pub round_failed : FailsBehind g.came d0 d l2 l3 middle done → FailsRound before now w0 w d0 d l0 l3 start done
     round_failed b = record {
       came = first ++ b.item ∷ [];
-      received = inl (g.received ∙ ap (λ ps. before ++ ps) (ap (λ ps. parcels first ++ ps) b.received ∙ sym (map-append Put first (b.item ∷ []))));
+      received = inl (came_last b);
       makes = record {
         items = first;
         rest = b.item ∷ [];
@@ -368,6 +389,6 @@ module _ (before now : List Parcel) (batch : BatchView) (next : Behind) (w0 w : 
         written = subst (Appends w0 w) (sym (append-nil (wire first))) frames;
         stored = b.kept ∙ holds_sent 0 batch.framed d0 g.batch_is.framed;
         logged = subst (Logs l0 l3) (append-nil first) (logs_more first [] l0 l2 l3 (logs_more [] first l0 l1 l2 g.logged logged) b.logged);
-        counted = b.counted ∙ (counted ∙ ap (λ n. u64_saturate (start + n)) (sym (length-map batch.framed (λ (f : Framed). f.item))));
+        counted = count_first b;
       };
     }

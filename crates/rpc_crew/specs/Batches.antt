@@ -1,6 +1,7 @@
 -- Frames that go out together, and what the writer does in a round.
 use Rattle.std.specs.Prelude.{◌≡◌, ◌⊎◌, ℕ, ◌+◌, ◌<◌, ◌≤◌, List, [], ◌∷◌, ◌++◌, map, length, Option}
 use Rattle.std.specs.Io.Iter.{u64_saturate}
+use Rattle.std.specs.Io.KnownBytes.{Appends}
 use Rattle.link_io.specs.Stored.{Stored}
 use Rattle.rpc_packet.specs.declared.owned.Packet.{Packet}
 use Rattle.rpc_journal.specs.declared.item.Act.TheVariants.{Send}
@@ -128,3 +129,11 @@ pub record FailsRound (before now : List Parcel) (w0 w : Option (List ℕ)) (d0 
   pub came : List Item
   pub received : (now ≡ before ++ parcels came) ⊎ (now ≡ before ++ closed came)
   pub makes : MakesSome w0 w d0 d l0 l came start done
+
+-- A round that failed, but not for the link: of the items that came all but the last one were made, and of that nothing was written.
+pub record FailsAtLast (before now : List Parcel) (w0 w : Option (List ℕ)) (start done : ℕ) : Type 0 where
+  pub made : List Item
+  pub item : Item
+  pub received : now ≡ before ++ parcels (made ++ item ∷ [])
+  pub written : Appends w0 w (wire made)
+  pub counted : done ≡ u64_saturate (start + length made)

@@ -10,6 +10,7 @@ ghost use Rattle.rpc_shared.specs.session.Leaving.{LeavesLink};
 ghost use Rattle.rpc_shared.specs.session.Log.{Logs};
 ghost use Rattle.rpc_shared.specs.session.Reasons.{reason_of};
 ghost use Rattle.rpc_shared.specs.session.Sessions.{Begins, Explains, IsSessionHistory, LeavesNoneDue, TicksBetween, is_halted, session_setting};
+ghost use Rattle.rpc_crew.specs.WholeFrames.{SendsWholeFrames};
 
 use crate::table::Table;
 use crate::threads::run_threads;
@@ -69,6 +70,7 @@ where
     requires open { O.finished link_out.old ≡ false }
     ensures history { IfOk result (λ s. IsSessionHistory M.H.rule (session_setting channels registry (M.seed_memo maker.now)) workers s.why s.journal.entries) }
     ensures begins { IfOk result (λ s. (items : List Item) × Begins (session_setting channels registry (M.seed_memo maker.now)) (I.left link_in.old) (I.left link_in.new) (O.written link_out.old) (O.written link_out.new) (S.holds store.old) (S.holds store.new) s.counts s.read s.done items s.journal.entries) }
+    ensures whole { IfOk result (λ s. SendsWholeFrames (session_setting channels registry (M.seed_memo maker.now)) (O.written link_out.old) (O.written link_out.new) s.done s.journal.entries ⊎ Rose (O.faults link_out.old) (O.faults link_out.new)) }
     ensures explains { IfOk result (λ s. is_halted (session_setting channels registry (M.seed_memo maker.now)) s.journal.entries ≡ false →
         Explains (session_setting channels registry (M.seed_memo maker.now)) (I.left link_in.old) (I.left link_in.new) (O.written link_out.old) (O.written link_out.new) (S.holds store.old) (S.holds store.new) s.counts s.read s.done s.journal.entries) }
     ensures at_end { IfOk result (λ s. s.why ≡ Settled → IsAtEnd (I.left link_in.new)) }
@@ -131,6 +133,7 @@ where
     requires open { O.finished link_out.old ≡ false }
     ensures history { IfOk result (λ s. IsSessionHistory M.H.rule (session_setting channels registry (M.seed_memo maker.now)) workers s.why s.calls.entries) }
     ensures begins { IfOk result (λ s. Begins (session_setting channels registry (M.seed_memo maker.now)) (I.left link_in.old) (I.left link_in.new) (O.written link_out.old) (O.written link_out.new) (S.holds store.old) (S.holds store.new) s.counts s.read s.done s.items.items s.calls.entries) }
+    ensures whole { IfOk result (λ s. SendsWholeFrames (session_setting channels registry (M.seed_memo maker.now)) (O.written link_out.old) (O.written link_out.new) s.done s.calls.entries ⊎ Rose (O.faults link_out.old) (O.faults link_out.new)) }
     ensures explains { IfOk result (λ s. is_halted (session_setting channels registry (M.seed_memo maker.now)) s.calls.entries ≡ false →
         Explains (session_setting channels registry (M.seed_memo maker.now)) (I.left link_in.old) (I.left link_in.new) (O.written link_out.old) (O.written link_out.new) (S.holds store.old) (S.holds store.new) s.counts s.read s.done s.calls.entries) }
     ensures at_end { IfOk result (λ s. s.why ≡ Settled → IsAtEnd (I.left link_in.new)) }
@@ -202,6 +205,7 @@ where
     requires open { O.finished link_out.old ≡ false }
     ensures history { IfOk result (λ s. IsSessionHistory M.H.rule (session_setting channels registry (M.seed_memo maker.now)) workers s.why s.calls.entries) }
     ensures begins { IfOk result (λ s. (items : List Item) × Begins (session_setting channels registry (M.seed_memo maker.now)) (I.left link_in.old) (I.left link_in.new) (O.written link_out.old) (O.written link_out.new) (S.holds store.old) (S.holds store.new) s.counts s.read s.done items s.calls.entries × Logs log.old log.new items) }
+    ensures whole { IfOk result (λ s. SendsWholeFrames (session_setting channels registry (M.seed_memo maker.now)) (O.written link_out.old) (O.written link_out.new) s.done s.calls.entries ⊎ Rose (O.faults link_out.old) (O.faults link_out.new)) }
     ensures explains { IfOk result (λ s. is_halted (session_setting channels registry (M.seed_memo maker.now)) s.calls.entries ≡ false →
         Explains (session_setting channels registry (M.seed_memo maker.now)) (I.left link_in.old) (I.left link_in.new) (O.written link_out.old) (O.written link_out.new) (S.holds store.old) (S.holds store.new) s.counts s.read s.done s.calls.entries) }
     ensures at_end { IfOk result (λ s. s.why ≡ Settled → IsAtEnd (I.left link_in.new)) }

@@ -1,6 +1,6 @@
 //! The threads of a session: a writer, a pump, workers and a reader, each in its place. The first part of each fork runs in a thread
 //! of its own, or last where none can be made; the reader runs on the caller's thread.
-ghost use Rattle.std.specs.Prelude.{◌≡◌, ◌≤◌, false, [], None, Some, vec_capacity};
+ghost use Rattle.std.specs.Prelude.{◌≡◌, ◌⊎◌, ◌≤◌, false, [], None, Some, vec_capacity};
 ghost use Rattle.std.specs.Thread.{IsSync};
 ghost use Rattle.link_io.specs.Causes.{Rose};
 ghost use Rattle.link_io.specs.declared.reading.Ending.TheVariants.{Failed};
@@ -13,6 +13,7 @@ ghost use Rattle.rpc_shared.specs.session.Crew.{AllWorked, AreWorkers, Fed, HasR
 ghost use Rattle.rpc_shared.specs.session.Leaving.{WriterLeaves};
 ghost use Rattle.rpc_shared.specs.session.Ring.{HaltsFor, PumpEnded, Pumps, WriterEnded, Writes};
 ghost use Rattle.rpc_shared.specs.session.Sessions.{AreSpaced, TicksInTime, last_from};
+ghost use Rattle.rpc_crew.specs.WholeFrames.{WritesWholeFrames};
 
 use crate::Gate;
 use crate::pumping::pump;
@@ -85,6 +86,7 @@ where
     ensures past { last_from began (moments pumper.new.view.known.mine) ≤ C.last clock.new }
     ensures due { TicksInTime shared.now.base pumper.new.view.known.seen began (C.last clock.new) (moments pumper.new.view.known.mine) }
     ensures writer { WriterEnded M.H.rule shared.now (O.written link_out.old) (O.written link_out.new) (S.holds store.old) (S.holds store.new) log.old log.new (received end.new) result.0 writer.new × IsSame writer.old writer.new }
+    ensures whole { WritesWholeFrames (O.written link_out.old) (O.written link_out.new) (received end.new) result.0 ⊎ Rose (O.faults link_out.old) (O.faults link_out.new) }
     ensures consumer { SameConsumer end.old end.new }
     ensures sink { HaltsFor Link writer.new.view.known.mine → Rose (O.faults link_out.old) (O.faults link_out.new) }
     ensures store { HaltsFor Depot writer.new.view.known.mine → Rose (S.faults store.old) (S.faults store.new) }
@@ -97,6 +99,7 @@ where
         &mut || -> u64
             requires { Writes M.H.rule shared.now (O.written link_out.now) (O.written link_out.now) (S.holds store.now) (S.holds store.now) log.now log.now (received end.now) 0 writer.now × (O.finished link_out.now ≡ false) }
             ensures { WriterEnded M.H.rule shared.entry.now (O.written link_out.entry.now) (O.written link_out.exit.now) (S.holds store.entry.now) (S.holds store.exit.now) log.entry.now log.exit.now (received end.exit.now) result writer.exit.now
+                × (WritesWholeFrames (O.written link_out.entry.now) (O.written link_out.exit.now) (received end.exit.now) result ⊎ Rose (O.faults link_out.entry.now) (O.faults link_out.exit.now))
                 × IsSame writer.entry.now writer.exit.now × SameConsumer end.entry.now end.exit.now
                 × (HaltsFor Link writer.exit.now.view.known.mine → Rose (O.faults link_out.entry.now) (O.faults link_out.exit.now))
                 × (HaltsFor Depot writer.exit.now.view.known.mine → Rose (S.faults store.entry.now) (S.faults store.exit.now))

@@ -1,5 +1,5 @@
 //! The writer: it makes the items that come through the ring, in their order.
-ghost use Rattle.std.specs.Prelude.{◌≡◌, ◌≢◌, ◌+◌, ◌≤◌, true, false, List, [], ◌∷◌, is_some, IfErr, IfOk, OnErr, OnOk};
+ghost use Rattle.std.specs.Prelude.{◌≡◌, ◌≢◌, ◌⊎◌, ◌+◌, ◌≤◌, true, false, List, [], ◌∷◌, is_some, IfErr, IfOk, OnErr, OnOk};
 ghost use Rattle.std.specs.Io.Iter.{u64_saturate};
 ghost use Rattle.link_io.specs.Causes.{Rose};
 ghost use Rattle.link_io.specs.declared.why.Why.TheVariants.{JournalLimit, Sink as Link, Store as Depot};
@@ -11,7 +11,8 @@ ghost use Rattle.rpc_shared.specs.session.Log.{HasPlaces, Logs};
 ghost use Rattle.rpc_shared.specs.session.Ring.{HaltsFor, Writes, WriterEnded};
 ghost use Rattle.rpc_shared.specs.session.Sessions.{is_halting};
 ghost use Rattle.rpc_shared.specs.declared.session.parcel.Parcel.{Parcel};
-ghost use Rattle.rpc_crew.specs.Batches.{CameBehind, FailsBehind, FailsRound, MakesBehind, MakesRound, no_batch, places_for};
+ghost use Rattle.rpc_crew.specs.Batches.{CameBehind, FailsAtLast, FailsBehind, FailsRound, MakesBehind, MakesRound, no_batch, places_for};
+ghost use Rattle.rpc_crew.specs.WholeFrames.{WritesWholeFrames};
 
 use crate::batch::Batch;
 use crate::bell::Bell;
@@ -46,6 +47,7 @@ pub(crate) fn write<H: Handler, O: Sink, S: Store, R: Wait>(
     requires writes { Writes H.rule shared.now (O.written output.old) (O.written output.old) (S.holds store.old) (S.holds store.old) log.old log.old (received ring.old) 0 pass.old }
     requires open { O.finished output.old ≡ false }
     ensures ended { WriterEnded H.rule shared.now (O.written output.old) (O.written output.new) (S.holds store.old) (S.holds store.new) log.old log.new (received ring.new) result pass.new }
+    ensures whole { WritesWholeFrames (O.written output.old) (O.written output.new) (received ring.new) result ⊎ Rose (O.faults output.old) (O.faults output.new) }
     ensures same { IsSame pass.old pass.new }
     ensures ring { SameConsumer ring.old ring.new }
     ensures sink { HaltsFor Link pass.new.view.known.mine → Rose (O.faults output.old) (O.faults output.new) }
@@ -103,6 +105,7 @@ fn round<O: Sink, S: Store>(
     ensures makes { IfOk result (λ step. MakesRound (received ring.old) (received ring.new) (O.written output.old) (O.written output.new) (S.holds store.old) (S.holds store.new) log.old log.new done.old done.new step) }
     ensures empty { OnOk result (batch.new ≡ no_batch) }
     ensures fails { OnErr result (FailsRound (received ring.old) (received ring.new) (O.written output.old) (O.written output.new) (S.holds store.old) (S.holds store.new) log.old log.new done.old done.new) }
+    ensures last { IfErr result (λ why. (why ≡ Link) ⊎ FailsAtLast (received ring.old) (received ring.new) (O.written output.old) (O.written output.new) done.old done.new) }
     ensures ring { SameConsumer ring.old ring.new }
     ensures why { IfErr result (λ why. (is_halting why ≡ true) × (why ≢ JournalLimit)) }
     ensures sink { IfErr result (λ why. why ≡ Link → Rose (O.faults output.old) (O.faults output.new)) }

@@ -24,7 +24,7 @@ use std::alloc::AllocError;
 pub const INPUT_LIMIT: usize = 67_108_864;
 
 // How many bytes are asked for in one read.
-const PIECE: usize = 4_096;
+const PIECE: usize = 65_536;
 
 /// Feeds the stream of a source to a server that was fed nothing yet, and works it until nothing is left to do. The items
 /// that go out are kept in order, and the store action that one may be is made before the next one goes out. After a

@@ -438,12 +438,12 @@ module _ (rule : HandlerRule) (r : Lock) (workers : ℕ) (q0 q1 qw : Seat) (qs :
 
 -- ---- through the ring
 
-cut_parcels : (xs ys : List Item) (rest : List Parcel) → parcels xs ++ rest ≡ parcels ys → IsPrefix xs ys
+pub cut_parcels : (xs ys : List Item) (rest : List Parcel) → parcels xs ++ rest ≡ parcels ys → IsPrefix xs ys
 cut_parcels [] ys rest is = (ys, refl)
 cut_parcels (x ∷ xs) [] rest is = absurd (cc is)
 cut_parcels (x ∷ xs) (y ∷ ys) rest is = let more = cut_parcels xs ys rest (cc is) in (more.0, cc (is, more.1))
 
-cut_closed : (xs ys : List Item) (rest : List Parcel) → parcels xs ++ rest ≡ closed ys → IsPrefix xs ys
+pub cut_closed : (xs ys : List Item) (rest : List Parcel) → parcels xs ++ rest ≡ closed ys → IsPrefix xs ys
 cut_closed [] ys rest is = (ys, refl)
 cut_closed (x ∷ xs) [] rest is = absurd (cc is)
 cut_closed (x ∷ xs) (y ∷ ys) rest is = let more = cut_closed xs ys rest (cc is) in (more.0, cc (is, more.1))

@@ -9,10 +9,12 @@ use Rattle.rpc_shared.specs.session.Crew.{Seat}
 use Rattle.rpc_shared.specs.session.Leaving.{LeavesLink}
 use Rattle.rpc_shared.specs.session.Reasons.{reason_of}
 use Rattle.rpc_shared.specs.session.Sessions.{Begins, Explains, IsSessionHistory, LeavesNoneDue, is_halted, session_setting}
+use Rattle.rpc_crew.specs.WholeFrames.{SendsWholeFrames, WritesWholeFrames}
+use Rattle.rpc_crew.proofs.WholeFrames.{or_map}
 use Rattle.rpc_crew.proofs.PumpLemmas.{pumps_none}
 use Rattle.rpc_shared.proofs.session.ReaderLemmas.{fed_nothing}
 use Rattle.rpc_shared.proofs.session.SessionLemmas.{given_out, new_pump, new_reader, new_stands}
-use Rattle.rpc_crew.proofs.WholeSession.{Whole, back_idle, began_before, begins, ended_history, explains, is_told, leaves_link, none_left_due, read_all, read_below, read_failed, read_limit, sink_halted, store_halted, ticks_between, whole_of}
+use Rattle.rpc_crew.proofs.WholeSession.{Whole, back_idle, began_before, begins, ended_history, explains, is_told, leaves_link, none_left_due, read_all, read_below, read_failed, read_limit, sends_whole, sink_halted, store_halted, ticks_between, whole_of}
 use Rattle.rpc_crew.proofs.WorkerLists.{worked_length}
 use Rattle.rpc_shared.proofs.session.WriterLemmas.{writes_none}
 use Rattle.rpc_crew.proofs.serving.serve.Given.{Over}
@@ -147,6 +149,19 @@ returns-clause-begins g c =
           c.run_threads-done.new.reader c.run_threads-done.new.pumper c.run_threads-done.new.writer c.run_threads-done.new.workers.passes.items w),
       w.writer.makes.logged,
     )
+
+whole_frames : (g : Over) (c : goal.After-drop-listener-inside-2 g) → WritesWholeFrames (g.O.Sink.written c.args.link_out.now) (g.O.Sink.written c.run_threads-done.new.link_out) (received c.run_threads-done.new.end) c.run_threads-done.result.0
+    → SendsWholeFrames (session_setting c.args.channels c.args.registry (g.M.Maker.seed_memo c.args.maker.now)) (g.O.Sink.written c.args.link_out.now) (g.O.Sink.written c.run_threads-done.new.link_out) c.run_threads-done.result.0 c.close-calls.result.entries
+whole_frames g c frames =
+    let e = c.run_threads-done.ensures in
+    subst (λ set. SendsWholeFrames set (g.O.Sink.written c.args.link_out.now) (g.O.Sink.written c.run_threads-done.new.link_out) c.run_threads-done.result.0 c.close-calls.result.entries) (base_is g c)
+    (sends_whole g.M.H.Handler.rule c.in_ok-shared.shared c.args.workers (g.I.Source.left c.args.link_in.now) (g.I.Source.left c.run_threads-done.new.link_in) (g.O.Sink.written c.args.link_out.now) (g.O.Sink.written c.run_threads-done.new.link_out) (g.S.Store.holds c.args.store.now) (g.S.Store.holds c.run_threads-done.new.store) c.args.log.now c.run_threads-done.new.log c.run_threads-done.new.listener c.counts.result c.run_threads-done.result.1.ending c.run_threads-done.result.1.read c.run_threads-done.result.0 c.close-calls.result
+    c.run_threads-done.new.reader c.run_threads-done.new.pumper c.run_threads-done.new.writer c.run_threads-done.new.workers.passes.items (whole g c)
+    (sent c.run_threads-done.new.ring) (received c.run_threads-done.new.end) (known_items c.slots_beside.new.self) e.pump.0
+    (ap (λ got. got ++ known_items c.slots_beside.new.self) (sym c.slots_beside.ensures.looked.1) ∙ (c.slots_beside.ensures.fifo ∙ c.slots_beside.ensures.producer.1)) frames)
+
+pub returns-clause-whole : goal.returns-clause-whole
+returns-clause-whole g c = or_map (whole_frames g c) c.run_threads-done.ensures.whole
 
 pub returns-clause-explains : goal.returns-clause-explains
 returns-clause-explains g c =

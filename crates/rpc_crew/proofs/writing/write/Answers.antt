@@ -1,13 +1,16 @@
-use Rattle.std.proofs.Common.{◌≡◌, ◌∷◌, [], ◌++◌, refl, sym, ap, ◌∙◌, inl, arith}
+use Rattle.std.proofs.Common.{◌≡◌, ◌⊎◌, ◌∷◌, [], ◌++◌, refl, ap, ◌∙◌, inl, inr, arith}
+use Rattle.link_io.specs.Causes.{Rose}
 use Rattle.link_io.specs.declared.why.Why.TheVariants.{Sink as Link, Store as Depot}
 use Rattle.rtrb.specs.Ring.{received}
 use Rattle.turn_cell.proofs.Calls.{same_trans}
 use Rattle.rpc_shared.specs.declared.session.parcel.Parcel.TheVariants.{End}
 use Rattle.rpc_shared.specs.session.Crew.{is_stop}
 use Rattle.rpc_shared.specs.session.Ring.{Writes, parcels}
-use Rattle.rpc_crew.specs.Batches.{MakesRound, closing}
+use Rattle.rpc_crew.specs.Batches.{FailsAtLast, closing}
+use Rattle.rpc_crew.specs.WholeFrames.{WritesWholeFrames}
 use Rattle.rpc_crew.proofs.RingLemmas.{end_trans}
-use Rattle.rpc_crew.proofs.WriterRounds.{came_ended, came_unended}
+use Rattle.rpc_crew.proofs.WholeFrames.{frames_closed, frames_failed, frames_halted}
+use Rattle.rpc_crew.proofs.WriterRounds.{came_ended, writes_round}
 use Rattle.rpc_shared.proofs.session.LeavingLemmas.{writer_kept}
 use Rattle.rpc_shared.proofs.session.StepLemmas.{look_adds, look_halted, look_mine}
 use Rattle.rpc_shared.proofs.session.WriterLemmas.{no_halt, writer_closed, writer_failed, writer_halted, writes_looked, writes_more}
@@ -18,14 +21,10 @@ pub loop-preserved-in-Ok-More : goal.loop-preserved-in-Ok-More
 loop-preserved-in-Ok-More g c =
     let written = g.O.Sink.written in
     let holds = g.S.Store.holds in
-    let m = c.in-Ok-More.ensures.makes in
-    let is : received c.round.new.ring ≡ received c.loop.ring ++ parcels m.items =
-    came_unended (received c.loop.ring) (received c.round.new.ring) (written c.loop.output) (written c.round.new.output) (holds c.loop.store) (holds c.round.new.store) c.loop.log c.round.new.log c.loop.done c.round.new.done
-    c.in-Ok-More.field-0 m (ap closing c.in-Ok-More.field-0-is) in
     record {
       writes =
-          writes_more g.H.Handler.rule c.args.shared.now (written c.args.output.now) (written c.loop.output) (written c.round.new.output) (holds c.args.store.now) (holds c.loop.store) (holds c.round.new.store)
-          c.args.log.now c.loop.log c.round.new.log (received c.loop.ring) (received c.round.new.ring) c.loop.done c.round.new.done c.loop.pass c.loop.pass m.items c.loop.invariant.writes is m.made m.counted;
+          writes_round g.H.Handler.rule c.args.shared.now (written c.args.output.now) (written c.loop.output) (written c.round.new.output) (holds c.args.store.now) (holds c.loop.store) (holds c.round.new.store)
+          c.args.log.now c.loop.log c.round.new.log (received c.loop.ring) (received c.round.new.ring) c.loop.done c.round.new.done c.loop.pass c.in-Ok-More.field-0 c.loop.invariant.writes c.in-Ok-More.ensures.makes (ap closing c.in-Ok-More.field-0-is);
       same = c.loop.invariant.same;
       ring = end_trans c.args.ring.now c.loop.ring c.round.new.ring c.loop.invariant.ring c.round.ensures.ring;
       sink_later = omega (arith, c.loop.invariant.sink_later, c.in-Ok-More.ensures.later.0);
@@ -41,13 +40,9 @@ returns-then-not-waits-clause-ended g c =
     let written = g.O.Sink.written in
     let holds = g.S.Store.holds in
     let did = c.look.ensures.did in
-    let m = c.in-Ok-Rest.ensures.makes in
-    let is : received c.round.new.ring ≡ received c.loop.ring ++ parcels m.items =
-    came_unended (received c.loop.ring) (received c.round.new.ring) (written c.loop.output) (written c.round.new.output) (holds c.loop.store) (holds c.round.new.store) c.loop.log c.round.new.log c.loop.done c.round.new.done
-    c.in-Ok-Rest.field-0 m (ap closing c.in-Ok-Rest.field-0-is) in
     let more =
-    writes_more rule r (written c.args.output.now) (written c.loop.output) (written c.round.new.output) (holds c.args.store.now) (holds c.loop.store) (holds c.round.new.store)
-    c.args.log.now c.loop.log c.round.new.log (received c.loop.ring) (received c.round.new.ring) c.loop.done c.round.new.done c.loop.pass c.loop.pass m.items c.loop.invariant.writes is m.made m.counted in
+    writes_round rule r (written c.args.output.now) (written c.loop.output) (written c.round.new.output) (holds c.args.store.now) (holds c.loop.store) (holds c.round.new.store)
+    c.args.log.now c.loop.log c.round.new.log (received c.loop.ring) (received c.round.new.ring) c.loop.done c.round.new.done c.loop.pass c.in-Ok-Rest.field-0 c.loop.invariant.writes c.in-Ok-Rest.ensures.makes (ap closing c.in-Ok-Rest.field-0-is) in
     let looked =
     writes_looked rule r (written c.args.output.now) (written c.round.new.output) (holds c.args.store.now) (holds c.round.new.store) c.args.log.now c.round.new.log
     (received c.round.new.ring) (received c.round.new.ring) c.round.new.done c.loop.pass c.look.new.pass more (look_adds rule r c.loop.pass c.look.new.pass c.look.result did is_stop)
@@ -75,13 +70,9 @@ loop-preserved g c =
     let written = g.O.Sink.written in
     let holds = g.S.Store.holds in
     let did = c.look.ensures.did in
-    let m = c.in-Ok-Rest.ensures.makes in
-    let is : received c.round.new.ring ≡ received c.loop.ring ++ parcels m.items =
-    came_unended (received c.loop.ring) (received c.round.new.ring) (written c.loop.output) (written c.round.new.output) (holds c.loop.store) (holds c.round.new.store) c.loop.log c.round.new.log c.loop.done c.round.new.done
-    c.in-Ok-Rest.field-0 m (ap closing c.in-Ok-Rest.field-0-is) in
     let more =
-    writes_more rule r (written c.args.output.now) (written c.loop.output) (written c.round.new.output) (holds c.args.store.now) (holds c.loop.store) (holds c.round.new.store)
-    c.args.log.now c.loop.log c.round.new.log (received c.loop.ring) (received c.round.new.ring) c.loop.done c.round.new.done c.loop.pass c.loop.pass m.items c.loop.invariant.writes is m.made m.counted in
+    writes_round rule r (written c.args.output.now) (written c.loop.output) (written c.round.new.output) (holds c.args.store.now) (holds c.loop.store) (holds c.round.new.store)
+    c.args.log.now c.loop.log c.round.new.log (received c.loop.ring) (received c.round.new.ring) c.loop.done c.round.new.done c.loop.pass c.in-Ok-Rest.field-0 c.loop.invariant.writes c.in-Ok-Rest.ensures.makes (ap closing c.in-Ok-Rest.field-0-is) in
     record {
       writes =
           writes_looked rule r (written c.args.output.now) (written c.round.new.output) (holds c.args.store.now) (holds c.round.new.store) c.args.log.now c.round.new.log
@@ -140,3 +131,34 @@ returns-in-Err-clause-ended g c =
 pub returns-in-Err-clause-same : goal.returns-in-Err-clause-same
 returns-in-Err-clause-same g c =
     same_trans c.args.pass.now c.loop.pass c.halt.new.pass c.loop.invariant.same (c.halt.ensures.adds is_stop c.in-Err.ensures.why.0).same
+
+pub returns-then-not-waits-clause-whole : goal.returns-then-not-waits-clause-whole
+returns-then-not-waits-clause-whole g c =
+    let rule = g.H.Handler.rule in
+    let r = c.args.shared.now in
+    let written = g.O.Sink.written in
+    let holds = g.S.Store.holds in
+    let more =
+    writes_round rule r (written c.args.output.now) (written c.loop.output) (written c.round.new.output) (holds c.args.store.now) (holds c.loop.store) (holds c.round.new.store)
+    c.args.log.now c.loop.log c.round.new.log (received c.loop.ring) (received c.round.new.ring) c.loop.done c.round.new.done c.loop.pass c.in-Ok-Rest.field-0 c.loop.invariant.writes c.in-Ok-Rest.ensures.makes (ap closing c.in-Ok-Rest.field-0-is) in
+    inl (frames_halted rule r (written c.args.output.now) (written c.round.new.output) (written c.hang_up.new.link) (holds c.args.store.now) (holds c.round.new.store) c.args.log.now c.round.new.log
+    (received c.round.new.ring) (received c.round.new.ring) c.round.new.done c.round.new.done c.loop.pass more c.hang_up.ensures.bytes)
+
+pub returns-in-Ok-Ended-clause-whole : goal.returns-in-Ok-Ended-clause-whole
+returns-in-Ok-Ended-clause-whole g c =
+    let written = g.O.Sink.written in
+    let holds = g.S.Store.holds in
+    inl (frames_closed g.H.Handler.rule c.args.shared.now (written c.args.output.now) (written c.round.new.output) (written c.round.new.output) (holds c.args.store.now) (holds c.round.new.store) c.args.log.now c.round.new.log
+    (received c.loop.ring ++ parcels c.in-Ok-Ended.ensures.makes.items) (received c.round.new.ring) c.round.new.done c.round.new.done c.loop.pass (last g c) (ended g c))
+
+pub returns-in-Err-clause-whole : goal.returns-in-Err-clause-whole
+returns-in-Err-clause-whole g c = at c.in-Err.ensures.last
+  where
+    at : (c.in-Err.why ≡ Link) ⊎ FailsAtLast (received c.loop.ring) (received c.round.new.ring) (g.O.Sink.written c.loop.output) (g.O.Sink.written c.round.new.output) c.loop.done c.round.new.done
+        → WritesWholeFrames (g.O.Sink.written c.args.output.now) (g.O.Sink.written c.hang_up-in-Err.new.link) (received c.round.new.ring) c.round.new.done
+        ⊎ Rose (g.O.Sink.faults c.args.output.now) (g.O.Sink.faults c.hang_up-in-Err.new.link)
+    at (inl link) = inr (omega (arith, c.in-Err.ensures.sink link, c.loop.invariant.sink_later, c.hang_up-in-Err.ensures.later))
+    at (inr last) =
+        inl (frames_failed g.H.Handler.rule c.args.shared.now (g.O.Sink.written c.args.output.now) (g.O.Sink.written c.loop.output) (g.O.Sink.written c.hang_up-in-Err.new.link) (g.S.Store.holds c.args.store.now) (g.S.Store.holds c.loop.store)
+        c.args.log.now c.loop.log (received c.loop.ring) (received c.round.new.ring) c.loop.done c.round.new.done c.loop.pass c.loop.invariant.writes
+        (g.O.Sink.written c.round.new.output) last c.hang_up-in-Err.ensures.bytes)

@@ -1,4 +1,4 @@
-use Rattle.std.proofs.Common.{◌≡◌, ap, sym, ◌∙◌, arith, slice_index_or}
+use Rattle.std.proofs.Common.{◌≡◌, ap, ◌∙◌, arith, slice_index_or}
 use Rattle.rpc_crew.specs.declared.batch.Framed.{Framed}
 use Rattle.rpc_crew.proofs.batch.Batch.take_whole.Goals as goal
 
