@@ -14,9 +14,9 @@ use std::alloc::AllocError;
 pub struct Packet {
     pub ptype: PacketType,
     pub name: CallName,
-    pub payload: Bytes,
     /// The number of the status.
     pub status: u32,
+    pub payload: Bytes,
 }
 
 impl Packet {
