@@ -1,6 +1,6 @@
 //! Sessions over links in memory, with handlers and gates of their own.
 ghost use mathlib.Core.Bool.{false≢true};
-ghost use Rattle.std.specs.Prelude.{◌≡◌, ◌<◌, ◌≤◌, [], Some, false};
+ghost use Rattle.std.specs.Prelude.{◌≡◌, ◌<◌, ◌≤◌, if◌then◌else◌, [], None, Some, false};
 ghost use Rattle.rpc_handlers.specs.HandlerRule.{empty_memo};
 ghost use Rattle.rpc_ids.specs.declared.status.Status.TheVariants.{Okay};
 
@@ -41,10 +41,16 @@ fn turn_until<R: time::Clock>(rt: &R, word: &AtomicU64, least: u64, late: &Atomi
     late.fetch_add(1, Ordering::SeqCst);
 }
 
-// Ends its call at the first event.
+// The method whose calls end at their first event, and the one whose calls stay open.
+const ECHO: &[u8] = b"Echo";
+
+const STAY: &[u8] = b"Stay";
+
+// Ends its call at the first event, unless it stays.
 #[derive(Drop)]
 struct Echo {
     alloc: Global,
+    stays: bool,
 }
 
 fn no_memo(alloc: Global) -> Memo
@@ -61,18 +67,23 @@ impl Acts for Echo {
 
     ghost now = { λ _. empty_memo };
 
-    ghost gives = { λ _ _. record { items = []; end = Some (record { status = Okay; payload = [] }) } };
+    ghost gives = { λ e _. record { items = []; end = if e.stays then None else Some (record { status = Okay; payload = [] }) } };
 
     ghost moves = { λ _ _. empty_memo };
 
     fn on(&mut self, ev: &Event) -> Result<Answer, AllocError> {
         let _ = ev;
-        Ok(Answer {
-            items: Outs::new(self.alloc),
-            end: Some(End {
+        let end = if self.stays {
+            None
+        } else {
+            Some(End {
                 status: Status::Okay,
                 payload: Bytes::new(),
-            }),
+            })
+        };
+        Ok(Answer {
+            items: Outs::new(self.alloc),
+            end,
         })
     }
 
@@ -105,8 +116,10 @@ impl Maker for Echoes {
     }
 
     fn make(&self, m: MethodRef) -> Result<Echo, AllocError> {
-        let _ = m;
-        Ok(Echo { alloc: self.alloc })
+        Ok(Echo {
+            alloc: self.alloc,
+            stays: m.method == hash_name(STAY),
+        })
     }
 }
 
@@ -116,14 +129,20 @@ fn channel_one(alloc: Global) -> Result<Channels, Fail> {
     Ok(channels)
 }
 
-fn echo_alone(alloc: Global) -> Result<Registry, Fail> {
+fn both_methods(alloc: Global) -> Result<Registry, Fail> {
     let mut registry = Registry::new(alloc);
-    registry.add(b"demo.Demo", b"Echo", Kind::Unary, false)?;
+    registry.add(b"demo.Demo", ECHO, Kind::Unary, false)?;
+    registry.add(b"demo.Demo", STAY, Kind::Bidi, true)?;
     Ok(registry)
 }
 
 // So many Echo calls, each with a call id of its own, from 1.
 fn echo_calls(alloc: Global, count: u32) -> Result<Vec<u8>, AllocError> {
+    calls_of(alloc, ECHO, count)
+}
+
+// The same, of another method.
+fn calls_of(alloc: Global, method: &[u8], count: u32) -> Result<Vec<u8>, AllocError> {
     let mut stream = Vec::new(alloc);
     for call in 0..count {
         let request = Packet {
@@ -131,7 +150,7 @@ fn echo_calls(alloc: Global, count: u32) -> Result<Vec<u8>, AllocError> {
             name: CallName {
                 channel: 1,
                 service: hash_name(b"demo.Demo"),
-                method: hash_name(b"Echo"),
+                method: hash_name(method),
                 call: call + 1,
             },
             payload: Bytes::new(),
@@ -153,7 +172,7 @@ fn frames(written: &[u8]) -> u32 {
     flags / 2
 }
 
-// Serves a link by handlers that end each call at once, on channel 1, with an empty store.
+// Serves a link by these handlers, on channel 1, with an empty store.
 fn serve_echoes<
     R: Threads + Wait + Sync,
     I: Source + Send,
@@ -172,7 +191,7 @@ fn serve_echoes<
     requires workers { (0 < workers) × (workers ≤ 16) }
     requires open { O.finished link_out.old ≡ false }
 {
-    let registry = echo_alone(alloc)?;
+    let registry = both_methods(alloc)?;
     serve_by(
         rt,
         alloc,

@@ -248,6 +248,7 @@ fn rest<H: Handler, R: Wait>(
     if look.settled {
         if close(ring) {
             shared.bells().writer.ring();
+            shared.end_time();
             return Err(Ended);
         }
         shared.bells().pump.wait_for(rt, heard, ROUND);

@@ -38,6 +38,8 @@ pub(crate) struct Table<H: Handler> {
     shared: Shared<H>,
     bells: Bells,
     flushed: AtomicU64,
+    // 1 once the time is told no more.
+    over: AtomicU64,
     others: u32,
 }
 
@@ -76,6 +78,7 @@ impl<H: Handler> Table<H> {
             shared,
             bells: Bells::new(),
             flushed: AtomicU64::new(0),
+            over: AtomicU64::new(0),
             others,
         }
     }
@@ -225,6 +228,18 @@ impl<H: Handler> Table<H> {
             self.bells.reader.ring();
         }
         item
+    }
+
+    /// The time is told no more, and the table is settled: the workers end.
+    pub fn end_time(&self) {
+        self.over.store(1, Ordering::SeqCst);
+        self.bells.workers.ring();
+    }
+
+    /// Whether the time is told no more. Until then a Tick may give an open call an event, though the input has ended and nothing is
+    /// left to run.
+    pub fn is_over(&self) -> bool {
+        self.over.load(Ordering::SeqCst) != 0
     }
 
     /// All threads end.

@@ -1,4 +1,4 @@
-//! The workers: each runs ready calls until nothing is left to run.
+//! The workers: each runs ready calls until nothing is left to run and the time is told no more.
 ghost use Rattle.std.specs.Prelude.{◌≡◌, vec_capacity};
 ghost use Rattle.std.specs.Thread.{IsSync};
 ghost use Rattle.turn_cell.specs.Passes.{IsSame};
@@ -6,7 +6,6 @@ ghost use Rattle.rpc_shared.specs.Steps.{IsOwn};
 ghost use Rattle.rpc_shared.specs.session.Crew.{Adds, AllWorked, AreWorkers, Worker, is_workers};
 
 use crate::Gate;
-use crate::bell::Bell;
 use crate::halting::halt;
 use crate::running::run;
 use crate::table::Table;
@@ -71,7 +70,7 @@ fn work_all<H: Handler + Send, R: Threads + Wait + Sync, G: Gate + Sync>(
     all
 }
 
-// One pass works until the input has ended and nothing is left to run, or the table is halted.
+// One pass works until the table is settled and the time is told no more, or the table is halted.
 fn work<H: Handler, R: Wait, G: Gate>(
     rt: &R,
     shared: &Table<H>,
@@ -101,11 +100,10 @@ fn work_once<H: Handler, R: Wait, G: Gate>(
     requires { IsOwn shared.now pass.old }
     ensures { Adds H.rule shared.now is_workers pass.old pass.new }
 {
-    let bell = &shared.bells().workers;
-    let heard = bell.rings();
+    let heard = shared.bells().workers.rings();
     match shared.start(rt, pass) {
         Ok(Some(running)) => run(rt, shared, pass, gate, running).is_ok(),
-        Ok(None) => waits(rt, bell, heard, shared.look(rt, pass)),
+        Ok(None) => waits(rt, shared, heard, shared.look(rt, pass)),
         Err(StartRefused::JournalFull) => {
             halt(rt, shared, pass, Why::JournalLimit);
             false
@@ -117,12 +115,11 @@ fn work_once<H: Handler, R: Wait, G: Gate>(
     }
 }
 
-// Waits where a call may yet become ready. A worker that ends rings for the others, which end as well.
-fn waits<R: Wait>(rt: &R, bell: &Bell, heard: u32, look: Look) -> bool {
-    if look.idle || look.halted.is_some() {
-        bell.ring();
+// Waits where a call may yet become ready.
+fn waits<H: Handler, R: Wait>(rt: &R, shared: &Table<H>, heard: u32, look: Look) -> bool {
+    if look.halted.is_some() || look.idle && shared.is_over() {
         return false;
     }
-    bell.wait(rt, heard);
+    shared.bells().workers.wait(rt, heard);
     true
 }

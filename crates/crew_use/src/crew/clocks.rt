@@ -1,25 +1,33 @@
-//! The time goes on while a write waits.
+//! The time goes on while a write waits, and behind the last run.
 ghost use Rattle.std.specs.Prelude.{None};
 
-use super::{echo_calls, ended, serve_echoes, turn_until, word_is, wrote};
+use super::{STAY, calls_of, echo_calls, ended, serve_echoes, turn_until, word_is, wrote};
 use link_io::{Clock, Failed, MemSink, MemSource, Sink, Source, Why};
 use rpc_crew::Free;
 use std::sync::atomic::{AtomicU64, Ordering};
 use std::test::Fail;
 use std::time;
 
-// A clock that stands still, and counts how often it was asked.
+// The first Tick comes so many milliseconds behind the start.
+const TICK: u64 = 500;
+
+// A clock that counts how often it was asked. It stands still so often, and is at the moment of a Tick from then on.
 #[derive(Drop)]
 struct Asked<'a> {
     times: &'a AtomicU64,
+    still: u64,
+    last: u64,
 }
 
 impl<'a> Clock for Asked<'a> {
-    ghost last = { λ _. 0 };
+    ghost last = { λ c. c.last };
 
     fn now(&mut self) -> u64 {
-        self.times.fetch_add(1, Ordering::SeqCst);
-        0
+        let times = self.times.fetch_add(1, Ordering::SeqCst);
+        if times >= self.still && self.last < TICK {
+            self.last = TICK;
+        }
+        self.last
     }
 }
 
@@ -112,11 +120,52 @@ fn the_clock_is_asked_while_a_write_waits(rt: HostRuntime) -> Result<(), Fail> {
         &mut link_in,
         &mut link_out,
         1,
-        &mut Asked { times: &times },
+        &mut Asked {
+            times: &times,
+            still: u64::MAX,
+            last: 0,
+        },
         &Free,
     )?;
     ended(&rt, &did, Why::Settled, 1);
     wrote(&rt, &link_out.inner, 1);
+    word_is(&rt, &late, 0);
+    Ok(())
+}
+
+// A call stays open behind the end of the input, and nothing is left to run while the first write waits. The Tick that comes then is
+// an event for it, which is run before the session ends.
+#[test]
+fn a_tick_behind_the_last_run_is_run(rt: HostRuntime) -> Result<(), Fail> {
+    let alloc = rt.alloc();
+    let times = AtomicU64::new(0);
+    let written = AtomicU64::new(0);
+    let late = AtomicU64::new(0);
+    let mut stream = calls_of(alloc, STAY, 1)?;
+    stream.extend_from_slice(&echo_calls(alloc, 600)?)?;
+    let mut link_out = AfterTime {
+        rt: &rt,
+        inner: MemSink::new(Vec::new(alloc), Vec::new(alloc)),
+        begun: false,
+        asked: &times,
+        written: &written,
+        late: &late,
+    };
+    let did = serve_echoes(
+        &rt,
+        alloc,
+        &mut MemSource::new(stream, Vec::new(alloc)),
+        &mut link_out,
+        2,
+        &mut Asked {
+            times: &times,
+            still: 600,
+            last: 0,
+        },
+        &Free,
+    )?;
+    ended(&rt, &did, Why::Settled, 600);
+    wrote(&rt, &link_out.inner, 600);
     word_is(&rt, &late, 0);
     Ok(())
 }
