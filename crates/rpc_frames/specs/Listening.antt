@@ -1,5 +1,5 @@
 -- What a listener says of the stream that it has heard.
-use Rattle.std.specs.Prelude.{◌≡◌, ℕ, ◌<◌, ◌≤◌, List, [], ◌∷◌, ◌++◌, length, take, Option, Some}
+use Rattle.std.specs.Prelude.{◌≡◌, ℕ, ◌<◌, ◌≤◌, true, List, [], ◌∷◌, ◌++◌, length, take, Option, Some, is_some}
 use Rattle.std.specs.Option.{option_to_list}
 use Rattle.hdlc_frame.specs.Found.{Found, found}
 use Rattle.hdlc_frame.specs.Machine.{HasRead, Reading}
@@ -49,3 +49,19 @@ pub record LosesPacket (old new : Listening) (piece : List ℕ) : Type 0 where
   pub hears : Hears old.role (message_of packet) packet.ptype
   pub more : HearsMore old new (take taken piece) (Some packet)
   pub stops : StopsAtSegment old piece taken
+
+-- No packet is heard in the bytes taken of a piece before the last of them, and the whole piece is taken where none is heard.
+pub record StopsAtPacket (old : Listening) (piece : List ℕ) (taken : ℕ) (packet : Option Packet) : Type 0 where
+  pub none_before :
+      (stream : List ℕ) → HasHeard old stream → (n : ℕ) → n < taken →
+      heard_packets old.role (stream ++ take n piece) ≡ heard_packets old.role stream
+  pub one_or_whole : taken < length piece → is_some packet ≡ true
+
+-- There was no memory for the first packet in a piece: it was heard with the last of the bytes taken, and is lost.
+pub record LosesFirst (old new : Listening) (piece : List ℕ) : Type 0 where
+  pub taken : ℕ
+  pub packet : Packet
+  pub within : taken ≤ length piece
+  pub hears : Hears old.role (message_of packet) packet.ptype
+  pub more : HearsMore old new (take taken piece) (Some packet)
+  pub stops : StopsAtPacket old piece taken (Some packet)

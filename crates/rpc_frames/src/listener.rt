@@ -41,7 +41,7 @@ impl Listener {
     ghost use Rattle.rpc_packet.specs.Hearing.{Hears};
     ghost use Rattle.rpc_packet.specs.Message.{message_of};
     ghost use Rattle.rpc_frames.specs.Heard.{counts_of};
-    ghost use Rattle.rpc_frames.specs.Listening.{HasHeard, HearsMore, LosesPacket, StopsAtSegment};
+    ghost use Rattle.rpc_frames.specs.Listening.{HasHeard, HearsMore, LosesFirst, LosesPacket, StopsAtPacket, StopsAtSegment};
 
     /// A listener that has heard nothing yet. It takes its buffer of `LARGEST_CONTENT` bytes here.
     pub fn new(alloc: Global, role: Role) -> Result<Listener, AllocError>
@@ -78,6 +78,33 @@ impl Listener {
         self.counts = self.counts.with(&heard);
         let packet = heard.own(self.alloc)?;
         Ok(Listened { taken, packet })
+    }
+
+    /// Takes bytes up to and with the flag that ends the first frame with a packet, else the whole piece, and counts the segments
+    /// in them. Where there is no memory for the packet, the bytes are taken and the packet is lost.
+    pub fn listen_for_packet(&mut self, piece: &[u8]) -> Result<Listened, AllocError>
+        ensures taken { IfOk result (λ listened. listened.taken ≤ length piece.now) }
+        ensures progress { IfOk result (λ listened. 0 < length piece.now → 0 < listened.taken) }
+        ensures hears { IfOk result (λ listened. HearsMore self.old self.new (take listened.taken piece.now) listened.packet) }
+        ensures packet { IfOk result (λ listened. IfSome listened.packet (λ packet. Hears self.old.role (message_of packet) packet.ptype)) }
+        ensures stops { IfOk result (λ listened. StopsAtPacket self.old piece.now listened.taken listened.packet) }
+        ensures lost { OnErr result (LosesFirst self.old self.new piece.now) }
+    {
+        let mut taken = 0;
+        'segments: while taken < piece.len() {
+            let listened = self.listen(&piece[taken..])?;
+            taken += listened.taken;
+            if listened.packet.is_some() {
+                return Ok(Listened {
+                    taken,
+                    packet: listened.packet,
+                });
+            }
+        }
+        Ok(Listened {
+            taken,
+            packet: None,
+        })
     }
 
     /// How the segments of the stream were counted.
