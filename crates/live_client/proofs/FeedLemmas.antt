@@ -28,7 +28,7 @@ use Rattle.rpc_journal.specs.Laws.{seat_of}
 use Rattle.rpc_journal.proofs.StayLemmas.{end_in_of_seat, halt_stays}
 use Rattle.rpc_schedule.specs.declared.stream.TheConstants.{INPUT_LIMIT}
 use Rattle.rpc_schedule.proofs.EntryLemmas.{arrivals-push}
-use Rattle.rpc_schedule.proofs.StreamLemmas.{piece_parts}
+use Rattle.rpc_frames.proofs.Pieces.{piece_parts}
 use Rattle.rpc_shared.specs.session.Crew.{Adds, AreOf, Lock, Seat, Stands}
 use Rattle.live_client.specs.Feeding.{Cut, Fed, HasRead, IsBehind, Reader, is_feeding, is_readers}
 use Rattle.live_client.specs.Silent.{silent_rule}

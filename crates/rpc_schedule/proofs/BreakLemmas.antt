@@ -14,7 +14,7 @@ use Rattle.rpc_schedule.specs.declared.stream.TheConstants.{INPUT_LIMIT}
 use Rattle.rpc_schedule.specs.Replays.{BreaksOff, Reads}
 use Rattle.rpc_schedule.specs.Serving.{FedBy, HasHeard, Serving, deeds}
 use Rattle.rpc_schedule.specs.Settling.{BreaksWithin}
-use Rattle.rpc_schedule.proofs.StreamLemmas.{piece_parts}
+use Rattle.rpc_frames.proofs.Pieces.{piece_parts}
 
 -- what arrived begins what was heard
 pub arrived_begin : (packets : List Packet) (s : Serving) → HasHeard packets s → IsPrefix (arrivals s.table.entries) packets

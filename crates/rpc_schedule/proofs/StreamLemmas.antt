@@ -1,8 +1,8 @@
 -- Pieces of a stream, and what a loop over them answers.
 use Rattle.std.proofs.Common.{◌≡◌, ◌⊎◌, ℕ, ◌+◌, ◌-◌, ◌<◌, ◌≤◌, true, false, List, [], ◌++◌, length, take, drop, Option, Result, Ok, Err, OnOk, IsErr, IsErrAnd, refl, sym, ◌∙◌, ap, subst, inl, inr, append_assoc, arith, length-append, length-take}
-use Rattle.std.proofs.Math.Seq.{take-add, take-append-add}
+use Rattle.std.proofs.Math.Seq.{take-append-add}
 use Rattle.std.proofs.lemmas.Bool.{true≢false}
-use Rattle.std.proofs.lemmas.List.{append-nil, take-append-drop, take-append-le, take-take, take_rest}
+use Rattle.std.proofs.lemmas.List.{append-nil, take-append-drop, take-append-le, take-take}
 use Rattle.std.specs.Io.KnownBytes.{Consumes}
 use Rattle.std.proofs.KnownBytes.{Consumes-trans}
 use Rattle.link_io.specs.Reading.{ConsumesUpTo}
@@ -18,6 +18,7 @@ use Rattle.rpc_journal.specs.declared.answers.StartRefused.TheVariants as start
 use Rattle.rpc_journal.specs.declared.item.Item.{Item}
 use Rattle.rpc_journal.specs.Items.{input_ended}
 use Rattle.rpc_journal.proofs.PlaceLemmas.{below_or_not}
+use Rattle.rpc_frames.proofs.Pieces.{piece_parts}
 use Rattle.rpc_schedule.specs.declared.stop.Stop.{Stop}
 use Rattle.rpc_schedule.specs.declared.stop.Stop.TheVariants as stop
 use Rattle.rpc_schedule.specs.declared.stream.TheConstants.{INPUT_LIMIT}
@@ -26,14 +27,6 @@ use Rattle.rpc_schedule.specs.Replays.{Reads, StopsBehind}
 use Rattle.rpc_schedule.specs.Serving.{EndsWithPacket, FedBy, HasHeard, Serving, deeds}
 use Rattle.rpc_schedule.specs.Settling.{IsFullFor, IsStoreStopFor, StopsIn}
 use Rattle.rpc_schedule.specs.Stops.{stop_by_store, stop_of}
-
--- two parts of a piece behind a stream
-pub piece_parts : (bytes piece : List ℕ) (done count : ℕ)
-    → (bytes ++ take done piece) ++ take count (take (length piece - done) (drop done piece)) ≡ bytes ++ take (done + count) piece
-piece_parts bytes piece done count =
-    let parts : take (done + count) piece ≡ take done piece ++ take count (take (length piece - done) (drop done piece)) =
-    take-add done count piece ∙ ap (λ rest. take done piece ++ take count rest) (sym (take_rest piece done)) in
-    append_assoc bytes (take done piece) (take count (take (length piece - done) (drop done piece))) ∙ ap (λ more. bytes ++ more) (sym parts)
 
 pub on_ok_and : {T E P Q R : Type 0} (r : Result T E) → (P → Q → R) → OnOk r P → OnOk r Q → OnOk r R
 on_ok_and (Ok x) f p q = f p q

@@ -23,8 +23,8 @@ pub trait Serves {
     /// It was fed these bytes.
     ghost stands: { Self → List ℕ → Type 0 };
 
-    /// Takes bytes from the front of the piece, up to the end of the first frame in it, and answers how many. A packet
-    /// in that frame arrives.
+    /// Takes bytes from the front of the piece, none behind the first packet in it, and answers how many. Where that packet is in
+    /// them, it arrives.
     ///
     /// # Errors
     ///

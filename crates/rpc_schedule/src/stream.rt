@@ -139,7 +139,7 @@ fn feed_stream<T: Serves, I: Source, S: Store>(
     Ok(Reading::AtLimit)
 }
 
-// Feeds a piece frame by frame, and settles after each.
+// Feeds a piece packet by packet, and settles after each.
 fn feed_all<T: Serves, S: Store>(
     server: &mut T,
     piece: &[u8],

@@ -18,7 +18,7 @@ impl<M: Maker> Serves for Server<M> {
     ghost stands = { WasFed server_role };
 
     fn feed(&mut self, piece: &[u8]) -> Result<usize, StartRefused> {
-        self.feed(piece)
+        self.feed_to_packet(piece)
     }
 
     fn work(&mut self) -> Result<bool, StartRefused> {

@@ -24,7 +24,7 @@ use Rattle.rpc_journal.specs.CallTable.{Table, past}
 use Rattle.rpc_journal.specs.Ran.{Ran}
 use Rattle.rpc_frames.specs.Heard.{heard_packets}
 use Rattle.rpc_frames.proofs.Growing.{nothing_heard_in, packets_same}
-use Rattle.rpc_frames.specs.Listening.{HearsMore, Listening, LosesPacket, StopsAtSegment}
+use Rattle.rpc_frames.specs.Listening.{HearsMore, Listening, StopsAtPacket, StopsAtSegment}
 use Rattle.rpc_frames.specs.Listening as listens
 use Rattle.rpc_schedule.specs.Schedule.{flush_seat, input_seat, run_seat}
 use Rattle.rpc_schedule.specs.Serving.{Begins, Ends, EndsInput, FedBy, Gives, HasHeard, Serving, Works, none_waiting, refusing, with_entry}
@@ -187,12 +187,23 @@ fed_by role old new piece taken within stops fed = record {
   none_before = λ bytes before n below. packets_same role bytes (bytes ++ take n piece) (stops.none_before bytes before.listener n below);
 }
 
+-- bytes up to the end of the first frame with a packet were fed
+pub fed_to_packet : (role : Role) (old new : EndState) (piece : List ℕ) (taken : ℕ) (packet : Option Packet) → old.listener.role ≡ role → taken ≤ length piece
+    → StopsAtPacket old.listener piece taken packet → ((bytes : List ℕ) → WasFed role old bytes → WasFed role new (bytes ++ take taken piece))
+    → FedBy (heard role) (WasFed role old) (WasFed role new) piece taken
+fed_to_packet role old new piece taken packet is_role within stops fed = record {
+  within = within;
+  fed = fed;
+  none_before = λ bytes before n below.
+      subst (λ r. heard_packets r (bytes ++ take n piece) ≡ heard_packets r bytes) is_role (stops.none_before bytes before.listener n below);
+}
+
 -- there was no memory for the packet that was heard
-pub fed_lost : (role : Role) (old : Serving) (l m : Listening) (piece : List ℕ) (lost : LosesPacket l m piece) (s : List ℕ) → l.role ≡ role → old.refused ≡ None
-    → WasFed role (record { serving = old; listener = l }) s → WasFed role (record { serving = refusing old Memory; listener = m }) (s ++ take lost.taken piece)
-fed_lost role old l m piece lost s is_role unrefused fed = record {
-  listener = lost.more.stands s fed.listener;
-  packets = refused_packet role old l m (take lost.taken piece) lost.packet Memory s is_role lost.more unrefused fed;
+pub fed_lost : (role : Role) (old : Serving) (l m : Listening) (bytes : List ℕ) (packet : Packet) (s : List ℕ) → HearsMore l m bytes (Some packet) → l.role ≡ role → old.refused ≡ None
+    → WasFed role (record { serving = old; listener = l }) s → WasFed role (record { serving = refusing old Memory; listener = m }) (s ++ bytes)
+fed_lost role old l m bytes packet s more is_role unrefused fed = record {
+  listener = more.stands s fed.listener;
+  packets = refused_packet role old l m bytes packet Memory s is_role more unrefused fed;
 }
 
 -- where nothing else has changed, and what arrived is the same

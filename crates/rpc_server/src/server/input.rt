@@ -52,6 +52,30 @@ impl<M: Maker> Server<M> {
         }
     }
 
+    // As `feed`, up to the end of the first frame with a packet.
+    pub(crate) fn feed_to_packet(&mut self, piece: &[u8]) -> Result<usize, StartRefused>
+        requires open { input_ended (deeds self.old.serving) ≡ false }
+        requires idle { is_idle self.old.serving ≡ true }
+        ensures progress { IfOk result (λ n. 0 < length piece.now → 0 < n) }
+        ensures step { Feeds self.old.serving result self.new.serving }
+        ensures fed { IfOk result (FedBy (heard server_role) (WasFed server_role self.old) (WasFed server_role self.new) piece.now) }
+        ensures refused_fed { OnErr result ((n : ℕ) × FedBy (heard server_role) (WasFed server_role self.old) (WasFed server_role self.new) piece.now n) }
+    {
+        if let Some(refused) = self.refused {
+            return Err(refused);
+        }
+        match self.listener.listen_for_packet(piece) {
+            Ok(listened) => {
+                self.take_in(&listened.packet)?;
+                Ok(listened.taken)
+            }
+            Err(_) => {
+                self.refused = Some(StartRefused::Memory);
+                Err(StartRefused::Memory)
+            }
+        }
+    }
+
     // The packet that was heard, if any, arrives, or is refused.
     fn take_in(&mut self, heard: &Option<Packet>) -> Result<(), StartRefused>
         requires open { input_ended (deeds self.old.serving) ≡ false }

@@ -29,7 +29,7 @@ use Rattle.rpc_journal.specs.Laws.{seat_of}
 use Rattle.rpc_journal.proofs.StayLemmas.{end_in_of_seat, halt_stays}
 use Rattle.rpc_schedule.specs.declared.stream.TheConstants.{INPUT_LIMIT}
 use Rattle.rpc_schedule.proofs.EntryLemmas.{arrivals-push}
-use Rattle.rpc_schedule.proofs.StreamLemmas.{piece_parts}
+use Rattle.rpc_frames.proofs.Pieces.{piece_parts}
 use Rattle.rpc_shared.specs.session.Crew.{Adds, AreOf, Cut, Fed, HasRead, Lock, Reader, ReaderEnded, Seat, is_feeding, is_readers, is_workers}
 use Rattle.rpc_shared.specs.session.Sessions.{is_halted}
 use Rattle.rpc_shared.proofs.session.PassLemmas.{adds_weaker, kinds_after, of_weaker, stands_after, workers_feed}

@@ -1,4 +1,5 @@
 use Rattle.std.proofs.Common.{◌≡◌, ℕ, Ok, Err, arith, subst, sym, ap, ◌∙◌, length-take, length-drop}
+use Rattle.rpc_frames.proofs.Pieces.{piece_parts}
 use Rattle.rpc_journal.specs.declared.answers.StartRefused.TheVariants.{JournalFull}
 use Rattle.rpc_schedule.specs.declared.stop.Stop.TheVariants as stop
 use Rattle.rpc_schedule.specs.Serving.{Feeds, TakesPacket, deeds}
@@ -7,7 +8,7 @@ use Rattle.rpc_schedule.proofs.BreakLemmas.{breaks_in}
 use Rattle.rpc_schedule.proofs.InputLemmas.{calm_fed, came_more, feed_full, feed_steps, full_came, open_after, refused_more, settle_full, settle_store, store_came}
 use Rattle.rpc_schedule.proofs.LoopLemmas.{feeds_setting}
 use Rattle.rpc_schedule.proofs.SentLemmas.{sends_refused, sent_since}
-use Rattle.rpc_schedule.proofs.StreamLemmas.{handed_on, journal_full, not_store, piece_parts, stops_in}
+use Rattle.rpc_schedule.proofs.StreamLemmas.{handed_on, journal_full, not_store, stops_in}
 use Rattle.rpc_schedule.proofs.ends.FedLemmas.{on_err}
 use Rattle.rpc_schedule.proofs.stream.feed_all.Goals as goal
 

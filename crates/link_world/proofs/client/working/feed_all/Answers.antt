@@ -5,7 +5,7 @@ use Rattle.rpc_journal.specs.Calls.{call_count}
 use Rattle.rpc_journal.specs.CallTable.{Table}
 use Rattle.rpc_schedule.specs.Serving.{Feeds, TakesPacket, deeds}
 use Rattle.rpc_schedule.specs.ends.EndState.{WasFed}
-use Rattle.rpc_schedule.proofs.StreamLemmas.{piece_parts}
+use Rattle.rpc_frames.proofs.Pieces.{piece_parts}
 use Rattle.link_world.specs.server.Resting.{IsResting}
 use Rattle.link_world.proofs.server.OutLemmas.{goes_out_then}
 use Rattle.link_world.proofs.server.StopLemmas.{if_err_by, stopped_full}

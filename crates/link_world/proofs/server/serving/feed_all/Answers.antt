@@ -4,7 +4,7 @@ use Rattle.rpc_ids.specs.declared.method.Role.TheVariants.{Server as server_role
 use Rattle.rpc_journal.specs.declared.answers.StartRefused.TheVariants.{JournalFull}
 use Rattle.rpc_schedule.specs.Serving.{Feeds}
 use Rattle.rpc_schedule.proofs.InputLemmas.{feed_steps}
-use Rattle.rpc_schedule.proofs.StreamLemmas.{piece_parts}
+use Rattle.rpc_frames.proofs.Pieces.{piece_parts}
 use Rattle.link_world.specs.server.Stops.{stopped_by}
 use Rattle.link_world.proofs.server.OutLemmas.{goes_out_none, goes_out_then}
 use Rattle.link_world.proofs.server.RestLemmas.{resting_fed, takes_fed, takes_none}

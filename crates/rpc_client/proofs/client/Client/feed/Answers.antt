@@ -33,6 +33,6 @@ returns-in-Err-clause-refused_fed g c =
       fed_by Client c.args.self.now _ c.args.piece.now lost.taken lost.within
           (subst (λ v. StopsAtSegment v.listener c.args.piece.now lost.taken) c.self.view_is lost.stops)
           (λ s fed.
-          fed_lost _ _ c.self.inside.listener c.listen.new.self c.args.piece.now lost s c.self.invariant.1 c.in_default.is
+          fed_lost _ _ c.self.inside.listener c.listen.new.self (take lost.taken c.args.piece.now) lost.packet s lost.more c.self.invariant.1 c.in_default.is
           (subst (λ v. WasFed Client v s) (sym c.self.view_is) fed)),
     )
