@@ -155,6 +155,48 @@ fn each_stream_is_heard_and_counted(rt: HostRuntime) -> Result<(), AllocError> {
     Ok(())
 }
 
+// The frames of a piece, how many of its bytes are taken up to the first packet, and the call of that packet.
+const FIRST_PACKETS: &[(&[&[u8]], usize, Option<u32>)] = &[
+    (&[], 0, None),
+    (&[UNFINISHED], 26, None),
+    (&[OTHER_ADDRESS, EMPTY], 16, None),
+    (&[REQUEST, REQUEST_2], 27, Some(1)),
+    (
+        &[OTHER_ADDRESS, DAMAGED, ESCAPED, REQUEST_2, REQUEST],
+        72,
+        Some(2),
+    ),
+];
+
+// So many bytes are taken of the frames up to the first packet, which is of this call.
+fn are_taken(
+    rt: &impl Abort,
+    alloc: Global,
+    frames: &[&[u8]],
+    want: (usize, Option<u32>),
+) -> Result<(), AllocError> {
+    let mut piece = Vec::new(alloc);
+    for frame in frames {
+        piece.extend_from_slice(frame)?;
+    }
+    let mut listener = Listener::new(alloc, Role::Server)?;
+    let listened = listener.listen_for_packet(&piece)?;
+    let call = match &listened.packet {
+        Some(packet) => Some(packet.name.call),
+        None => None,
+    };
+    assert_eq!(rt; (listened.taken, call), want);
+    Ok(())
+}
+
+#[test]
+fn a_piece_is_taken_up_to_its_first_packet(rt: HostRuntime) -> Result<(), AllocError> {
+    for (frames, taken, call) in FIRST_PACKETS {
+        are_taken(&rt, rt.alloc(), frames, (*taken, *call))?;
+    }
+    Ok(())
+}
+
 // A frame, the type and the call of the packet in it, the role that hears it, and the other one.
 const ROLES: &[(&[u8], PacketType, u32, Role, Role)] = &[
     (REQUEST, PacketType::Request, 1, Role::Server, Role::Client),

@@ -65,9 +65,9 @@ impl<M: Maker> Server<M> {
             return Err(refused);
         }
         match self.listener.listen_for_packet(piece) {
-            Ok(listened) => {
-                self.take_in(&listened.packet)?;
-                Ok(listened.taken)
+            Ok(heard) => {
+                self.take_in(&heard.packet)?;
+                Ok(heard.taken)
             }
             Err(_) => {
                 self.refused = Some(StartRefused::Memory);

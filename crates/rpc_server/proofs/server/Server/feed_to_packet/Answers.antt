@@ -8,22 +8,22 @@ use Rattle.rpc_server.proofs.server.Server.feed_to_packet.Goals as goal
 pub returns-in_err-take_in-in-Ok-clause-refused_fed : goal.returns-in_err-take_in-in-Ok-clause-refused_fed
 returns-in_err-take_in-in-Ok-clause-refused_fed g c =
     on_err _ c.from_residual.result (
-      c.in-Ok.listened.taken,
-      fed_to_packet Server c.args.self.now c.take_in.new.self c.args.piece.now c.in-Ok.listened.taken c.in-Ok.listened.packet (subst (λ v. v.listener.role ≡ Server) c.self.view_is c.self.invariant.1) c.in-Ok.ensures.taken
-          (subst (λ v. StopsAtPacket v.listener c.args.piece.now c.in-Ok.listened.taken c.in-Ok.listened.packet) c.self.view_is c.in-Ok.ensures.stops)
+      c.in-Ok.heard.taken,
+      fed_to_packet Server c.args.self.now c.take_in.new.self c.args.piece.now c.in-Ok.heard.taken c.in-Ok.heard.packet (subst (λ v. v.listener.role ≡ Server) c.self.view_is c.self.invariant.1) c.in-Ok.ensures.taken
+          (subst (λ v. StopsAtPacket v.listener c.args.piece.now c.in-Ok.heard.taken c.in-Ok.heard.packet) c.self.view_is c.in-Ok.ensures.stops)
           (λ s fed.
-          fed_less _ _ c.self.inside.listener c.listen_for_packet.new.self (take c.in-Ok.listened.taken c.args.piece.now) c.take_in.new.self.serving c.take_in.new.self.listener
-          c.in-Ok.listened.packet c.in_err-take_in-in-Ok.field-0.0 s c.self.invariant.1 c.in-Ok.ensures.hears c.in_default.is c.in_err-take_in-in-Ok.ensures.step
+          fed_less _ _ c.self.inside.listener c.listen_for_packet.new.self (take c.in-Ok.heard.taken c.args.piece.now) c.take_in.new.self.serving c.take_in.new.self.listener
+          c.in-Ok.heard.packet c.in_err-take_in-in-Ok.field-0.0 s c.self.invariant.1 c.in-Ok.ensures.hears c.in_default.is c.in_err-take_in-in-Ok.ensures.step
           c.take_in.ensures.listener (subst (λ v. WasFed Server v s) (sym c.self.view_is) fed)),
     )
 
 pub returns-in_ok-take_in-in-Ok-clause-fed : goal.returns-in_ok-take_in-in-Ok-clause-fed
 returns-in_ok-take_in-in-Ok-clause-fed g c =
-    fed_to_packet Server c.args.self.now c.take_in.new.self c.args.piece.now c.in-Ok.listened.taken c.in-Ok.listened.packet (subst (λ v. v.listener.role ≡ Server) c.self.view_is c.self.invariant.1) c.in-Ok.ensures.taken
-    (subst (λ v. StopsAtPacket v.listener c.args.piece.now c.in-Ok.listened.taken c.in-Ok.listened.packet) c.self.view_is c.in-Ok.ensures.stops)
+    fed_to_packet Server c.args.self.now c.take_in.new.self c.args.piece.now c.in-Ok.heard.taken c.in-Ok.heard.packet (subst (λ v. v.listener.role ≡ Server) c.self.view_is c.self.invariant.1) c.in-Ok.ensures.taken
+    (subst (λ v. StopsAtPacket v.listener c.args.piece.now c.in-Ok.heard.taken c.in-Ok.heard.packet) c.self.view_is c.in-Ok.ensures.stops)
     (λ s fed.
-    fed_more _ _ c.self.inside.listener c.listen_for_packet.new.self (take c.in-Ok.listened.taken c.args.piece.now) c.take_in.new.self.serving c.take_in.new.self.listener
-    c.in-Ok.listened.packet s c.self.invariant.1 c.in-Ok.ensures.hears c.in_default.is c.in_ok-take_in-in-Ok.ensures.step
+    fed_more _ _ c.self.inside.listener c.listen_for_packet.new.self (take c.in-Ok.heard.taken c.args.piece.now) c.take_in.new.self.serving c.take_in.new.self.listener
+    c.in-Ok.heard.packet s c.self.invariant.1 c.in-Ok.ensures.hears c.in_default.is c.in_ok-take_in-in-Ok.ensures.step
     c.take_in.ensures.listener (subst (λ v. WasFed Server v s) (sym c.self.view_is) fed))
 
 pub returns-in-Err-clause-refused_fed : goal.returns-in-Err-clause-refused_fed
