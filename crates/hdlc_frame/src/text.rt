@@ -49,7 +49,7 @@ pub(crate) fn unescape(
 }
 
 // Behind so many octets without an escape a search for the next one is faster than looking at each octet.
-const QUIET: usize = 8;
+const QUIET: usize = 2;
 
 /// Appends the text that stands for `content`: flags and escapes are escaped, and nothing else.
 #[tactic(auto, unfolding(crate::specs::Encoded::text_of))]

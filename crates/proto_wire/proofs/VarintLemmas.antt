@@ -36,13 +36,6 @@ starts (Some r) =
     let e : 0 + 128 ^ 0 * r.value ≡ r.value = omega arith in
     ap (λ v. within_64 (record { value = v; rest = r.rest })) e
 
--- a varint of one byte
-pub varint_single : (bytes rest : List ℕ) (b : ℕ) → bytes ≡ b ∷ rest → b < 128 → varint_front bytes ≡ Some (record { value = b; rest = rest })
-unfolding varint_front groups_front
-varint_single bytes rest b is small =
-    let fits : b < 2 ^ 64 = omega (arith, small) in
-    rw is (rw (lt-ltb b 128 small) (rw (lt-ltb b (2 ^ 64) fits) refl))
-
 -- the varint of no groups yet
 pub finish_start : (bytes : List ℕ) → finish 0 0 (groups_front 10 bytes) ≡ varint_front bytes
 unfolding finish varint_front

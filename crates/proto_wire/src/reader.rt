@@ -13,17 +13,6 @@ use byteorder::{ByteOrder, LittleEndian};
 pub fn read_varint(bytes: &[u8]) -> Option<(u64, &[u8])>
     ensures { option_map (λ r. record { value = r.0; rest = r.1.now }) result ≡ varint_front bytes.now }
 {
-    match bytes.split_first() {
-        // Nearly every varint has one byte.
-        Some((first, rest)) if *first < 128 => Some((u64::from(*first), rest)),
-        _ => read_groups(bytes),
-    }
-}
-
-// The same, group by group.
-fn read_groups(bytes: &[u8]) -> Option<(u64, &[u8])>
-    ensures { option_map (λ r. record { value = r.0; rest = r.1.now }) result ≡ varint_front bytes.now }
-{
     let mut value: u64 = 0;
     let mut weight: u64 = 1;
     for index in 0..LONGEST_VARINT {

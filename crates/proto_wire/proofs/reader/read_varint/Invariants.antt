@@ -1,7 +1,7 @@
 use Rattle.std.proofs.Common.{◌≡◌, ◌-◌, ◌≤◌, ◌^◌, ◌%◌, drop, length}
 use Rattle.proto_wire.specs.Varint.{groups_front, varint_front}
 use Rattle.proto_wire.proofs.VarintLemmas.{finish}
-use Rattle.proto_wire.proofs.reader.read_groups.Given as goal
+use Rattle.proto_wire.proofs.reader.read_varint.Given as goal
 
 -- the groups so far, with those to come on top, are the varint
 abbrev pub invariant-loop-index : goal.invariant-loop-index
