@@ -7,7 +7,7 @@ use Rattle.std.proofs.lemmas.List.{at_drop_more}
 use Rattle.hdlc_frame.specs.declared.crc.TheConstants.{POLYNOMIAL}
 use Rattle.hdlc_frame.specs.CheckSequence.{after_bit, after_bits, after_octet, after_octets}
 
-xor_swap : (a b c : ℕ) → bit_xor (bit_xor a b) c ≡ bit_xor (bit_xor a c) b
+pub xor_swap : (a b c : ℕ) → bit_xor (bit_xor a b) c ≡ bit_xor (bit_xor a c) b
 xor_swap a b c = xor_assoc a b c ∙ ap (λ x. bit_xor a x) (xor_comm b c) ∙ sym (xor_assoc a c b)
 
 -- the test and the half of a register after a bit

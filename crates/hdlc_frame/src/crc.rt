@@ -25,42 +25,52 @@ pub(crate) fn register_after(register: u32, octets: &[u8]) -> u32
 {
     let mut after = register;
     let mut rest = octets;
-    'words: while let Some((first, behind)) = rest.split_first_chunk::<8>() {
-        (after, rest) = match behind.split_first_chunk::<8>() {
-            Some((second, behind)) => (after_sixteen(after, first, second), behind),
-            None => (after_eight(after, first), behind),
+    'words: while let Some((word, behind)) = rest.split_first_chunk::<4>() {
+        (after, rest) = match behind.split_first_chunk::<12>() {
+            Some((others, behind)) => (after_sixteen(after, word, others), behind),
+            None => (after_four(after, word), behind),
         };
     }
     after_each(after, rest)
 }
 
-// Sixteen octets at once: the register and the first eight are one word, which goes on through the zeros of the others.
+// Sixteen octets at once: the register goes with the first four through the zeros of the others, which needn't wait for it.
 #[inline(always)]
-fn after_sixteen(register: u32, first: &[u8; 8], second: &[u8; 8]) -> u32
-    ensures { result ≡ after_octets register (first.now ++ second.now) }
+fn after_sixteen(register: u32, word: &[u8; 4], others: &[u8; 12]) -> u32
+    ensures { result ≡ after_octets register (word.now ++ others.now) }
 {
-    let word = u64::from(register) ^ u64::from_le_bytes(*first);
-    after_word(0, u64::from_le_bytes(*second)) ^ after_word(8, word)
+    after_twelve(others) ^ after_word(12, register ^ u32::from_le_bytes(*word))
 }
 
 #[inline(always)]
-fn after_eight(register: u32, octets: &[u8; 8]) -> u32
+fn after_four(register: u32, octets: &[u8; 4]) -> u32
     ensures { result ≡ after_octets register octets.now }
 {
-    after_word(0, u64::from(register) ^ u64::from_le_bytes(*octets))
+    after_word(0, register ^ u32::from_le_bytes(*octets))
 }
 
-// What zeros make of a word, as many as its eight octets and `lane` more have bits. Each octet goes its own way to the
-// end. The highest goes first: the lowest four wait for the register, and the others needn't wait for them.
+// What zeros make of a word, as many as its four octets and `lane` more have bits. Each octet goes its own way to the end.
 #[inline(always)]
-fn after_word(lane: usize, word: u64) -> u32
-    requires { lane ≤ 8 }
-    ensures { result ≡ after_bits (8 * (lane + 8)) word 0 }
+fn after_word(lane: usize, word: u32) -> u32
+    requires { lane ≤ 12 }
+    ensures { result ≡ after_bits (8 * (lane + 4)) word 0 }
 {
     let mut after = 0;
-    for i in 0..8usize {
-        let octet = (word >> (8 * (7 - i))) & 0xff;
+    for i in 0..4usize {
+        let octet = (word >> (8 * (3 - i))) & 0xff;
         after ^= after_zeros(lane + i, octet as u8);
+    }
+    after
+}
+
+// What twelve octets make of a register of zeros. Each goes its own way, through the zeros of those behind it.
+#[inline(always)]
+fn after_twelve(octets: &[u8; 12]) -> u32
+    ensures { result ≡ after_octets 0 octets.now }
+{
+    let mut after = 0;
+    for i in 0..12usize {
+        after ^= after_zeros(11 - i, octets[i]);
     }
     after
 }

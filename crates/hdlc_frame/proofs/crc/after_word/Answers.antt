@@ -12,7 +12,7 @@ loop-i-preserved c =
     let i = c.loop-i.i in
     let lane = c.args.lane in
     upper_more lane c.args.word i c.loop-i.after c.after_zeros-after.result c.loop-i-test.true c.loop-i.invariant
-    (c.after_zeros-after.ensures ∙ ap (λ x. after_bits (8 * (lane + i + 1)) x 0) (and_mask (c.args.word / 2 ^ (8 * (7 - i))) 8))
+    (c.after_zeros-after.ensures ∙ ap (λ x. after_bits (8 * (lane + i + 1)) x 0) (and_mask (c.args.word / 2 ^ (8 * (3 - i))) 8))
 
 pub returns : goal.returns
 returns c =
