@@ -1,5 +1,5 @@
 -- What a pump gathers, segment by segment, and what a part of it written leaves.
-use Rattle.std.proofs.Common.{◌≡◌, ℕ, zero, suc, ◌-◌, ◌<◌, ◌≤◌, Bool, true, false, cond, List, [], ◌∷◌, ◌++◌, length, take, drop, refl, sym, ◌∙◌, ap, subst, arith, append-nil, append_assoc, take-append-drop}
+use Rattle.std.proofs.Common.{◌≡◌, ℕ, zero, suc, ◌-◌, ◌<◌, ◌≤◌, Bool, true, false, cond, List, [], ◌∷◌, ◌++◌, length, take, drop, refl, sym, ◌∙◌, ap, subst, arith, append-nil, append_assoc, length-append, take-append-drop}
 use Rattle.std.specs.Prelude.{nat_le}
 use Rattle.std.specs.List.{filter, flat_map}
 use Rattle.std.proofs.lemmas.Bool.{leb-true, leb-false}
@@ -126,6 +126,23 @@ gathered_wire _ _ _ _ _ (frame_gathered routes from sent stream next batch f pas
     ap (λ xs. xs ++ frame_bytes f) (gathered_wire routes from sent stream batch h) ∙ append_assoc (wire_of routes from sent) batch.bytes (frame_bytes f)
 gathered_wire _ _ _ _ _ (none_passed routes from sent stream next batch same h) = ap (flat_map frame_bytes) same ∙ gathered_wire routes from sent stream batch h
 
+-- a stream is as long as what was sent of it, at least
+reaches : (routes : List Route) (from : Port) (sent stream : List ℕ) (batch : BatchView) → IsGathered routes from sent stream batch → length sent ≤ length stream
+reaches _ _ _ _ _ (none_gathered routes from sent) = omega arith
+reaches _ _ _ _ _ (frame_gathered routes from sent stream next batch f passing more h) =
+    omega (arith, reaches routes from sent stream batch h, length-append stream next)
+reaches _ _ _ _ _ (none_passed routes from sent stream next batch same h) =
+    omega (arith, reaches routes from sent stream batch h, length-append stream next)
+
+-- bytes in which a segment ends are some
+pub some_next : (stream next : List ℕ) (one : Found) → found 8192 (stream ++ next) ≡ found 8192 stream ++ one ∷ [] → 0 < length next
+some_next stream [] one more =
+    let same = ap (λ xs. length (found 8192 xs)) (append-nil stream) in
+    let longer = ap length more in
+    let long = length-append (found 8192 stream) (one ∷ []) in
+    absurd (omega (arith, same, longer, long))
+some_next stream (x ∷ next) one more = omega arith
+
 -- where so many bytes of a batch end: in this frame of the stream, of which a part is written
 pub record EndsIn (routes : List Route) (from : Port) (sent stream written : List ℕ) (tally : Tally) : Type 0 where
   pub front : List ℕ
@@ -137,6 +154,7 @@ pub record EndsIn (routes : List Route) (from : Port) (sent stream written : Lis
   pub passing : passes routes from carried ≡ true
   pub finds : found 8192 (front ++ next) ≡ found 8192 front ++ frame carried ∷ []
   pub begins : stream ≡ (front ++ next) ++ behind
+  pub past : length sent < length (front ++ next)
   pub wrote : wire_of routes from sent ++ written ≡ wire_of routes from front ++ part
   pub within : wire_of routes from (front ++ next) ≡ (wire_of routes from front ++ part) ++ unwritten
   pub counts : tally ≡ full_tally routes from front
@@ -155,6 +173,7 @@ further routes from sent stream next written now tally same e = record {
   passing = e.passing;
   finds = e.finds;
   begins = ap (λ xs. xs ++ next) e.begins ∙ append_assoc (e.front ++ e.next) e.behind next;
+  past = e.past;
   wrote = ap (λ xs. wire_of routes from sent ++ xs) same ∙ e.wrote;
   within = e.within;
   counts = e.counts;
@@ -193,6 +212,7 @@ ends_in _ _ _ _ _ n all tally (frame_gathered routes from sent stream next batch
           passing = passing;
           finds = more;
           begins = sym (append-nil (stream ++ next));
+          past = omega (arith, reaches routes from sent stream batch h, some_next stream next (frame f) more, length-append stream next);
           wrote =
               ap (λ xs. wire_of routes from sent ++ xs) (take-append-past n batch.bytes (frame_bytes f) past) ∙
               sym (append_assoc (wire_of routes from sent) batch.bytes part) ∙ ap (λ xs. xs ++ part) (sym (gathered_wire routes from sent stream batch h));

@@ -36,6 +36,7 @@ ends_by routes from intake first now last bytes w is keeps (inr failed) =
       unwritten = [];
       begins = sym (append-nil (bytes ++ []) ∙ append-nil bytes);
       stops = inl (refl, refl);
+      soon = omega arith;
       wrote = subst (Appends first last) (sym none) (Appends-kept first now last (wire_of routes from bytes) is.wrote keeps);
       within = ap (wire_of routes from) (append-nil bytes) ∙ sym (append-nil (wire_of routes from bytes ++ []) ∙ none);
       counts = is.counted.tally;
@@ -44,6 +45,12 @@ ends_by routes from intake first now last bytes w is keeps (inr failed) =
 not_limit : (w : Why) → (w ≡ why.Settled) ⊎ (w ≡ why.Sink) → w ≡ why.InputLimit → ⊥
 not_limit w (inl settled) limit = absurd (cc)
 not_limit w (inr failed) limit = absurd (cc)
+
+not_whole : (w : Why) → (w ≡ why.Sink) ⊎ (w ≡ why.Memory) → (w ≡ why.Settled) ⊎ (w ≡ why.Source) → ⊥
+not_whole w (inl sink) (inl settled) = absurd (cc)
+not_whole w (inl sink) (inr source) = absurd (cc)
+not_whole w (inr memory) (inl settled) = absurd (cc)
+not_whole w (inr memory) (inr source) = absurd (cc)
 
 pub pumps_to_end :
     (routes : List Route) (from : Port) (intake : IntakeView) (left_old left_mid left_new first now last : Option (List ℕ)) (total : ℕ) (w : Why) (rest : List ℕ) →
@@ -66,10 +73,10 @@ pumps_to_end routes from intake left_old left_mid left_new first now last total 
 -- at a frame that could not go on
 pub pumps_to_stop :
     (routes : List Route) (from : Port) (intake : IntakeView) (left_old left_mid left_new first now last : Option (List ℕ)) (total count : ℕ) (piece : List ℕ) (stopped : Stopped) →
-    HasTaken routes from intake left_old left_mid first now total → Consumes left_mid left_new piece → length piece ≡ count → total + count ≤ 67108864 →
+    HasTaken routes from intake left_old left_mid first now total → Consumes left_mid left_new piece → length piece ≡ count → count ≤ 16384 → total + count ≤ 67108864 →
     StopsIn routes from (record { intake = intake; written = now }) last piece (tally_in stopped) →
     Pumps routes from left_old left_new first last (stopped_pump stopped (total + count))
-pumps_to_stop routes from intake left_old left_mid left_new first now last total count piece (Sink tally) has more size within stops =
+pumps_to_stop routes from intake left_old left_mid left_new first now last total count piece (Sink tally) has more size short within stops =
     let was = has.count in
     let long = length-append has.bytes piece in
     record {
@@ -78,11 +85,11 @@ pumps_to_stop routes from intake left_old left_mid left_new first now last total
       read = omega arith;
       within = omega arith;
       at_limit = λ limit. absurd (cc);
-      below = λ settled. absurd (cc);
+      below = λ ended. absurd (not_whole why.Sink (inl refl) ended);
       at_end = λ settled. absurd (cc);
-      wrote = stops first has.bytes has.pumped;
+      wrote = stops (omega (arith, size, short)) first has.bytes has.pumped;
     }
-pumps_to_stop routes from intake left_old left_mid left_new first now last total count piece (Memory tally) has more size within stops =
+pumps_to_stop routes from intake left_old left_mid left_new first now last total count piece (Memory tally) has more size short within stops =
     let was = has.count in
     let long = length-append has.bytes piece in
     record {
@@ -91,9 +98,9 @@ pumps_to_stop routes from intake left_old left_mid left_new first now last total
       read = omega arith;
       within = omega arith;
       at_limit = λ limit. absurd (cc);
-      below = λ settled. absurd (cc);
+      below = λ ended. absurd (not_whole why.Memory (inr refl) ended);
       at_end = λ settled. absurd (cc);
-      wrote = stops first has.bytes has.pumped;
+      wrote = stops (omega (arith, size, short)) first has.bytes has.pumped;
     }
 
 pub taken_more :

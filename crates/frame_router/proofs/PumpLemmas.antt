@@ -1,10 +1,10 @@
 -- A pump over one piece.
-use Rattle.std.proofs.Common.{◌≡◌, ℕ, ◌+◌, ◌-◌, ◌≤◌, List, [], ◌∷◌, ◌++◌, length, take, drop, Option, Result, Ok, Err, OnOk, OnErr, inr, sym, ◌∙◌, ap, subst, arith, append-nil, append_assoc, take-append-drop}
+use Rattle.std.proofs.Common.{◌≡◌, ℕ, ◌+◌, ◌-◌, ◌≤◌, List, [], ◌∷◌, ◌++◌, length, take, drop, Option, Result, Ok, Err, OnOk, OnErr, inr, sym, ◌∙◌, ap, subst, arith, append-nil, append_assoc, length-append, take-append-drop}
 use Rattle.std.specs.Io.KnownBytes.{Appends}
 use Rattle.std.specs.List.{flat_map}
 use Rattle.std.proofs.KnownBytes.{Appends-nil, Appends-trans}
 use Rattle.std.proofs.Math.Seq.{take-add}
-use Rattle.std.proofs.lemmas.List.{take_rest, take_all}
+use Rattle.std.proofs.lemmas.List.{length-drop, take_rest, take_all}
 use Rattle.hdlc_frame.specs.Found.{found}
 use Rattle.hdlc_frame.specs.Found.Found.{frame}
 use Rattle.frame_router.specs.declared.port.Port.{Port}
@@ -15,7 +15,7 @@ use Rattle.frame_router.specs.Gathered.{BatchView, GathersOn, GathersPart, HasCo
 use Rattle.frame_router.specs.Pumped.{wire_of}
 use Rattle.frame_router.specs.Routed.{BringsFrame}
 use Rattle.frame_router.specs.Steps.{IsPumped, PumpsOn, StopsIn, WritesPart}
-use Rattle.frame_router.proofs.GatherLemmas.{ends_in, frame_more, gathered_wire}
+use Rattle.frame_router.proofs.GatherLemmas.{ends_in, frame_more, gathered_wire, some_next}
 use Rattle.frame_router.proofs.Segments.{passed_none}
 
 -- one segment of a piece behind others
@@ -81,19 +81,23 @@ stops_at :
     (routes : List Route) (from : Port) (old reached : IntakeView) (none batch : BatchView) (piece : List ℕ) (done : ℕ) (was now : Option (List ℕ)) (all tally : Tally) → none ≡ no_batch →
     GathersOn routes from old none reached batch (take done piece) → WritesPart was now batch all tally →
     StopsIn routes from (record { intake = old; written = was }) now piece tally
-stops_at routes from old reached none batch piece done was now all tally empty on wrote first stream pumped =
+stops_at routes from old reached none batch piece done was now all tally empty on wrote short first stream pumped =
     let came = stream ++ take done piece in
     let has = gathers routes from old reached none batch (take done piece) stream first was empty on pumped in
     let there = ends_in routes from stream came batch wrote.count all tally has.gathered wrote.within wrote.counts in
     let whole : came ++ drop done piece ≡ stream ++ piece = append_assoc stream (take done piece) (drop done piece) ∙ ap (λ xs. stream ++ xs) (take-append-drop done piece) in
+    let behind = there.behind ++ drop done piece in
+    let begins : stream ++ piece ≡ (there.front ++ there.next) ++ behind =
+    sym whole ∙ ap (λ xs. xs ++ drop done piece) there.begins ∙ append_assoc (there.front ++ there.next) there.behind (drop done piece) in
     record {
       front = there.front;
       next = there.next;
-      behind = there.behind ++ drop done piece;
+      behind = behind;
       part = there.part;
       unwritten = there.unwritten;
-      begins = sym whole ∙ ap (λ xs. xs ++ drop done piece) there.begins ∙ append_assoc (there.front ++ there.next) there.behind (drop done piece);
+      begins = begins;
       stops = inr (there.carried, there.passing, there.finds);
+      soon = omega (arith, short, there.past, ap length begins, length-append stream piece, length-append (there.front ++ there.next) behind);
       wrote = subst (Appends first now) there.wrote (Appends-trans first was now (wire_of routes from stream) (take wrote.count batch.bytes) pumped.wrote wrote.wrote);
       within = there.within;
       counts = there.counts;
@@ -114,7 +118,7 @@ pub stops_before :
     (routes : List Route) (from : Port) (old new : IntakeView) (none batch : BatchView) (piece : List ℕ) (was now : Option (List ℕ)) (tally : Tally) → none ≡ no_batch →
     GathersPart routes from old none new batch piece → Appends was now batch.bytes → tally ≡ new.tally →
     StopsIn routes from (record { intake = old; written = was }) now piece tally
-stops_before routes from old new none batch piece was now tally empty part wrote same first stream pumped =
+stops_before routes from old new none batch piece was now tally empty part wrote same short first stream pumped =
     let done = part.count in
     let came = stream ++ take done piece in
     let brings = part.brings in
@@ -133,6 +137,9 @@ stops_before routes from old new none batch piece was now tally empty part wrote
           sym (append_assoc stream (take done piece) (drop done piece) ∙ ap (λ xs. stream ++ xs) (take-append-drop done piece)) ∙
           ap (λ xs. came ++ xs) brings.parts ∙ sym (append_assoc came brings.next brings.behind);
       stops = inr (brings.carried, brings.passing, finds);
+      soon =
+          omega (arith, short, some_next came brings.next (frame brings.carried) finds, ap length brings.parts, length-append brings.next brings.behind,
+          length-drop done piece);
       wrote = subst (Appends first now) (sym whole) (written_whole routes from old part.reached batch (take done piece) stream first was now has pumped wrote);
       within =
           frame_more routes from came (came ++ brings.next) brings.carried finds brings.passing ∙

@@ -35,7 +35,7 @@ StopsAt routes from front next behind =
     ((next ≡ []) × (behind ≡ [])) ⊎ ((f : FrameParts) × (passes routes from f ≡ true) × (found 8192 (front ++ next) ≡ found 8192 front ++ frame f ∷ []))
 
 -- It stopped at a frame of these bytes, or behind all of them: of the bytes before it all frames that pass were written and all
--- segments were counted, and of this frame a part was written.
+-- segments were counted, and of this frame a part was written. Behind it came less than one read brings, so no frame waits for another read.
 pub record PumpsPart (routes : List Route) (from : Port) (bytes : List ℕ) (old new : Option (List ℕ)) (tally : Tally) : Type 0 where
   pub front : List ℕ
   pub next : List ℕ
@@ -44,6 +44,7 @@ pub record PumpsPart (routes : List Route) (from : Port) (bytes : List ℕ) (old
   pub unwritten : List ℕ
   pub begins : bytes ≡ (front ++ next) ++ behind
   pub stops : StopsAt routes from front next behind
+  pub soon : length behind < 16384
   pub wrote : Appends old new (wire_of routes from front ++ part)
   pub within : wire_of routes from (front ++ next) ≡ (wire_of routes from front ++ part) ++ unwritten
   pub counts : tally ≡ full_tally routes from front
@@ -61,6 +62,6 @@ pub record Pumps (routes : List Route) (from : Port) (left_old left_new written_
   pub read : result.read ≡ length bytes
   pub within : length bytes ≤ 67108864
   pub at_limit : result.why ≡ InputLimit → length bytes ≡ 67108864
-  pub below : result.why ≡ Settled → length bytes < 67108864
+  pub below : (result.why ≡ Settled) ⊎ (result.why ≡ Source) → length bytes < 67108864
   pub at_end : result.why ≡ Settled → IsAtEnd left_new
   pub wrote : PumpsBy result.why routes from bytes written_old written_new result.tally

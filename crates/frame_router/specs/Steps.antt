@@ -1,5 +1,5 @@
 -- The steps by which a direction counts a segment and a pump goes on or stops. What callers see of them stands in Routed and Pumped.
-use Rattle.std.specs.Prelude.{ℕ, ◌<◌, Bool, true, false, List, [], ◌∷◌, ◌≡◌, ◌++◌, length, take, Option}
+use Rattle.std.specs.Prelude.{ℕ, ◌<◌, ◌≤◌, Bool, true, false, List, [], ◌∷◌, ◌≡◌, ◌++◌, length, take, Option}
 use Rattle.hdlc_frame.specs.Counted.{one_more}
 use Rattle.hdlc_frame.specs.Found.{Found}
 use Rattle.hdlc_frame.specs.Found.Found.{frame}
@@ -47,10 +47,10 @@ PumpsOn routes from old new bytes =
     (first : Option (List ℕ)) (stream : List ℕ) → IsPumped routes from old.intake first old.written stream →
     IsPumped routes from new.intake first new.written (stream ++ bytes)
 
--- it stopped at a frame in a piece
+-- it stopped at a frame in a piece, no longer than one read brings
 abbrev pub StopsIn : List Route → Port → PumpState → Option (List ℕ) → List ℕ → Tally → Type 0
 StopsIn routes from old written piece tally =
-    (first : Option (List ℕ)) (stream : List ℕ) → IsPumped routes from old.intake first old.written stream →
+    length piece ≤ 16384 → (first : Option (List ℕ)) (stream : List ℕ) → IsPumped routes from old.intake first old.written stream →
     PumpsPart routes from (stream ++ piece) first written tally
 
 -- of a batch so many bytes were written, and the count is that before the frame with the next byte

@@ -18,13 +18,13 @@ use std::alloc::{AllocError, Global};
 use std::sync::Wait;
 use std::thread::Threads;
 
-/// Does what it is asked over one link, in one call: it fetches a resource into the store, sends one, or keeps the messages
-/// of a call. A reader
-/// in a thread of its own feeds the input; the caller's thread drives the call and writes. Once the task has ended and all is
-/// written, the sink is told that nothing more comes; the client ends with its input. Where the reader's thread can't be made the
-/// table is halted for want of memory. A fault of the source and the limit of 67,108,864 bytes end the input, and the call still
-/// ends; a fault of the sink or the store, a full journal and want of memory halt the table. A client that is halted tells its sink
-/// at once that nothing more comes, so that the other end meets the end of its input and closes.
+/// Does what it is asked over one link, in one call: it fetches a resource into the store, sends one, or keeps the
+/// messages of a call. A reader in a thread of its own feeds the input; the caller's thread drives the call and writes.
+/// Once the task has ended and all is written, the sink is told that nothing more comes; the client ends with its
+/// input. Where the reader's thread can't be made the table is halted for want of memory. A fault of the source and the
+/// limit of 67,108,864 bytes end the input, and the call still ends; a fault of the sink or the store, a full journal
+/// and want of memory halt the table. A client that is halted tells its sink at once that nothing more comes, so that
+/// the other end meets the end of its input and closes.
 ///
 /// # Errors
 ///

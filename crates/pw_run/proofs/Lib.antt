@@ -1,5 +1,4 @@
 mod CallLemmas
-mod ChannelLemmas
 mod ClientLemmas
 mod CrewLemmas
 mod DemoSizes

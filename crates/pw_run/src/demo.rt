@@ -1,6 +1,5 @@
 //! What the commands serve: the demo service, on channels 1 to 8, over what a store lists.
-ghost use Rattle.std.specs.Prelude.{◌≡◌, ◌≢◌, [], None, IfOk, OnOk};
-ghost use Rattle.rpc_channel.specs.Rising.{with_id};
+ghost use Rattle.std.specs.Prelude.{◌≡◌, [], None, IfOk};
 ghost use Rattle.rpc_ids.specs.declared.method.Role.TheVariants.{Server as server_role};
 ghost use Rattle.rpc_schedule.specs.ends.EndState.{WasFed};
 ghost use Rattle.demo_services.specs.Transfer.{demo_seed};
@@ -8,14 +7,14 @@ ghost use Rattle.pw_run.specs.Demo.{demo_channels, demo_setting, no_shelf};
 
 use demo_services::{DemoMaker, demo_registry};
 use link_io::{Fulls, Lefts, Shelf};
+use link_world::server::world_channels;
 use rpc_channel::Channels;
 use rpc_handlers::Maker;
 use rpc_server::Server;
 use std::alloc::{AllocError, Global};
 use transfer_chunk::Tuning;
 
-/// Channels 1 to this one are in.
-pub const LAST_CHANNEL: u32 = 8;
+pub use link_world::server::LAST_CHANNEL;
 
 /// The server of the demo service over this shelf, before any input.
 pub(crate) fn server(alloc: Global, shelf: Shelf) -> Result<Server<DemoMaker>, AllocError>
@@ -54,24 +53,9 @@ pub(crate) fn no_shelf(alloc: Global) -> Shelf
     }
 }
 
-/// The channels that are in.
+/// The channels that are in: 1 to `LAST_CHANNEL`.
 pub(crate) fn channels(alloc: Global) -> Result<Channels, AllocError>
     ensures { IfOk result (λ channels. channels ≡ demo_channels) }
 {
-    let mut channels = Channels::new(alloc);
-    for id in 1..=LAST_CHANNEL {
-        add(&mut channels, id)?;
-    }
-    Ok(channels)
-}
-
-// Adds a channel that isn't in. There is room for eight, so memory alone can be wanting.
-fn add(channels: &mut Channels, id: u32) -> Result<(), AllocError>
-    requires { id ≢ 0 }
-    ensures { OnOk result (channels.new ≡ with_id id channels.old) }
-{
-    match channels.add(id) {
-        Ok(()) => Ok(()),
-        Err(_) => Err(AllocError),
-    }
+    world_channels(alloc)
 }

@@ -21,10 +21,11 @@ use std::alloc::{AllocError, Global};
 /// returns.
 ///
 /// `replay` serves the input as a recorded stream from a client, over the resources that the store lists, and writes a
-/// report, the frames that are sent, or the journal's text; uploads end in the store. `check` judges the input as such a
-/// text; `detoken` prints the log messages in the input by the formats in front of them; `route` routes the frames in the
-/// input by the routes in front of them; `dump` tells what is in the input, a recorded stream of either direction; `load` serves
-/// a stream of its own making, and touches no input. Up to 67,108,864 bytes are read. The answer is the program's exit status, as [`Outcome::code`] tells it.
+/// report, the frames that are sent, or the journal's text; uploads end in the store. `check` judges the input as such
+/// a text; `detoken` prints the log messages in the input by the formats in front of them; `route` routes the frames in
+/// the input by the routes in front of them; `dump` tells what is in the input, a recorded stream of either direction;
+/// `load` serves a stream of its own making, and touches no input. Up to 67,108,864 bytes are read. The answer is the
+/// program's exit status, as [`Outcome::code`] tells it.
 pub fn run_recorded<I: Source, O: Sink, S: Store>(
     alloc: Global,
     words: &[String],

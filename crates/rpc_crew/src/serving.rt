@@ -33,12 +33,13 @@ use std::thread::Threads;
 /// How many parcels the ring has room for.
 pub(crate) const PLACES: usize = 256;
 
-/// Serves one link until its input has ended and all that it asked for is done, or the table is halted. A reader, a pump, a writer
-/// and 1 to 16 workers share one table of calls, each in a thread of its own; where one can't be made the table is halted for want
-/// of memory, with nothing read. The time is asked of the clock alone, here for the first time, and the gate stands at each run of a handler. A fault of the
-/// source and the limit of 67,108,864 bytes end the input, and the session still settles; a fault of the sink or the store, a full
-/// journal and want of memory halt it. A session that is halted tells its sink that nothing more comes, so that the other end meets
-/// the end of its input; it ends once its own input has ended. One that settles leaves its sink open.
+/// Serves one link until its input has ended and all that it asked for is done, or the table is halted. A reader, a
+/// pump, a writer and 1 to 16 workers share one table of calls, each in a thread of its own; where one can't be made
+/// the table is halted for want of memory, with nothing read. The time is asked of the clock alone, here for the first
+/// time, and the gate stands at each run of a handler. A fault of the source and the limit of 67,108,864 bytes end the
+/// input, and the session still settles; a fault of the sink or the store, a full journal and want of memory halt it. A
+/// session that is halted tells its sink that nothing more comes, so that the other end meets the end of its input; it
+/// ends once its own input has ended. One that settles leaves its sink open.
 ///
 /// # Errors
 ///

@@ -1,9 +1,10 @@
 -- A step of the table through the lock.
-use Rattle.std.specs.Prelude.{◌≡◌, ℕ, false, true, List, ◌++◌, Some}
+use Rattle.std.specs.Prelude.{◌≡◌, ℕ, false, true, List, ◌++◌, Option, Some, Result, IfOk, IfSome, IsTrue}
 use mathlib.Core.List.{IsPrefix}
 use Rattle.entry_lists.specs.Entries.{made_by}
 use Rattle.turn_cell.specs.Passes.{HasTaken, IsSame, LockView, PassView, TurnedAway}
 use Rattle.rpc_handlers.specs.HandlerRule.{HandlerRule}
+use Rattle.rpc_handlers.specs.declared.event.Memo.{Memo}
 use Rattle.rpc_journal.specs.declared.entry.Entry.{Entry}
 use Rattle.rpc_journal.specs.declared.setting.Setting.{Setting}
 use Rattle.rpc_journal.specs.ChangeLaws.{GoesOnBy}
@@ -11,6 +12,7 @@ use Rattle.rpc_journal.specs.History.{history}
 use Rattle.rpc_journal.specs.Lawful.{IsLegal}
 use Rattle.rpc_journal.specs.Laws.{StaysQuiet, seat_of}
 use Rattle.rpc_journal.specs.Quiet.{is_quiet}
+use Rattle.rpc_journal.specs.States.{state_of}
 use Rattle.rpc_journal.specs.CallTable.{Table}
 
 -- the log of a table is its journal, and its base is what is fixed with it
@@ -41,6 +43,11 @@ pub record Holds (rule : HandlerRule) (r : LockView Setting) (p m : PassView Ent
   pub taken : HasTaken log_of seat_of base_of p m t
   pub setting : t.setting ≡ r.base
   pub legal : IsLegal rule t.setting t.entries
+
+-- a handler that comes back of a call is in the state in which its last run left it
+abbrev pub ComesBack : {H E : Type 0} → HandlerRule → (H → Memo) → Setting → ℕ → Result (Option H) E → List Entry → Type 0
+ComesBack rule now set call result before =
+    IfOk result (λ old. IfSome old (λ h. IsTrue rule.ruled → state_of rule set (history set before) call ≡ Some (now h)))
 
 -- a call on the table, by this seat
 pub record Made (rule : HandlerRule) (seat : ℕ) (old new : Table) (step : Step) : Type 0 where

@@ -7,7 +7,7 @@ ghost use Rattle.rpc_journal.specs.Conditions.{CanComplete, CanHalt, CanInvoke, 
 ghost use Rattle.rpc_journal.specs.Lawful.{IsLegal};
 ghost use Rattle.rpc_journal.specs.Runs.{IsRunning};
 ghost use Rattle.rpc_shared.specs.Looks.{LookDid};
-ghost use Rattle.rpc_shared.specs.Steps.{Made};
+ghost use Rattle.rpc_shared.specs.Steps.{ComesBack, Made};
 
 use crate::Look;
 use bytes::Bytes;
@@ -70,7 +70,7 @@ impl<H: Handler> Desk<H> {
     }
 
     /// Does nothing at run time. Calling it tells the prover that the table's journal is legal.
-    pub(crate) fn is_legal(&self)
+    pub(crate) fn note_legal(&self)
         ensures { IsLegal H.rule self.now.setting self.now.entries }
     {
         let _journal = self.calls.journal();
@@ -156,7 +156,7 @@ impl<H: Handler> Desk<H> {
         handler: H,
     ) -> Result<Option<H>, (H, ReplaceRefused)>
         requires able { H.can_act handler }
-        ensures made { Made H.rule seat self.old self.new (λ set by. ReplaceDid set by call (H.now handler) result) }
+        ensures made { Made H.rule seat self.old self.new (λ set by old new. ReplaceDid set by call (H.now handler) result old new × ComesBack H.rule H.now set call result old) }
         ensures able { IfOk result (λ old. IfSome old H.can_act) }
         ensures back { IfErr result (λ refused. refused.0 ≡ handler) }
     {

@@ -80,7 +80,7 @@ impl<H: Handler> Shared<H> {
     {
         let Shared { turn } = self;
         let desk = turn.close(passes);
-        desk.is_legal();
+        desk.note_legal();
         desk.into_calls()
     }
 
@@ -90,7 +90,7 @@ impl<H: Handler> Shared<H> {
         ensures holds { Holds H.rule self.now pass.old pass.new result }
     {
         let mut held = self.turn.take(rt, pass);
-        held.value().is_legal();
+        held.value().note_legal();
         held
     }
 
@@ -102,7 +102,7 @@ impl<H: Handler> Shared<H> {
     {
         match self.turn.try_take(pass) {
             Ok(mut held) => {
-                held.value().is_legal();
+                held.value().note_legal();
                 Ok(held)
             }
             Err(busy) => Err(busy),

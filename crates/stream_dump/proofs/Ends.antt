@@ -28,6 +28,12 @@ taken_more names old new left_old left_mid left_new first w v total count piece 
       dumped = on first has.bytes has.dumped;
     }
 
+pub not_whole : (w : Why) → (w ≡ why.Sink) ⊎ (w ≡ why.InputLimit) → (w ≡ why.Settled) ⊎ (w ≡ why.Source) → ⊥
+not_whole w (inl sink) (inl settled) = absurd (cc)
+not_whole w (inl sink) (inr source) = absurd (cc)
+not_whole w (inr limit) (inl settled) = absurd (cc)
+not_whole w (inr limit) (inr source) = absurd (cc)
+
 -- a write failed in a piece
 pub dumps_to_stop : (names : List Name) (old : Progress) (left_old left_mid left_new first w v : Option (List ℕ)) (total count : ℕ) (piece : List ℕ)
     → HasTaken names (record { dumper = old; written = w }) left_old left_mid first total → Consumes left_mid left_new piece → length piece ≡ count
@@ -41,7 +47,7 @@ dumps_to_stop names old left_old left_mid left_new first w v total count piece h
       taken = Consumes-trans left_old left_mid left_new has.bytes piece has.taken more;
       within = omega arith;
       at_limit = λ limit. absurd (cc);
-      below = λ settled. absurd (cc);
+      below = λ ended. absurd (not_whole why.Sink (inl refl) ended);
       at_end = λ settled. absurd (cc);
       wrote = stops first has.bytes has.dumped;
     }
@@ -60,7 +66,7 @@ ends_whole why.Memory names bytes old new a b c d wrote = absurd (d refl)
 -- the stream is over for a reason, and the last lines were begun
 pub dumps_to_end : (names : List Name) (p : Progress) (left_old left_new first w v : Option (List ℕ)) (total : ℕ) (own result : Why)
     → HasTaken names (record { dumper = p; written = w }) left_old left_new first total → total ≤ 67108864
-    → (own ≡ why.InputLimit → 67108864 ≤ total) → (own ≡ why.Settled → total < 67108864) → (own ≡ why.Settled → IsAtEnd left_new)
+    → (own ≡ why.InputLimit → 67108864 ≤ total) → ((own ≡ why.Settled) ⊎ (own ≡ why.Source) → total < 67108864) → (own ≡ why.Settled → IsAtEnd left_new)
     → own ≢ why.Sink → own ≢ why.Store → own ≢ why.JournalLimit → own ≢ why.Memory
     → (result ≡ own) ⊎ (result ≡ why.Sink) → (result ≢ why.Sink → Appends w v (last_lines p)) → AppendsSome w v (last_lines p)
     → Dumps names left_old left_new first v result
@@ -83,7 +89,7 @@ dumps_to_end names p left_old left_new first w v total own result has within at_
       taken = has.taken;
       within = omega arith;
       at_limit = λ limit. absurd (cc);
-      below = λ settled. absurd (cc);
+      below = λ ended. absurd (not_whole why.Sink (inl refl) ended);
       at_end = λ settled. absurd (cc);
       wrote = dumped_part names p w v first has.bytes has.dumped begun;
     })

@@ -1,5 +1,5 @@
 -- What a dump took from its source, and what it wrote.
-use Rattle.std.specs.Prelude.{◌≡◌, ℕ, ◌<◌, ◌≤◌, List, length, Option}
+use Rattle.std.specs.Prelude.{◌≡◌, ◌⊎◌, ℕ, ◌<◌, ◌≤◌, List, length, Option}
 use Rattle.std.specs.Io.KnownBytes.{Appends, Consumes, IsAtEnd}
 use Rattle.link_io.specs.declared.why.Why.{Why}
 use Rattle.link_io.specs.declared.why.Why.TheVariants.{Settled, Source, InputLimit}
@@ -20,6 +20,6 @@ pub record Dumps (names : List Name) (left_old left_new written_old written_new 
   pub taken : Consumes left_old left_new bytes
   pub within : length bytes ≤ 67108864
   pub at_limit : why ≡ InputLimit → length bytes ≡ 67108864
-  pub below : why ≡ Settled → length bytes < 67108864
+  pub below : (why ≡ Settled) ⊎ (why ≡ Source) → length bytes < 67108864
   pub at_end : why ≡ Settled → IsAtEnd left_new
   pub wrote : DumpsBy why names bytes written_old written_new

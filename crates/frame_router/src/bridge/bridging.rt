@@ -158,14 +158,7 @@ fn nothing_pumped() -> Pumped
 {
     Pumped {
         why: Why::Memory,
-        tally: Tally {
-            passed: 0,
-            home: 0,
-            lost: 0,
-            other: 0,
-            bad: 0,
-            full: 0,
-        },
+        tally: Tally::none(),
         read: 0,
     }
 }

@@ -1,8 +1,10 @@
 //! What the owner of a client asks of its calls.
-ghost use Rattle.std.specs.Prelude.{◌≡◌, ℕ, List, IfOk, IfErr, IfSome};
+ghost use Rattle.std.specs.Prelude.{◌≡◌, ℕ, List, Some, IfOk, IfErr, IfSome, IsTrue};
 ghost use Rattle.rpc_ids.specs.declared.method.Role.TheVariants.{Client as client_role};
 ghost use Rattle.rpc_journal.specs.Changes.{CancelDid, CloseDid, DoneDid, InvokeDid, ReplaceDid, SayDid};
+ghost use Rattle.rpc_journal.specs.CallTable.{past};
 ghost use Rattle.rpc_journal.specs.Conditions.{CanComplete, CanInvoke, CanSay, IsCall};
+ghost use Rattle.rpc_journal.specs.States.{state_of};
 ghost use Rattle.rpc_schedule.specs.ends.EndState.{KeepsAside, WasFed};
 
 use super::Client;
@@ -68,6 +70,7 @@ impl<H: Handler> Client<H> {
         ensures did { ReplaceDid self.old.serving.table.setting 2 call (H.now handler) result self.old.serving.table.entries self.new.serving.table.entries }
         ensures back { IfErr result (λ e. e.0 ≡ handler) }
         ensures able { IfOk result (λ old. IfSome old H.can_act) }
+        ensures state { IfOk result (λ old. IfSome old (λ h. IsTrue H.rule.ruled → state_of H.rule self.old.serving.table.setting (past self.old.serving.table) call ≡ Some (H.now h))) }
         ensures aside { KeepsAside self.old self.new }
         ensures fed { (bytes : List ℕ) → WasFed client_role self.old bytes → WasFed client_role self.new bytes }
     {

@@ -33,7 +33,7 @@ impl<H: Handler> Client<H> {
         self.work_once()
     }
 
-    // The same.
+    // `work`, without what it says of the bytes fed.
     fn work_once(&mut self) -> Result<Option<(u32, Event)>, StartRefused>
         ensures step { WorksOn H.rule self.old.serving result self.new.serving }
         ensures listener { self.new.listener ≡ self.old.listener }

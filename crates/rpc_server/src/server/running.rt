@@ -32,12 +32,12 @@ impl<M: Maker> Server<M> {
         self.work_once()
     }
 
-    // The same.
+    // `work`, without what it says of the bytes fed.
     fn work_once(&mut self) -> Result<bool, StartRefused>
         ensures step { Works M.H.rule self.old.serving result self.new.serving }
         ensures listener { self.new.listener ≡ self.old.listener }
     {
-        // A frame that carries nothing ends here, before there is a place for a run.
+        // A frame without a packet leaves nothing to run: this test is the cheap one.
         if self.has_no_work() || !self.take_run()? {
             return Ok(false);
         }

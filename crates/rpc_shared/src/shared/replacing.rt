@@ -2,7 +2,7 @@
 
 ghost use Rattle.std.specs.Prelude.{IfErr, IfOk, IfSome, ◌≡◌};
 ghost use Rattle.rpc_journal.specs.Changes.{ReplaceDid};
-ghost use Rattle.rpc_shared.specs.Steps.{IsBusy, IsOwn, Steps};
+ghost use Rattle.rpc_shared.specs.Steps.{ComesBack, IsBusy, IsOwn, Steps};
 
 use super::{Pass, Shared};
 use rpc_calls::ReplaceRefused;
@@ -22,7 +22,7 @@ impl<H: Handler> Shared<H> {
     ) -> Result<Option<H>, (H, ReplaceRefused)>
         requires own { IsOwn self.now pass.old }
         requires able { H.can_act handler }
-        ensures did { Steps H.rule self.now pass.old pass.new (λ set seat. ReplaceDid set seat call (H.now handler) result) }
+        ensures did { Steps H.rule self.now pass.old pass.new (λ set seat old new. ReplaceDid set seat call (H.now handler) result old new × ComesBack H.rule H.now set call result old) }
         ensures able { IfOk result (λ old. IfSome old H.can_act) }
         ensures back { IfErr result (λ refused. refused.0 ≡ handler) }
     {
@@ -42,7 +42,7 @@ impl<H: Handler> Shared<H> {
     ) -> Result<Result<Option<H>, (H, ReplaceRefused)>, (H, Busy)>
         requires own { IsOwn self.now pass.old }
         requires able { H.can_act handler }
-        ensures did { IfOk result (λ a. Steps H.rule self.now pass.old pass.new (λ set seat. ReplaceDid set seat call (H.now handler) a)) }
+        ensures did { IfOk result (λ a. Steps H.rule self.now pass.old pass.new (λ set seat old new. ReplaceDid set seat call (H.now handler) a old new × ComesBack H.rule H.now set call a old)) }
         ensures able { IfOk result (λ a. IfOk a (λ old. IfSome old H.can_act)) }
         ensures back { IfOk result (λ a. IfErr a (λ refused. refused.0 ≡ handler)) }
         ensures busy { IfErr result (λ e. (e.0 ≡ handler) × IsBusy self.now pass.old pass.new e.1.loaded e.1.word) }

@@ -55,5 +55,6 @@ returns-in-Err-pump_piece-clause-pumps g c =
     (sym c.pumped.ensures)
     (pumps_to_stop c.args.routes.now c.args.from c.pieces.intake (left c.args.link_in.now) (left c.pieces.link_in) (left c.read.new.self)
     (written c.args.link_out.now) (written c.pieces.link_out) (written c.pump_piece.new.link_out) c.pieces.total count (take count c.read.new.buf) c.in-Err-pump_piece.stopped
-    c.pieces.invariant.read c.in-Ok.ensures.bytes.0 (length-take-le count c.read.new.buf bound) (omega (arith, room, length-take c.min-room.result c.pieces.buffer))
+    c.pieces.invariant.read c.in-Ok.ensures.bytes.0 (length-take-le count c.read.new.buf bound)
+    (omega (arith, room, length-take c.min-room.result c.pieces.buffer)) (omega (arith, room, length-take c.min-room.result c.pieces.buffer))
     (subst (λ xs. StopsIn c.args.routes.now c.args.from (record { intake = c.pieces.intake; written = written c.pieces.link_out }) (written c.pump_piece.new.link_out) xs (tally_in c.in-Err-pump_piece.stopped)) piece c.in-Err-pump_piece.ensures.stops))

@@ -1,9 +1,9 @@
-use Rattle.std.proofs.Common.{◌≡◌, ◌<◌, ◌≤◌, [], ◌++◌, ◌∙◌, ap, subst, length, take, drop, arith, length-take}
+use Rattle.std.proofs.Common.{◌≡◌, ◌<◌, ◌≤◌, [], ◌++◌, ◌∙◌, ap, subst, length, take, drop, inr, refl, arith, length-take}
 use Rattle.std.proofs.lemmas.List.{take-append-le, length-take-le}
 use Rattle.link_io.specs.declared.why.Why.TheVariants as why
 use Rattle.stream_dump.specs.Names.{names_of}
 use Rattle.stream_dump.specs.Progress.{DumpsOn, StopsIn}
-use Rattle.stream_dump.proofs.Ends.{dumps_to_end, dumps_to_stop, kept_taken, none_taken, take_none, taken_more}
+use Rattle.stream_dump.proofs.Ends.{dumps_to_end, dumps_to_stop, kept_taken, none_taken, not_whole, take_none, taken_more}
 use Rattle.stream_dump.proofs.dumping.dump_stream.Goals as goal
 
 pub pieces-preserved : goal.pieces-preserved
@@ -55,7 +55,7 @@ returns-in-Err-clause-dumps g c =
     c.pieces.total why.Source c.finish-in-Err.result
     (kept_taken (names_of c.args.names.now) c.pieces.dumper (left c.args.input.now) (left c.pieces.input) (left c.read.new.self) (written c.args.output.now) (written c.pieces.output) c.pieces.total
     c.pieces.invariant.read c.in-Err.ensures.bytes)
-    (omega arith) (λ e. absurd (cc)) (λ e. absurd (cc)) (λ e. absurd (cc))
+    (omega arith) (λ e. absurd (cc)) (λ e. below) (λ e. absurd (cc))
     (λ e. absurd (cc)) (λ e. absurd (cc)) (λ e. absurd (cc)) (λ e. absurd (cc))
     c.finish-in-Err.ensures.why c.finish-in-Err.ensures.whole c.finish-in-Err.ensures.begun
 
@@ -67,7 +67,7 @@ returns-clause-dumps g c =
     let within = c.pieces.invariant.within in
     dumps_to_end (names_of c.args.names.now) c.pieces.dumper (left c.args.input.now) (left c.pieces.input) (written c.args.output.now) (written c.pieces.output) (written c.finish-2.new.output)
     c.pieces.total why.InputLimit c.finish-2.result c.pieces.invariant.read
-    (omega arith) (λ e. most) (λ e. absurd (cc)) (λ e. absurd (cc))
+    (omega arith) (λ e. most) (λ e. absurd (not_whole why.InputLimit (inr refl) e)) (λ e. absurd (cc))
     (λ e. absurd (cc)) (λ e. absurd (cc)) (λ e. absurd (cc)) (λ e. absurd (cc))
     c.finish-2.ensures.why c.finish-2.ensures.whole c.finish-2.ensures.begun
 

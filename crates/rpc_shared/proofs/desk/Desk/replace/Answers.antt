@@ -6,4 +6,4 @@ use Rattle.rpc_shared.proofs.desk.Desk.replace.Goals as goal
 pub returns-clause-made : goal.returns-clause-made
 returns-clause-made g c =
     let laws : AddsBySeat _ (Unit {0}) = adds_by_seat in
-    made_of _ _ _ _ _ _ c.self.view_is c.replace.ensures.setting c.replace.ensures.legal (laws.replace _ _ _ _ _ _ _ c.replace.ensures.did) c.replace.ensures.did
+    made_of _ _ _ _ _ _ c.self.view_is c.replace.ensures.setting c.replace.ensures.legal (laws.replace _ _ _ _ _ _ _ c.replace.ensures.did) (c.replace.ensures.did, c.replace.ensures.state)
