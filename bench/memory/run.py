@@ -166,8 +166,10 @@ CASES = [
     Case("get ../host/link 7 0", other=a_server),
     Case("put ../host/link 8 0", store={"full-8": bytes(1000)}, other=a_server),
     Case("watch ../host/link 2 8", other=a_server),
+    Case("call ../host/link demo.Demo Chat bidi - 616263", other=a_server),
+    Case("dump", CALL + UPLOAD),
 ]
-MAKES_LINKS = ("serve", "bridge", "get", "put", "watch")
+MAKES_LINKS = ("serve", "bridge", "get", "put", "watch", "call")
 
 # What a run ended with, what it wrote, and whether a request was refused.
 Ran = collections.namedtuple("Ran", "status output refused")
@@ -200,6 +202,9 @@ def run(library, case, number):
 def sweep(library, case):
     """Refuses each request in turn. Tells how the runs ended, and answers how many ended as none may."""
     whole = run(library, case, 0)
+    if whole.status != 0 or not whole.output or whole.refused:
+        print(f"memory: {case.words}: a run that is refused nothing ends with {whole.status} and {len(whole.output)} bytes")
+        return 1
     links = case.words.split()[0] in MAKES_LINKS
     ends = collections.Counter()
     wrong = []
