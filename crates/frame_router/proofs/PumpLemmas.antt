@@ -138,8 +138,14 @@ stops_before routes from old new none batch piece was now tally empty part wrote
           ap (λ xs. came ++ xs) brings.parts ∙ sym (append_assoc came brings.next brings.behind);
       stops = inr (brings.carried, brings.passing, finds);
       soon =
-          omega (arith, short, some_next came brings.next (frame brings.carried) finds, ap length brings.parts, length-append brings.next brings.behind,
-          length-drop done piece);
+          omega (
+            arith,
+            short,
+            some_next came brings.next (frame brings.carried) finds,
+            ap length brings.parts,
+            length-append brings.next brings.behind,
+            length-drop done piece,
+          );
       wrote = subst (Appends first now) (sym whole) (written_whole routes from old part.reached batch (take done piece) stream first was now has pumped wrote);
       within =
           frame_more routes from came (came ++ brings.next) brings.carried finds brings.passing ∙

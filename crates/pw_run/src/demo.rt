@@ -7,14 +7,13 @@ ghost use Rattle.pw_run.specs.Demo.{demo_channels, demo_setting, no_shelf};
 
 use demo_services::{DemoMaker, demo_registry};
 use link_io::{Fulls, Lefts, Shelf};
+pub use link_world::server::LAST_CHANNEL;
 use link_world::server::world_channels;
 use rpc_channel::Channels;
 use rpc_handlers::Maker;
 use rpc_server::Server;
 use std::alloc::{AllocError, Global};
 use transfer_chunk::Tuning;
-
-pub use link_world::server::LAST_CHANNEL;
 
 /// The server of the demo service over this shelf, before any input.
 pub(crate) fn server(alloc: Global, shelf: Shelf) -> Result<Server<DemoMaker>, AllocError>
