@@ -131,8 +131,37 @@ const UNKNOWN: &[Step] = &[
         Some((ServerError, Status::NotFound)),
     ),
     (
+        1,
+        ClientStream,
+        Unknown,
+        Arrived::Answered,
+        Some((ServerError, Status::NotFound)),
+    ),
+    (
+        1,
+        Completion,
+        Unknown,
+        Arrived::Answered,
+        Some((ServerError, Status::NotFound)),
+    ),
+    (9, ClientError, Chat, Arrived::Dropped, None),
+    (
         9,
         Request,
+        Chat,
+        Arrived::Answered,
+        Some((ServerError, Status::Unavailable)),
+    ),
+    (
+        9,
+        ClientStream,
+        Chat,
+        Arrived::Answered,
+        Some((ServerError, Status::Unavailable)),
+    ),
+    (
+        9,
+        Completion,
         Chat,
         Arrived::Answered,
         Some((ServerError, Status::Unavailable)),
@@ -162,5 +191,51 @@ fn an_error_of_the_client_ends_its_call(rt: HostRuntime) -> Result<(), Fail> {
     counts(&rt, &calls, 1);
     status_is(&rt, &calls, 0, Some(Status::Okay));
     waits(&rt, &calls, 0, 1);
+    Ok(())
+}
+
+const OF_NO_CALL: &[Step] = &[
+    (1, ClientError, Chat, Arrived::Dropped, None),
+    (
+        1,
+        ClientStream,
+        Chat,
+        Arrived::Answered,
+        Some((ServerError, Status::FailedPrecondition)),
+    ),
+    (
+        1,
+        Completion,
+        Chat,
+        Arrived::Answered,
+        Some((ServerError, Status::FailedPrecondition)),
+    ),
+];
+
+#[test]
+fn packets_of_no_live_call_open_nothing(rt: HostRuntime) -> Result<(), Fail> {
+    let maker = letters(rt.alloc(), b'a', false);
+    let (mut calls, methods) = open_table(rt.alloc(), &maker)?;
+    follow(&rt, &mut calls, &maker, methods, OF_NO_CALL);
+    counts(&rt, &calls, 0);
+    Ok(())
+}
+
+const COMPLETIONS: &[Step] = &[
+    (1, Request, Echo, Arrived::Opened(0), None),
+    (1, Completion, Echo, Arrived::Dropped, None),
+    (1, Request, Chat, Arrived::Opened(1), None),
+    (1, Completion, Chat, Arrived::Queued(1), None),
+    (1, Completion, Chat, Arrived::Dropped, None),
+];
+
+#[test]
+fn a_completion_of_a_unary_call_and_a_second_one_are_dropped(rt: HostRuntime) -> Result<(), Fail> {
+    let maker = letters(rt.alloc(), b'a', false);
+    let (mut calls, methods) = open_table(rt.alloc(), &maker)?;
+    follow(&rt, &mut calls, &maker, methods, COMPLETIONS);
+    counts(&rt, &calls, 2);
+    waits(&rt, &calls, 0, 1);
+    waits(&rt, &calls, 1, 2);
     Ok(())
 }
