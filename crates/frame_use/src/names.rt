@@ -24,21 +24,45 @@ fn hashes_as_pw_rpc_does(rt: HostRuntime) {
 const NAMES: &[(u32, &str)] = &[
     (0, "OK"),
     (1, "CANCELLED"),
+    (2, "UNKNOWN"),
+    (3, "INVALID_ARGUMENT"),
+    (4, "DEADLINE_EXCEEDED"),
+    (5, "NOT_FOUND"),
+    (6, "ALREADY_EXISTS"),
+    (7, "PERMISSION_DENIED"),
+    (8, "RESOURCE_EXHAUSTED"),
     (9, "FAILED_PRECONDITION"),
+    (10, "ABORTED"),
+    (11, "OUT_OF_RANGE"),
+    (12, "UNIMPLEMENTED"),
+    (13, "INTERNAL"),
+    (14, "UNAVAILABLE"),
+    (15, "DATA_LOSS"),
     (16, "UNAUTHENTICATED"),
-    (17, "UNKNOWN"),
 ];
 
 fn has_name(rt: &impl Abort, number: u32, name: &str) {
     assert_eq!(rt; Status::of(number).name(), name);
 }
 
+fn has_number(rt: &impl Abort, of: u32, number: u32) {
+    assert_eq!(rt; Status::of(of).number(), number);
+}
+
 #[test]
 fn statuses_have_their_usual_names(rt: HostRuntime) {
     for (number, name) in NAMES {
         has_name(&rt, *number, name);
+        has_number(&rt, *number, *number);
     }
-    assert_eq!(rt; Status::of(16).number(), 16);
+}
+
+#[test]
+fn a_number_above_sixteen_is_unknown(rt: HostRuntime) {
+    has_name(&rt, 17, "UNKNOWN");
+    has_number(&rt, 17, 2);
+    has_name(&rt, 4_294_967_295, "UNKNOWN");
+    has_number(&rt, 4_294_967_295, 2);
 }
 
 const ECHO: MethodRef = MethodRef {
