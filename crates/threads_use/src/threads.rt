@@ -47,9 +47,11 @@ struct Ran {
     output: Vec<u8>,
 }
 
+/// The words of a line, in which `''` stands for an empty one.
 fn words(alloc: Global, line: &str) -> Result<Vec<String>, AllocError> {
     let mut words = Vec::new(alloc);
     for word in line.split_whitespace() {
+        let word = if word == "''" { "" } else { word };
         words.push(String::from_str(alloc, word)?)?;
     }
     Ok(words)

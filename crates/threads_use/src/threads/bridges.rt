@@ -108,6 +108,8 @@ const OTHERS: &[&str] = &[
     "bridge l r 1",
     "bridge l r 1 2 3",
     "Bridge l r 1 2",
+    "bridge '' r 1 2",
+    "bridge l '' 1 2",
 ];
 
 #[test]

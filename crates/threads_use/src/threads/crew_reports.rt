@@ -68,6 +68,7 @@ const OTHERS: &[&str] = &[
     "serve p 17 1",
     "serve p 1 0",
     "serve p 1 1001",
+    "serve '' 1 1",
 ];
 
 // Each read of the input would fail.
