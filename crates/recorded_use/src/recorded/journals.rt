@@ -83,3 +83,94 @@ fn each_text_has_its_verdict(rt: HostRuntime) -> Result<(), AllocError> {
     }
     Ok(())
 }
+
+// A REQUEST of Chat, which opens the call 0, and a message to that call.
+const OPENS: &str = "0 arrive 10011dfb5cf47025bc81a99b3801";
+
+const MESSAGE: &str = "0 arrive 080210011dfb5cf47025bc81a99b3801";
+
+// The text, so many times.
+fn repeated(alloc: Global, text: &str, times: usize) -> Result<String, AllocError> {
+    text.repeat(alloc, times)
+}
+
+fn is_judged(
+    rt: &impl Abort,
+    alloc: Global,
+    row: &str,
+    text: String,
+    verdict: &str,
+) -> Result<(), AllocError> {
+    let ran = run(alloc, "check", text.into_bytes())?;
+    told(rt, row, &ran, 0, verdict.as_bytes());
+    Ok(())
+}
+
+// What the first answer to the call begins with, what follows so often in it, and the verdict.
+const ANSWERS: &[(&str, &str, usize, &str)] = &[
+    ("-", " say:", 512, "legal 4\n"),
+    ("-", " say:", 513, "fault at 2 Refused\n"),
+    ("- say:", "5a", 8_000, "legal 4\n"),
+    ("- say:", "5a", 8_001, "fault at 2 Refused\n"),
+    ("0:", "5a", 8_000, "legal 4\n"),
+    ("0:", "5a", 8_001, "fault at 2 Refused\n"),
+    // What is kept has no such limit.
+    ("- append:1:", "5a", 8_001, "legal 4\n"),
+];
+
+fn is_answer(
+    rt: &impl Abort,
+    alloc: Global,
+    head: &str,
+    part: &str,
+    times: usize,
+    verdict: &str,
+) -> Result<(), AllocError> {
+    let rest = repeated(alloc, part, times)?;
+    let text = format!(in alloc; "journal\n{OPENS}\n2 start 0\n2 finish 0 {head}{rest}\n")?;
+    let row = format!(in alloc; "{head}, {times} times {part}")?;
+    is_judged(rt, alloc, row.as_str(), text, verdict)
+}
+
+#[test]
+fn an_answer_past_its_limits_is_refused(rt: HostRuntime) -> Result<(), AllocError> {
+    for &(head, part, times, verdict) in ANSWERS {
+        is_answer(&rt, rt.alloc(), head, part, times, verdict)?;
+    }
+    Ok(())
+}
+
+// How many messages the run number 128 sends, what stands before the next start, and the verdict. Each run before it sent 512, so
+// 65,536 wait to be flushed in the first row.
+const WAITING: &[(usize, &str, &str)] = &[
+    (512, "", "fault at 385 NotReady\n"),
+    (511, "", "legal 387\n"),
+    (512, "1 flush\n", "legal 388\n"),
+];
+
+// A run that sends so many messages, and the message for the next one.
+fn run_of(alloc: Global, count: usize) -> Result<String, AllocError> {
+    let items = repeated(alloc, " say:", count)?;
+    format!(in alloc; "2 start 0\n2 finish 0 -{items}\n{MESSAGE}\n")
+}
+
+fn next_is_judged(
+    rt: &impl Abort,
+    alloc: Global,
+    last: usize,
+    before: &str,
+    verdict: &str,
+) -> Result<(), AllocError> {
+    let runs = repeated(alloc, run_of(alloc, 512)?.as_str(), 127)?;
+    let end = run_of(alloc, last)?;
+    let text = format!(in alloc; "journal\n{OPENS}\n{runs}{end}{before}2 start 0\n")?;
+    is_judged(rt, alloc, verdict, text, verdict)
+}
+
+#[test]
+fn no_call_is_ready_while_65536_items_wait(rt: HostRuntime) -> Result<(), AllocError> {
+    for &(last, before, verdict) in WAITING {
+        next_is_judged(&rt, rt.alloc(), last, before, verdict)?;
+    }
+    Ok(())
+}
