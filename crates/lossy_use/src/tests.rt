@@ -10,7 +10,7 @@ mod rounds;
 
 use link_script::text::read_script;
 use link_script::{Report, ReportLine};
-use link_world::World;
+use link_world::{Outcome, World};
 use rpc_ids::Status;
 use std::alloc::{AllocError, Global};
 use std::process::Abort;
@@ -18,8 +18,8 @@ use std::process::Abort;
 // No script here is longer.
 const TEXT_LIMIT: usize = 1_048_576;
 
-/// What is told of the run of a script's text, where it is a script and meets no limit.
-fn told(alloc: Global, text: &str) -> Result<Option<Report>, AllocError> {
+/// What the run of a script's text gives, where it is a script and meets no limit.
+fn told(alloc: Global, text: &str) -> Result<Option<Outcome>, AllocError> {
     let text = text.as_bytes();
     if text.len() < TEXT_LIMIT {
         told_of(alloc, text)
@@ -28,14 +28,14 @@ fn told(alloc: Global, text: &str) -> Result<Option<Report>, AllocError> {
     }
 }
 
-fn told_of(alloc: Global, text: &[u8]) -> Result<Option<Report>, AllocError>
+fn told_of(alloc: Global, text: &[u8]) -> Result<Option<Outcome>, AllocError>
     requires { length text.now < 2 ^ 20 }
 {
     let Ok(script) = read_script(alloc, text)? else {
         return Ok(None);
     };
     match World::new(alloc, script)?.run() {
-        Ok(outcome) => Ok(Some(outcome.report)),
+        Ok(outcome) => Ok(Some(outcome)),
         Err(_) => Ok(None),
     }
 }
@@ -61,10 +61,36 @@ fn is_whole(report: &Report, size: u64) -> bool {
     }
 }
 
-/// Whether the transfer of a script ends OK with all bytes.
+/// Whether these are so many bytes of a script's resource with this seed: the highest eight bits of each number behind it.
+fn is_made(bytes: &[u8], seed: u64, size: u64) -> bool {
+    let mut x = seed;
+    for byte in bytes {
+        x = x
+            .wrapping_mul(6_364_136_223_846_793_005)
+            .wrapping_add(1_442_695_040_888_963_407);
+        if u64::from(*byte) != x >> 56 {
+            return false;
+        }
+    }
+    bytes.len() as u64 == size
+}
+
+/// Whether both ends have the script's resource 7, of seed 1, with so many bytes.
+fn is_stored(outcome: &Outcome, size: u64) -> bool {
+    match (outcome.server_store.full(7), outcome.client_store.full(7)) {
+        (Some(server), Some(client)) => {
+            is_made(server.as_slice(), 1, size) && is_made(client.as_slice(), 1, size)
+        }
+        _ => false,
+    }
+}
+
+/// Whether the transfer of a script ends OK with all bytes, and these stand in the store.
 fn ends_whole(alloc: Global, script: &str, size: u64) -> Result<bool, AllocError> {
-    let report = told(alloc, script)?;
-    Ok(report.is_some_and(|report| is_whole(&report, size)))
+    match told(alloc, script)? {
+        Some(outcome) => Ok(is_whole(&outcome.report, size) && is_stored(&outcome, size)),
+        None => Ok(false),
+    }
 }
 
 /// The transfer of a script ends OK with all bytes.

@@ -1,7 +1,8 @@
 //! A write whose last acknowledgement is lost tells its end again while a later transfer waits, and that comes to nothing.
 
-use super::{is_so, told};
+use super::{is_made, is_so, told};
 use link_script::{Report, ReportLine};
+use link_world::Outcome;
 use rpc_ids::Status;
 use std::alloc::{AllocError, Global};
 use std::process::Abort;
@@ -27,11 +28,11 @@ fn end_well(rt: &impl Abort, alloc: Global, first: u32, second: u32) -> Result<(
     let script = format!(in alloc;
         "client 7 {SIZE} 1\nserver 8 {SIZE} 2\ndrop {ACK}\ndrop {first}\ndrop {second}\nwrite 7 0\nread 8 0\n"
     )?;
-    let report = told(alloc, script.as_str())?;
+    let outcome = told(alloc, script.as_str())?;
     is_so(
         rt,
         script.as_str(),
-        report.is_some_and(|report| all_end_well(&report)),
+        outcome.is_some_and(|outcome| all_end_well(&outcome.report) && are_stored(&outcome)),
     );
     Ok(())
 }
@@ -63,6 +64,16 @@ fn all_end_well(report: &Report) -> bool {
                 ..
             },
         ] => true,
+        _ => false,
+    }
+}
+
+/// Whether the server has what was written, and the client what was read.
+fn are_stored(outcome: &Outcome) -> bool {
+    match (outcome.server_store.full(7), outcome.client_store.full(8)) {
+        (Some(written), Some(read)) => {
+            is_made(written.as_slice(), 1, SIZE) && is_made(read.as_slice(), 2, SIZE)
+        }
         _ => false,
     }
 }

@@ -1,6 +1,6 @@
 //! Over a link that loses nothing each transfer whose resource is there and whose offset fits ends OK, within its number of chunks.
 
-use super::{is_so, is_whole, told};
+use super::{is_so, is_stored, is_whole, told};
 use std::alloc::{AllocError, Global};
 use std::process::Abort;
 use std::test::Fail;
@@ -81,13 +81,16 @@ fn most_chunks(row: &Row) -> u64 {
     twice.min(wide)
 }
 
-// Whether the transfer of a script ends OK and each of its frames is delivered, with no more chunks than promised.
+// Whether the transfer of a script ends OK, its bytes are stored, and each of its frames is delivered, with no more chunks than
+// promised.
 fn keeps_promise(alloc: Global, row: &Row, script: &str) -> Result<bool, AllocError> {
-    let Some(report) = told(alloc, script)? else {
+    let Some(outcome) = told(alloc, script)? else {
         return Ok(false);
     };
+    let report = &outcome.report;
     Ok(
-        is_whole(&report, row.size)
+        is_whole(report, row.size)
+            && is_stored(&outcome, row.size)
             && report.delivered == report.frames
             && report.chunks <= most_chunks(row),
     )

@@ -1,7 +1,8 @@
 //! Losses round by round: what lies between two turns of time is a round, and one that loses no chunk among the first four is enough.
 
-use super::{ends_well, is_so, told};
+use super::{ends_well, is_so, is_stored, told};
 use link_script::{Report, ReportLine};
+use link_world::Outcome;
 use rpc_ids::Status;
 use std::alloc::{AllocError, Global};
 use std::process::Abort;
@@ -113,8 +114,13 @@ const NOT_PROMISED: &[Row] = &[
     },
 ];
 
-/// Whether the script's one transfer ended so.
-fn ended_so(report: &Report, status: Status, size: u64) -> bool {
+/// Whether the script's one transfer ended so, and what its line tells stands in the store.
+fn ended_so(outcome: &Outcome, status: Status, size: u64) -> bool {
+    is_told(&outcome.report, status, size) && (size == 0 || is_stored(outcome, size))
+}
+
+/// Whether the line of the script's one transfer says so.
+fn is_told(report: &Report, status: Status, size: u64) -> bool {
     match report.lines.as_slice() {
         [
             ReportLine::Read {
@@ -136,11 +142,11 @@ fn ended_so(report: &Report, status: Status, size: u64) -> bool {
 
 // The transfer of a row ends as it says.
 fn ends_so(rt: &impl Abort, alloc: Global, row: &Row) -> Result<(), AllocError> {
-    let report = told(alloc, row.script)?;
+    let outcome = told(alloc, row.script)?;
     is_so(
         rt,
         row.script,
-        report.is_some_and(|report| ended_so(&report, row.status, row.length)),
+        outcome.is_some_and(|outcome| ended_so(&outcome, row.status, row.length)),
     );
     Ok(())
 }
@@ -221,11 +227,11 @@ fn burst_ends_so(
 ) -> Result<(), AllocError> {
     let status = short_status(many);
     let length = if many <= 5 { SHORT } else { 0 };
-    let report = told(alloc, script)?;
+    let outcome = told(alloc, script)?;
     is_so(
         rt,
         script,
-        report.is_some_and(|report| ended_so(&report, status, length)),
+        outcome.is_some_and(|outcome| ended_so(&outcome, status, length)),
     );
     Ok(())
 }
@@ -254,12 +260,12 @@ const WIDE_BOUND: u64 = 268;
 
 #[test]
 fn one_loss_may_cost_66_chunks(rt: HostRuntime) -> Result<(), Fail> {
-    let report = told(rt.alloc(), WIDE)?;
+    let outcome = told(rt.alloc(), WIDE)?;
     is_so(
         &rt,
         WIDE,
-        report.is_some_and(|report| {
-            ended_so(&report, Status::Okay, 32_000) && report.chunks == WIDE_BOUND + 66
+        outcome.is_some_and(|outcome| {
+            ended_so(&outcome, Status::Okay, 32_000) && outcome.report.chunks == WIDE_BOUND + 66
         }),
     );
     Ok(())
