@@ -13,6 +13,14 @@ fn calls_of_each_kind(rt: HostRuntime) -> Result<(), Fail> {
 }
 
 #[test]
+fn the_longest_count(rt: HostRuntime) -> Result<(), Fail> {
+    let script = "count 64\n";
+    let report = "count OK 64\nframes 66 delivered 66\nchunks 0\n";
+    tells(&rt, rt.alloc(), script, report)?;
+    Ok(())
+}
+
+#[test]
 fn calls_whose_answers_are_lost(rt: HostRuntime) -> Result<(), Fail> {
     let script = "drop 2\necho 616263\ncount 65\n";
     let report = "echo CANCELLED -\ncount INVALID_ARGUMENT 0\nframes 5 delivered 4\nchunks 0\n";

@@ -168,3 +168,18 @@ fn a_read_is_told_twice(rt: HostRuntime) -> Result<(), Fail> {
     sessions_are(&rt, &kept.client_commits, &[1, 2]);
     Ok(())
 }
+
+// A read over a link with one loss: it is stored once, as its first session.
+fn is_read_once(rt: &impl Abort, alloc: Global, script: &str) -> Result<(), AllocError> {
+    let kept = left_by(alloc, script)?;
+    sessions_are(rt, &kept.server_commits, &[]);
+    sessions_are(rt, &kept.client_commits, &[1]);
+    Ok(())
+}
+
+#[test]
+fn a_frame_that_comes_twice_or_late_is_stored_once(rt: HostRuntime) -> Result<(), Fail> {
+    is_read_once(&rt, rt.alloc(), "server 7 1000 1\nrepeat 2\nread 7 0\n")?;
+    is_read_once(&rt, rt.alloc(), "server 7 1000 1\nswap 5\nread 7 0\n")?;
+    Ok(())
+}
