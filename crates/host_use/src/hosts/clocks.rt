@@ -25,10 +25,11 @@ const ASKED: u64 = 100;
 // The answers to the opening of an upload: START_ACK, and what is asked for first.
 const ANSWERS: u64 = 2;
 
-// A clock that was made 10 s before the session, and goes on by 600 ms behind the answers.
+// A clock that was made 10 s before the session, and stands at this moment behind the answers.
 #[derive(Drop)]
 struct Late<'a> {
     last: u64,
+    moment: u64,
     written: &'a AtomicU64,
     asked: &'a AtomicU64,
 }
@@ -41,7 +42,7 @@ impl<'a> Clock for Late<'a> {
             10_000
         } else {
             self.asked.fetch_add(1, Ordering::SeqCst);
-            10_600
+            self.moment
         };
         self.last = self.last.max(moment);
         self.last
@@ -55,6 +56,7 @@ struct Waiting<'a, R> {
     inner: MemSource,
     begun: bool,
     asked: &'a AtomicU64,
+    late: &'a AtomicU64,
 }
 
 impl<'a, R: time::Clock> Source for Waiting<'a, R> {
@@ -64,21 +66,22 @@ impl<'a, R: time::Clock> Source for Waiting<'a, R> {
 
     fn read(&mut self, buf: &mut [u8]) -> Result<usize, Failed> {
         if self.begun {
-            turn_until(self.rt, self.asked, ASKED);
+            turn_until(self.rt, self.asked, ASKED, self.late);
         }
         self.begun = true;
         self.inner.read(buf)
     }
 }
 
-// Turns until the word is as large.
-fn turn_until<R: time::Clock>(rt: &R, word: &AtomicU64, least: u64) {
+// Turns until the word is as large, and counts as late where it never was.
+fn turn_until<R: time::Clock>(rt: &R, word: &AtomicU64, least: u64, late: &AtomicU64) {
     for _ in 0..TURNS {
         if word.load(Ordering::SeqCst) >= least {
             return;
         }
         thread::sleep(rt, Duration::from_millis(1));
     }
+    late.fetch_add(1, Ordering::SeqCst);
 }
 
 // A sink that tells how many frames were written to it.
@@ -117,6 +120,7 @@ struct Slow<'a, R> {
     net: MemLinker,
     written: &'a AtomicU64,
     asked: &'a AtomicU64,
+    late: &'a AtomicU64,
 }
 
 impl<'a, R> Slow<'a, R> {
@@ -130,6 +134,7 @@ impl<'a, R> Slow<'a, R> {
                 inner: link_in,
                 begun: false,
                 asked: self.asked,
+                late: self.late,
             },
             Telling {
                 inner: link_out,
@@ -165,15 +170,17 @@ impl<'a, R: time::Clock + Sync> Linker for Slow<'a, R> {
     }
 }
 
-// Serves a client that opens an upload and sends nothing of it, while 600 ms pass. How many frames were written to the link.
+// Serves a client that opens an upload and sends nothing of it until this moment. How many frames were written to the link.
 fn writes<R: Threads + Wait + Sync + time::Clock + Abort>(
     rt: &R,
     alloc: Global,
     line: &str,
+    moment: u64,
     status: u8,
 ) -> Result<usize, AllocError> {
     let written = AtomicU64::new(0);
     let asked = AtomicU64::new(0);
+    let late = AtomicU64::new(0);
     let mut links = Vec::new(alloc);
     let opening = frames(alloc, &[start(1, 0), confirmation(1)])?;
     links.push(link(alloc, &opening, 0, 0)?)?;
@@ -182,9 +189,11 @@ fn writes<R: Threads + Wait + Sync + time::Clock + Abort>(
         net: MemLinker::new(alloc, links, Vec::new(alloc))?,
         written: &written,
         asked: &asked,
+        late: &late,
     };
     let mut clock = Late {
         last: 0,
+        moment,
         written: &written,
         asked: &asked,
     };
@@ -200,20 +209,31 @@ fn writes<R: Threads + Wait + Sync + time::Clock + Abort>(
         &Free,
     );
     status_is(rt, line, ended, status);
+    count_is(rt, "late", late.load(Ordering::SeqCst) as usize, 0);
     Ok(written.load(Ordering::SeqCst) as usize)
 }
 
 #[test]
 fn the_first_tick_is_no_timeout(rt: HostRuntime) -> Result<(), AllocError> {
-    let count = writes(&rt, rt.alloc(), "host p 1", 6)?;
+    let count = writes(&rt, rt.alloc(), "host p 1", 10_600, 6)?;
     count_is(&rt, "it is asked once", count, 2);
+    Ok(())
+}
+
+// The upload was asked for at 10,000, and its first timeout is 2,000 ms behind.
+#[test]
+fn a_session_of_host_ticks_in_time(rt: HostRuntime) -> Result<(), AllocError> {
+    let count = writes(&rt, rt.alloc(), "host p 1", 11_999, 6)?;
+    count_is(&rt, "it is asked once", count, 2);
+    let count = writes(&rt, rt.alloc(), "host p 1", 12_000, 6)?;
+    count_is(&rt, "it is asked again", count, 3);
     Ok(())
 }
 
 // A session of `serve` has the clock of the run, by which 2,000 ms have passed at its first Tick.
 #[test]
 fn the_first_tick_of_an_old_run_of_serve_is_a_timeout(rt: HostRuntime) -> Result<(), AllocError> {
-    let count = writes(&rt, rt.alloc(), "serve p 1 1", 0)?;
+    let count = writes(&rt, rt.alloc(), "serve p 1 1", 10_600, 0)?;
     count_is(&rt, "it is asked again", count, 3);
     Ok(())
 }
