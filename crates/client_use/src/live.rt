@@ -208,10 +208,6 @@ fn end_is(rt: &impl Abort, end: Option<Status>, wanted: Option<Status>) {
     assert_eq!(rt; end, wanted);
 }
 
-fn has_ended(rt: &impl Abort, end: Option<Status>) {
-    assert!(rt; end.is_some());
-}
-
 fn offset_is(rt: &impl Abort, offset: u64, wanted: u64) {
     assert_eq!(rt; offset, wanted);
 }
@@ -327,7 +323,7 @@ fn is_cancelled_at<R: Threads + Wait + Sync + Abort>(
     let did = does(rt, alloc, input, &mut Still::new(), watch(limit))?;
     why_is(rt, did.why, Why::Settled);
     count_is(rt, did.messages.len(), limit as usize);
-    has_ended(rt, did.ended);
+    end_is(rt, did.ended, Some(Status::Cancelled));
     Ok(())
 }
 
