@@ -25,6 +25,7 @@ mod clocks;
 mod gates;
 mod hanging;
 mod moments;
+mod one_frame;
 mod queues;
 
 // A gate or a device turns at most so often, a millisecond each time.
