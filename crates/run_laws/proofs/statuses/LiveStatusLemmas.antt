@@ -430,7 +430,7 @@ pump_read : (routes : List Route) (from : Port) (left left_new old new : Option 
 pump_read routes from left left_new old new done input is settled pumps =
     let taken = subst (λ x. Consumes x left_new pumps.bytes) is pumps.taken in
     let bytes = all_taken input pumps.bytes left_new taken (pumps.at_end settled) in
-    subst (λ n. n < INPUT_LIMIT) (ap length bytes) (pumps.below settled)
+    subst (λ n. n < INPUT_LIMIT) (ap length bytes) (pumps.below (inl settled))
 
 both_settled : (left right : Why) → first_reason left right ≡ reason.Settled → (left ≡ reason.Settled) × (right ≡ reason.Settled)
 both_settled reason.Settled right is = (refl, is)

@@ -285,7 +285,7 @@ module _ (names : List Name) (input : List ℕ) (left_new written_old written_ne
       at reason.Memory own ending limit = absurd ending
 
   dump_had_room : outcome ≡ Done → length input < INPUT_LIMIT
-  dump_had_room is = at did.why (sym is ∙ did.own) did.dumps.below (λ settled. all_taken input did.dumps.bytes left_new did.dumps.taken (did.dumps.at_end settled))
+  dump_had_room is = at did.why (sym is ∙ did.own) (λ settled. did.dumps.below (inl settled)) (λ settled. all_taken input did.dumps.bytes left_new did.dumps.taken (did.dumps.at_end settled))
     where
       at : (why : Why) → Done ≡ outcome_for why → (why ≡ reason.Settled → length did.dumps.bytes < INPUT_LIMIT) → (why ≡ reason.Settled → did.dumps.bytes ≡ input)
           → length input < INPUT_LIMIT
