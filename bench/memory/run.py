@@ -39,7 +39,8 @@ JOURNAL = b"""journal
 1 flush
 0 endin
 """
-FORMATS = contents("examples/log/formats.txt")
+# The formats, and a message of the second one.
+MESSAGES = contents("examples/log/formats.txt") + b"text b6d33987c233\n"
 ROUTES = contents("examples/route/boards.txt")
 
 
@@ -157,7 +158,7 @@ CASES = [
     Case("replay journal", CALL),
     Case("load 4 7"),
     Case("check", JOURNAL),
-    Case("detoken", FORMATS),
+    Case("detoken", MESSAGES),
     Case("route", ROUTES),
     Case("crew 2", CALL + UPLOAD),
     Case("link", SCRIPT),
