@@ -1,7 +1,7 @@
 pub mod Carried
 pub mod Contents
+mod Copied
 pub mod Counted
-mod Crawls
 mod Escapes
 mod Examples
 mod Flags
@@ -17,4 +17,5 @@ mod Placed
 pub mod ReadBack
 pub mod Register
 mod Runs
+mod Unescaping
 mod Words

@@ -213,11 +213,11 @@ more_taken stream piece rest at n e =
     append_assoc stream (take at piece) (take n rest) ∙ ap (λ l. stream ++ (take at piece ++ take n l)) e ∙
     ap (λ l. stream ++ l) (sym (take-add at n piece))
 
--- a crawl behind what was read
-pub moves_crawled :
+-- more behind what was read
+pub moves_behind :
     (a b c : Reading) (piece rest : List ℕ) (at n : ℕ) → rest ≡ drop at piece → Moves a b (take at piece) [] → Moves b c (take n rest) [] →
     Moves a c (take (at + n) piece) []
-moves_crawled a b c piece rest at n e m1 m2 =
+moves_behind a b c piece rest at n e m1 m2 =
     let P : List ℕ → Type 0 = λ l. Moves a c l [] in
     subst P (ap (λ l. take at piece ++ take n l) e ∙ sym (take-add at n piece)) (moves_then a b c (take at piece) (take n rest) [] m1 m2)
 

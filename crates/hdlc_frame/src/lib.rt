@@ -19,6 +19,7 @@ mod phase;
 mod pieces;
 mod text;
 mod told;
+mod unescape;
 
 pub use crc::crc32;
 pub use decoder::Decoder;

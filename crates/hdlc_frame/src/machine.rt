@@ -13,8 +13,8 @@ use crate::found::Bad;
 use crate::judge::judge_at;
 use crate::octets::{ESCAPE, ESCAPE_BIT, ordinary_len};
 use crate::phase::Phase;
-use crate::text::unescape;
 use crate::told::{Place, Segment, Told};
+use crate::unescape::unescape;
 
 /// A decoder that has no buffer of its own. What it keeps of the open segment lies in its caller's buffer, whose length
 /// is the limit of a content: hand in the same buffer at each push, and leave it as it is in between.
@@ -177,8 +177,8 @@ impl Machine {
         matches!(self.phase, Phase::Escaped) && !self.is_long
     }
 
-    // Behind an escape, reads octets one at a time while escapes are close together. Answers how many.
-    fn crawl(&mut self, buffer: &mut [u8], octets: &[u8]) -> usize
+    // Behind an escape, reads text as far as it is ordinary or escaped and the buffer has room. Answers how many octets.
+    fn read_text(&mut self, buffer: &mut [u8], octets: &[u8]) -> usize
         requires { self.old.len ≤ length buffer.old }
         ensures kept { self.new.len ≤ length buffer.new }
         ensures within { result ≤ length octets.now }
@@ -189,9 +189,9 @@ impl Machine {
         }
         let room = buffer.len() - self.len;
         let part = &octets[..octets.len().min(room)];
-        let (read, end, is_escaped) = unescape(buffer, self.len, true, part);
+        let (read, end) = unescape(buffer, self.len, part);
         self.len = end;
-        self.phase = Phase::in_text(is_escaped);
+        self.phase = Phase::in_text(read == 0);
         read
     }
 
@@ -237,7 +237,7 @@ impl Machine {
     {
         let mut at = 0;
         while at < piece.len() {
-            at += self.crawl(buffer, &piece[at..]);
+            at += self.read_text(buffer, &piece[at..]);
             if at == piece.len() {
                 return (at, Closed::Open);
             }

@@ -1,6 +1,6 @@
 //! The octets that the framing standard names (RFC 1662, section 4.1).
 
-ghost use Rattle.std.specs.Prelude.{◌≡◌, ◌<◌, ◌≤◌, ◌⊎◌, length, slice_index, take};
+ghost use Rattle.std.specs.Prelude.{◌≡◌, ◌<◌, ◌≤◌, ◌==◌, ◌||◌, ◌↔◌, ◌⊎◌, IsTrue, length, slice_index, take};
 ghost use Rattle.hdlc_frame.specs.Steps.{IsOrdinary};
 
 use memchr::memchr2;
@@ -27,4 +27,39 @@ pub(crate) fn ordinary_len(octets: &[u8]) -> usize
         Some(n) => n,
         None => octets.len(),
     }
+}
+
+/// How many octets are looked at together where a run of ordinary ones is copied.
+pub(crate) const BLOCK: usize = 32;
+
+/// How many octets of a block stand in front of the first flag or escape. It is soon told where there is none.
+#[inline(always)]
+pub(crate) fn ordinary_in(block: &[u8; BLOCK]) -> usize
+    ensures within { result ≤ length block.now }
+    ensures ordinary { IsOrdinary (take result block.now) }
+    ensures stop { result < length block.now → (slice_index block.now result ≡ FLAG) ⊎ (slice_index block.now result ≡ ESCAPE) }
+{
+    if is_ordinary(block) {
+        return BLOCK;
+    }
+    ordinary_len(block)
+}
+
+#[inline(always)]
+fn is_ordinary(block: &[u8; BLOCK]) -> bool
+    ensures { IsTrue result ↔ IsOrdinary block.now }
+{
+    let mut all = true;
+    for octet in block {
+        all &= !needs_escape(*octet);
+    }
+    all
+}
+
+/// Whether an octet of content is escaped in a frame's text.
+#[inline(always)]
+pub(crate) fn needs_escape(octet: u8) -> bool
+    ensures { result ≡ ((octet == FLAG) || (octet == ESCAPE)) }
+{
+    octet == FLAG || octet == ESCAPE
 }

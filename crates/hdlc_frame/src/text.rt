@@ -1,55 +1,11 @@
-//! The text between two flags, and the content that it stands for (RFC 1662, section 4.2).
+//! The text that stands for a content between two flags (RFC 1662, section 4.2).
 
-ghost use Rattle.std.specs.Prelude.{◌≡◌, ◌<◌, ◌+◌, ◌≤◌, ◌==◌, ◌||◌, length, take, ◌++◌, ◌∷◌, [], OnOk, IfOk, List, ℕ};
+ghost use Rattle.std.specs.Prelude.{◌≡◌, ◌<◌, ◌≤◌, ◌++◌, ◌∷◌, [], length, take, OnOk, IfOk, List, ℕ};
 ghost use Rattle.hdlc_frame.specs.Encoded.{text_of, text_of_octet};
 ghost use Rattle.hdlc_frame.specs.Laid.{Lays};
-ghost use Rattle.hdlc_frame.specs.Steps.{Unescapes};
 
-use crate::octets::{ESCAPE, ESCAPE_BIT, FLAG, ordinary_len};
+use crate::octets::{ESCAPE, ESCAPE_BIT, needs_escape, ordinary_len};
 use std::alloc::AllocError;
-
-/// Writes what `octets` stand for behind the first `len` octets of `buffer`, one at a time, while escapes are close
-/// together: it stops at a flag, at an escape that is escaped, and where `QUIET` octets came without an escape. Answers
-/// how many octets it read, where what it wrote ends, and whether an escape was the last.
-pub(crate) fn unescape(
-    buffer: &mut [u8],
-    len: usize,
-    behind_escape: bool,
-    octets: &[u8],
-) -> (usize, usize, bool)
-    requires room { len + length octets.now ≤ length buffer.old }
-    ensures within { result.0 ≤ length octets.now }
-    ensures kept { result.1 ≤ length buffer.new }
-    ensures reads { Unescapes behind_escape (take result.0 octets.now) result.2 (take len buffer.old) (take result.1 buffer.new) }
-{
-    let mut is_escaped = behind_escape;
-    let mut end = len;
-    let mut quiet = 0usize;
-    for (at, octet) in octets.iter().enumerate() {
-        if *octet == FLAG || quiet == QUIET {
-            return (at, end, is_escaped);
-        }
-        if is_escaped {
-            if *octet == ESCAPE {
-                return (at, end, true);
-            }
-            buffer[end] = *octet ^ ESCAPE_BIT;
-            end += 1;
-            is_escaped = false;
-        } else if *octet == ESCAPE {
-            is_escaped = true;
-            quiet = 0;
-        } else {
-            buffer[end] = *octet;
-            end += 1;
-            quiet += 1;
-        }
-    }
-    (octets.len(), end, is_escaped)
-}
-
-// Behind so many octets without an escape a search for the next one is faster than looking at each octet.
-const QUIET: usize = 2;
 
 /// Appends the text that stands for `content`: flags and escapes are escaped, and nothing else.
 #[tactic(auto, unfolding(crate::specs::Encoded::text_of))]
@@ -79,12 +35,6 @@ fn push_run(content: &[u8], out: &mut Vec<u8>) -> Result<usize, AllocError>
     let octet = content[run];
     push_octet(octet, out)?;
     Ok(run + 1)
-}
-
-fn needs_escape(octet: u8) -> bool
-    ensures { result ≡ ((octet == FLAG) || (octet == ESCAPE)) }
-{
-    octet == FLAG || octet == ESCAPE
 }
 
 // Appends the text of one octet of content.

@@ -1,10 +1,10 @@
-use Rattle.std.proofs.Common.{◌≡◌, ℕ, ◌≤◌, List, [], true, length, take, refl, subst, arith}
+use Rattle.std.proofs.Common.{◌≡◌, ℕ, ◌==◌, ◌≤◌, List, [], true, length, take, refl, subst, arith}
 use Rattle.std.proofs.lemmas.List.{length-take, length-take-le}
 use Rattle.hdlc_frame.specs.Machine.{Reading, reading_at}
 use Rattle.hdlc_frame.specs.Steps.{Moves, Unescapes, phase_in_text}
-use Rattle.hdlc_frame.proofs.Crawls.{moves_crawl}
+use Rattle.hdlc_frame.proofs.Unescaping.{moves_unescaped}
 use Rattle.hdlc_frame.proofs.Machines.{take_within}
-use Rattle.hdlc_frame.proofs.machine.Machine.crawl.Goals as goal
+use Rattle.hdlc_frame.proofs.machine.Machine.read_text.Goals as goal
 
 pub returns-clause-moves : goal.returns-clause-moves
 returns-clause-moves c =
@@ -13,7 +13,7 @@ returns-clause-moves c =
     let octets = c.args.octets.now in
     let n = c.unescape-read.result.0 in
     let end = c.unescape-read.result.1 in
-    let after = c.unescape-read.result.2 in
+    let after = n == 0 in
     let later = c.unescape-read.new.buffer in
     let part = take c.min.result octets in
     let given = c.requires in
@@ -33,5 +33,5 @@ returns-clause-moves c =
     let kept : length buffer ≡ length later = omega arith in
     rw c.in_text-self.ensures
     (subst Q kept
-    (moves_crawl (reading_at machine buffer) (length buffer) machine.phase machine.is_long (take machine.len buffer) (take n octets) (take end later) after refl
+    (moves_unescaped (reading_at machine buffer) (length buffer) machine.phase machine.is_long (take machine.len buffer) (take n octets) (take end later) after refl
     facts.0 facts.1 (omega (arith, given, least, few, short, len, content)) (subst P same c.unescape-read.ensures.reads)))
