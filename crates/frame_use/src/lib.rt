@@ -4,6 +4,8 @@
 #[cfg(test)]
 mod channels;
 #[cfg(test)]
+mod escapes;
+#[cfg(test)]
 mod fields;
 #[cfg(test)]
 mod frames;
