@@ -1,12 +1,17 @@
 //! What `bench/calls` measures: calls of Chat are opened, and then messages go to them by turns, each followed by a run
 //! of its call; and calls of Echo are opened and closed, one behind another.
+ghost use Rattle.std.specs.Prelude.{◌≡◌};
+ghost use Rattle.speed.specs.Fed.{IsFed, bare_seed};
 
 mod closed;
 mod fed;
 mod timed;
 
 use closed::Written;
+use demo_services::{DemoCall, DemoMaker};
 use fed::{bare_maker, open_table};
+use rpc_calls::Calls;
+use rpc_handlers::Maker;
 use std::fs;
 use std::time::Instant;
 use timed::{Times, close_calls, open_calls, serve};
@@ -16,11 +21,24 @@ use timed::{Times, close_calls, open_calls, serve};
 pub fn measure(rt: &HostRuntime, live: u32, messages: u32) -> anyhow::Result<()> {
     let maker = bare_maker(rt.alloc())?;
     let mut calls = open_table(rt.alloc(), &maker)?;
+    time_messages(rt, &mut calls, &maker, live, messages)
+}
+
+fn time_messages(
+    rt: &HostRuntime,
+    calls: &mut Calls<DemoCall>,
+    maker: &DemoMaker,
+    live: u32,
+    messages: u32,
+) -> anyhow::Result<()>
+    requires seed { ⟦<DemoMaker as Maker>⟧.seed_memo maker.now ≡ bare_seed }
+    requires fed { IsFed calls.old }
+{
     let begun = Instant::now(rt)?;
-    open_calls(&mut calls, &maker, live)?;
+    open_calls(calls, maker, live)?;
     let opened = Instant::now(rt)?;
     let mut times = Times::default();
-    serve(rt, &mut calls, &maker, live, messages, &mut times)?;
+    serve(rt, calls, maker, live, messages, &mut times)?;
     tell_counts(rt, calls.journal().len(), calls.count())?;
     tell_times(rt, opened.duration_since(begun).as_nanos(), &times)
 }
@@ -30,8 +48,20 @@ pub fn measure(rt: &HostRuntime, live: u32, messages: u32) -> anyhow::Result<()>
 pub fn measure_closed(rt: &HostRuntime, count: u32) -> anyhow::Result<()> {
     let maker = bare_maker(rt.alloc())?;
     let mut calls = open_table(rt.alloc(), &maker)?;
+    time_closings(rt, &mut calls, &maker, count)
+}
+
+fn time_closings(
+    rt: &HostRuntime,
+    calls: &mut Calls<DemoCall>,
+    maker: &DemoMaker,
+    count: u32,
+) -> anyhow::Result<()>
+    requires seed { ⟦<DemoMaker as Maker>⟧.seed_memo maker.now ≡ bare_seed }
+    requires fed { IsFed calls.old }
+{
     let begun = Instant::now(rt)?;
-    close_calls(&mut calls, &maker, count)?;
+    close_calls(calls, maker, count)?;
     let closed = Instant::now(rt)?;
     tell_counts(rt, calls.journal().len(), calls.count())?;
     tell_memory(rt, closed.duration_since(begun).as_nanos())
