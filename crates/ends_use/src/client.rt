@@ -1,6 +1,7 @@
 //! What a client sends, and what it hands on of what comes.
 mod desk;
 
+use crate::checks::number_is;
 use bytes::Bytes;
 use desk::{Quiet, completes, feeds, idles, invokes, open_client, says, sends};
 use rpc_client::{Client, work_until_idle};
@@ -89,7 +90,7 @@ fn packets_of_no_call(rt: HostRuntime) -> Result<(), Fail> {
     feeds(&rt, &mut client, ECHO_RESPONSE);
     sends(&rt, &mut client, None);
     hands_nothing(&rt, &mut client);
-    assert_eq!(rt; client.calls().count(), 0);
+    number_is(&rt, u64::from(client.calls().count()), 0);
     Ok(())
 }
 
@@ -120,13 +121,17 @@ fn a_client_works_until_nothing_is_ready(rt: HostRuntime) -> Result<(), Fail> {
     let (mut client, methods) = open_client(rt.alloc())?;
     invokes(&rt, &mut client, rt.alloc(), methods.echo, Ok(0));
     feeds(&rt, &mut client, ECHO_RESPONSE);
-    let mut handed = Vec::new(rt.alloc());
-    assert_eq!(rt; work_until_idle(&mut client, &mut handed), Ok(()));
-    ended(&rt, handed.pop());
-    had_message(&rt, handed.pop());
-    assert!(rt; handed.is_empty());
+    hands_an_answer(&rt, &mut client, &mut Vec::new(rt.alloc()));
     idles(&rt, &client, true);
     Ok(())
+}
+
+// What is ready is handed on: a message of call 0, its good end, and nothing else.
+fn hands_an_answer(rt: &impl Abort, client: &mut Client<Quiet>, handed: &mut Vec<(u32, Event)>) {
+    assert_eq!(rt; work_until_idle(client, handed), Ok(()));
+    ended(rt, handed.pop());
+    had_message(rt, handed.pop());
+    assert!(rt; handed.is_empty());
 }
 
 // The good end of call 0 was handed on.

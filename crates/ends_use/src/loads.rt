@@ -1,4 +1,5 @@
-use link_io::{Ending, Source, read_to_limit};
+use crate::checks::{are_bytes, number_is};
+use link_io::{Ending, Source, Taken, read_to_limit};
 use link_script::next_number;
 use load_stream::LoadSource;
 use std::alloc::{AllocError, Global};
@@ -7,9 +8,13 @@ use std::process::Abort;
 // More than any stream here.
 const LIMIT: usize = 1 << 23;
 
-fn stream(alloc: Global, calls: u32, seed: u64) -> Result<Vec<u8>, AllocError> {
+fn taken(alloc: Global, calls: u32, seed: u64) -> Result<Taken, AllocError> {
     let mut source = LoadSource::new(alloc, calls, seed)?;
-    Ok(read_to_limit(alloc, &mut source, LIMIT)?.bytes)
+    read_to_limit(alloc, &mut source, LIMIT)
+}
+
+fn stream(alloc: Global, calls: u32, seed: u64) -> Result<Vec<u8>, AllocError> {
+    Ok(taken(alloc, calls, seed)?.bytes)
 }
 
 // A number, and the one behind it.
@@ -20,10 +25,6 @@ const NEXT: &[(u64, u64)] = &[
     (u64::MAX, 13_525_302_890_751_722_018),
 ];
 
-fn number_is(rt: &impl Abort, number: u64, want: u64) {
-    assert_eq!(rt; number, want);
-}
-
 #[test]
 fn the_generator_gives_the_numbers_of_its_law(rt: HostRuntime) {
     for &(x, next) in NEXT {
@@ -33,8 +34,7 @@ fn the_generator_gives_the_numbers_of_its_law(rt: HostRuntime) {
 
 #[test]
 fn no_call_gives_no_byte(rt: HostRuntime) -> Result<(), AllocError> {
-    let mut source = LoadSource::new(rt.alloc(), 0, 1)?;
-    let taken = read_to_limit(rt.alloc(), &mut source, LIMIT)?;
+    let taken = taken(rt.alloc(), 0, 1)?;
     assert!(rt; taken.bytes.is_empty());
     assert_eq!(rt; taken.ending, Ending::AtEnd);
     Ok(())
@@ -46,7 +46,7 @@ fn no_call_gives_no_byte(rt: HostRuntime) -> Result<(), AllocError> {
 fn one_call_is_one_echo_of_three_bytes(rt: HostRuntime) -> Result<(), AllocError> {
     let echo: &[u8] =
         b"\x7e\xa5\x03\x10\x01\x1d\xfb\x5c\xf4\x70\x25\xe9\x0e\x47\x8b\x2a\x03\x6c\x57\x6f\x38\x01\x45\xd8\xb1\x55\x7e";
-    assert_eq!(rt; stream(rt.alloc(), 1, 1)?.as_slice(), echo);
+    are_bytes(&rt, stream(rt.alloc(), 1, 1)?.as_slice(), echo);
     Ok(())
 }
 
@@ -80,7 +80,11 @@ fn joined(alloc: Global, frames: &[&[u8]]) -> Result<Vec<u8>, AllocError> {
 #[test]
 fn the_four_methods_come_by_turns(rt: HostRuntime) -> Result<(), AllocError> {
     let expected = joined(rt.alloc(), FOUR_CALLS)?;
-    assert_eq!(rt; stream(rt.alloc(), 4, 7)?, expected);
+    are_bytes(
+        &rt,
+        stream(rt.alloc(), 4, 7)?.as_slice(),
+        expected.as_slice(),
+    );
     Ok(())
 }
 
@@ -140,6 +144,7 @@ fn reads_of_any_size_give_the_same_bytes(rt: HostRuntime) -> Result<(), AllocErr
 fn the_largest_stream_is_far_below_the_limit_of_an_input(
     rt: HostRuntime,
 ) -> Result<(), AllocError> {
-    assert_eq!(rt; stream(rt.alloc(), 30_000, 7)?.len(), 2_429_646);
+    let bytes = stream(rt.alloc(), 30_000, 7)?;
+    number_is(&rt, bytes.len() as u64, 2_429_646);
     Ok(())
 }

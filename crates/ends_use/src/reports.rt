@@ -4,6 +4,7 @@ ghost use Rattle.rpc_ids.specs.declared.method.Role.TheVariants.{Server};
 
 mod by_calls;
 
+use crate::checks::{are_bytes, is_text};
 use bytes::Bytes;
 use demo_services::{DemoCall, DemoMaker, demo_registry};
 use link_io::{Fulls, Lefts, Shelf, Why};
@@ -88,6 +89,12 @@ fn table(alloc: Global, maker: &DemoMaker) -> Result<Calls<DemoCall>, Fail>
     Ok(calls)
 }
 
+// The same, where nobody needs the maker.
+fn empty_table(alloc: Global) -> Result<Calls<DemoCall>, Fail> {
+    let maker = maker_of_nothing(alloc)?;
+    table(alloc, &maker)
+}
+
 // A table with one call, of this method. It was asked for with the payload `abc`, and not run.
 fn table_with_call(alloc: Global, maker: &DemoMaker, method: u32) -> Result<Calls<DemoCall>, Fail>
     requires { method ≢ 0 }
@@ -101,6 +108,14 @@ fn table_with_call(alloc: Global, maker: &DemoMaker, method: u32) -> Result<Call
     };
     calls.arrive(0, &request, maker)?;
     Ok(calls)
+}
+
+// The same, where nobody needs the maker.
+fn asked(alloc: Global, method: u32) -> Result<Calls<DemoCall>, Fail>
+    requires { method ≢ 0 }
+{
+    let maker = maker_of_nothing(alloc)?;
+    table_with_call(alloc, &maker, method)
 }
 
 // Runs the call that is ready, and gives the item that goes out.
@@ -204,14 +219,6 @@ fn appends(alloc: Global, call: u32, session: u32) -> Result<Item, Fail> {
     Ok(acts(call, Out::Append { session, bytes }))
 }
 
-fn is_text(rt: &impl Abort, text: &str, want: &str) {
-    assert_eq!(rt; text, want);
-}
-
-fn are_bytes(rt: &impl Abort, bytes: &[u8], want: &[u8]) {
-    assert_eq!(rt; bytes, want);
-}
-
 const FOR_OTHERS: Counts = Counts {
     valid: 2,
     bad: 0,
@@ -259,6 +266,28 @@ const ENDINGS: &[(Counts, Ending, &str)] = &[
     ),
 ];
 
+// A table has this report, where these items went out.
+fn is_report(
+    rt: &impl Abort,
+    alloc: Global,
+    calls: &Calls<DemoCall>,
+    items: &[Item],
+    counts: Counts,
+    ending: Ending,
+    want: &str,
+) -> Result<(), Fail> {
+    let text = report_text(alloc, counts, calls, items, ending)?;
+    is_text(rt, text.as_str(), want);
+    Ok(())
+}
+
+// The frames of these items.
+fn has_frames(rt: &impl Abort, alloc: Global, items: &[Item], want: &[u8]) -> Result<(), Fail> {
+    let frames = frame_bytes(alloc, items)?;
+    are_bytes(rt, frames.as_slice(), want);
+    Ok(())
+}
+
 // The report of a table, where nothing went out.
 fn reports(
     rt: &impl Abort,
@@ -267,16 +296,13 @@ fn reports(
     row: &(Counts, Ending, &str),
 ) -> Result<(), Fail> {
     let (counts, ending, want) = *row;
-    let text = report_text(alloc, counts, calls, &[], ending)?;
-    is_text(rt, text.as_str(), want);
-    Ok(())
+    is_report(rt, alloc, calls, &[], counts, ending, want)
 }
 
 #[test]
 fn each_ending_and_each_count_has_its_text(rt: HostRuntime) -> Result<(), Fail> {
     let alloc = rt.alloc();
-    let maker = maker_of_nothing(alloc)?;
-    let calls = table(alloc, &maker)?;
+    let calls = empty_table(alloc)?;
     for row in ENDINGS {
         reports(&rt, alloc, &calls, row)?;
     }
@@ -287,8 +313,7 @@ fn each_ending_and_each_count_has_its_text(rt: HostRuntime) -> Result<(), Fail> 
 fn open_report(alloc: Global, method: u32) -> Result<String, Fail>
     requires { method ≢ 0 }
 {
-    let maker = maker_of_nothing(alloc)?;
-    let calls = table_with_call(alloc, &maker, method)?;
+    let calls = asked(alloc, method)?;
     let text = report_text(alloc, ONE_FRAME, &calls, &[], Ending::AtEnd)?;
     Ok(text)
 }
@@ -321,21 +346,21 @@ fn a_call_of_each_kind_is_open_before_it_runs(rt: HostRuntime) -> Result<(), Fai
 #[test]
 fn an_echo_is_reported_with_its_answer(rt: HostRuntime) -> Result<(), Fail> {
     let alloc = rt.alloc();
-    let maker = maker_of_nothing(alloc)?;
-    let mut calls = table_with_call(alloc, &maker, ECHO)?;
+    let mut calls = asked(alloc, ECHO)?;
     let items = run_ready(alloc, &mut calls)?;
-    let text = report_text(alloc, ONE_FRAME, &calls, &items, Ending::AtEnd)?;
-    is_text(
+    is_report(
         &rt,
-        text.as_str(),
+        alloc,
+        &calls,
+        &items,
+        ONE_FRAME,
+        Ending::AtEnd,
         "frames 1 bad 0 other 0 dropped 0\n\
          call 0 1 70f45cfb 8b470ee9 1 unary OK\n\
          out 7ea503080110011dfb5cf47025e90e478b2a0361626338019794283c7e\n\
          done\n",
-    );
-    let frames = frame_bytes(alloc, &items)?;
-    are_bytes(&rt, frames.as_slice(), &RESPONSE_FRAME);
-    Ok(())
+    )?;
+    has_frames(&rt, alloc, &items, &RESPONSE_FRAME)
 }
 
 const TWO_SENT: &[Did] = &[
@@ -348,12 +373,16 @@ const TWO_SENT: &[Did] = &[
 #[test]
 fn what_acts_on_the_store_has_no_frame_and_no_line(rt: HostRuntime) -> Result<(), Fail> {
     let alloc = rt.alloc();
-    let frames = frame_bytes(alloc, &items(alloc, TWO_SENT)?)?;
-    let mut twice = Vec::new(alloc);
-    twice.extend_from_slice(&RESPONSE_FRAME)?;
-    twice.extend_from_slice(&RESPONSE_FRAME)?;
-    are_bytes(&rt, frames.as_slice(), twice.as_slice());
-    Ok(())
+    let items = items(alloc, TWO_SENT)?;
+    let frames = twice(alloc, &RESPONSE_FRAME)?;
+    has_frames(&rt, alloc, &items, frames.as_slice())
+}
+
+fn twice(alloc: Global, bytes: &[u8]) -> Result<Vec<u8>, Fail> {
+    let mut all = Vec::new(alloc);
+    all.extend_from_slice(bytes)?;
+    all.extend_from_slice(bytes)?;
+    Ok(all)
 }
 
 const UPLOADS: &[Did] = &[
@@ -376,15 +405,17 @@ const UPLOADS: &[Did] = &[
 #[test]
 fn uploads_that_end_well_are_told(rt: HostRuntime) -> Result<(), Fail> {
     let alloc = rt.alloc();
-    let calls = table(alloc, &maker_of_nothing(alloc)?)?;
+    let calls = empty_table(alloc)?;
     let items = items(alloc, UPLOADS)?;
-    let text = report_text(alloc, NO_SEGMENT, &calls, &items, Ending::AtEnd)?;
-    is_text(
+    is_report(
         &rt,
-        text.as_str(),
+        alloc,
+        &calls,
+        &items,
+        NO_SEGMENT,
+        Ending::AtEnd,
         "frames 0 bad 0 other 0 dropped 0\nstored 8 0\nstored 7 8\ndone\n",
-    );
-    Ok(())
+    )
 }
 
 const A_LOAD: &[Did] = &[

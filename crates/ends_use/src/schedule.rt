@@ -110,10 +110,14 @@ impl Source for Silence {
     }
 }
 
+fn empty_store(alloc: Global) -> Result<MemStore, AllocError> {
+    MemStore::new(alloc, Fulls::new(alloc), Fulls::new(alloc), Vec::new(alloc))
+}
+
 fn ending_of<I: Source>(alloc: Global, input: &mut I) -> Result<Ending, AllocError> {
+    let mut store = empty_store(alloc)?;
     let mut server = Deaf::new(alloc)?;
     let mut items = Vec::new(alloc);
-    let mut store = MemStore::new(alloc, Fulls::new(alloc), Fulls::new(alloc), Vec::new(alloc))?;
     replay(&mut server, input, &mut store, &mut items)
 }
 
@@ -125,15 +129,17 @@ const ENDS: &[(&str, u64, Ending)] = &[
     ("abc", 2, Ending::SourceFault),
 ];
 
+// A source of these bytes, of which one read fails.
+fn source(alloc: Global, content: &str, fails: u64) -> Result<MemSource, AllocError> {
+    let bytes = Vec::from_slice(alloc, content.as_bytes())?;
+    Ok(MemSource::new(bytes, vec![in alloc; fails]?))
+}
+
 fn ends(rt: &impl Abort, alloc: Global, row: &(&str, u64, Ending)) -> Result<(), AllocError> {
     let (content, fails, ending) = *row;
-    let bytes = Vec::from_slice(alloc, content.as_bytes())?;
-    let mut source = MemSource::new(bytes, vec![in alloc; fails]?);
-    assert_eq!(rt;
-        ending_of(alloc, &mut source)?,
-        ending,
-        "{content}, {fails}"
-    );
+    let mut source = source(alloc, content, fails)?;
+    let ended = ending_of(alloc, &mut source)?;
+    assert_eq!(rt; ended, ending, "{content}, {fails}");
     Ok(())
 }
 
@@ -152,6 +158,11 @@ const LIMITS: &[(usize, Ending, usize)] = &[
     (67_108_869, Ending::InputLimit, 5),
 ];
 
+// So many bytes are left of so many.
+fn left_is(rt: &impl Abort, bytes: usize, left: usize, want: usize) {
+    assert_eq!(rt; left, want, "{bytes} bytes");
+}
+
 fn ends_by_limit(
     rt: &impl Abort,
     alloc: Global,
@@ -159,8 +170,9 @@ fn ends_by_limit(
 ) -> Result<(), AllocError> {
     let (bytes, ending, left) = *row;
     let mut source = Silence { left: bytes };
-    assert_eq!(rt; ending_of(alloc, &mut source)?, ending, "{bytes} bytes");
-    assert_eq!(rt; source.left, left, "{bytes} bytes");
+    let ended = ending_of(alloc, &mut source)?;
+    assert_eq!(rt; ended, ending, "{bytes} bytes");
+    left_is(rt, bytes, source.left, left);
     Ok(())
 }
 

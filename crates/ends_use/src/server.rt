@@ -6,7 +6,9 @@ ghost use Rattle.rpc_ids.specs.declared.status.Status.TheVariants.{Okay};
 
 mod closing;
 
+use crate::checks::{fact_is, number_is, took};
 use bytes::Bytes;
+use rpc_calls::Calls;
 use rpc_channel::Channels;
 use rpc_handlers::{Acts, Answer, End, Event, Handler, Maker, Memo, Outs, Parts, Words};
 use rpc_ids::{Kind, MethodRef, Registry, Status};
@@ -129,7 +131,7 @@ fn open_sparing(alloc: Global, has_memory: &Rc<Cell<bool>>) -> Result<Server<Spa
 fn feeds(rt: &impl Abort, server: &mut Server<SparingMaker>, piece: &[u8]) {
     assert!(rt; server.idle());
     assert!(rt; !server.calls().input_ended());
-    assert_eq!(rt; server.feed(piece), Ok(piece.len()));
+    took(rt, server.feed(piece), piece.len());
 }
 
 // The server works once, with this answer.
@@ -139,17 +141,23 @@ fn works(rt: &impl Abort, server: &mut Server<SparingMaker>, want: Result<bool, 
 
 // Whether the server has nothing to do.
 fn idles(rt: &impl Abort, server: &Server<SparingMaker>, want: bool) {
-    assert_eq!(rt; server.idle(), want);
+    fact_is(rt, server.idle(), want);
 }
 
 // Whether something goes out next.
 fn sends(rt: &impl Abort, server: &mut Server<SparingMaker>, want: bool) {
-    assert_eq!(rt; server.next_out().is_some(), want);
+    fact_is(rt, server.next_out().is_some(), want);
 }
 
 // The journal has so many entries.
 fn length_is(rt: &impl Abort, journal: &Journal, want: u64) {
-    assert_eq!(rt; journal.len(), want);
+    number_is(rt, journal.len(), want);
+}
+
+// This call, which must be there, has ended so, or lives.
+fn status_is(rt: &impl Abort, calls: &Calls<Sparing>, call: u32, want: Option<Status>) {
+    assert!(rt; call < calls.count());
+    assert_eq!(rt; calls.status(call), want);
 }
 
 // The handler wants memory. The Start stands from the first try on.
@@ -160,20 +168,30 @@ fn wants_memory(rt: &impl Abort, server: &mut Server<SparingMaker>) {
     sends(rt, server, false);
 }
 
+// The call waits for memory as long as there is none.
+fn waits_for_memory(rt: &impl Abort, server: &mut Server<SparingMaker>) {
+    feeds(rt, server, b"");
+    feeds(rt, server, ECHO_ABC);
+    idles(rt, server, false);
+    wants_memory(rt, server);
+    wants_memory(rt, server);
+}
+
+// Memory is there: the call is run, and its answer goes out.
+fn answers(rt: &impl Abort, server: &mut Server<SparingMaker>) {
+    works(rt, server, Ok(true));
+    idles(rt, server, true);
+    works(rt, server, Ok(false));
+    sends(rt, server, true);
+}
+
 #[test]
 fn a_run_that_wants_memory_is_kept(rt: HostRuntime) -> Result<(), Fail> {
     let has_memory = Rc::new(rt.alloc(), Cell::new(false))?;
     let mut server = open_sparing(rt.alloc(), &has_memory)?;
-    feeds(&rt, &mut server, b"");
-    feeds(&rt, &mut server, ECHO_ABC);
-    idles(&rt, &server, false);
-    wants_memory(&rt, &mut server);
-    wants_memory(&rt, &mut server);
+    waits_for_memory(&rt, &mut server);
     has_memory.set(true);
-    works(&rt, &mut server, Ok(true));
-    idles(&rt, &server, true);
-    works(&rt, &mut server, Ok(false));
-    sends(&rt, &mut server, true);
+    answers(&rt, &mut server);
     server.tick(500)?;
     length_is(&rt, &server.into_calls().into_journal(), 5);
     Ok(())
@@ -186,8 +204,7 @@ fn a_kept_run_is_let_go(rt: HostRuntime) -> Result<(), Fail> {
     feeds(&rt, &mut server, ECHO_ABC);
     works(&rt, &mut server, Err(StartRefused::Memory));
     let calls = server.into_calls();
-    assert!(rt; calls.count() > 0);
-    assert_eq!(rt; calls.status(0), None);
+    status_is(&rt, &calls, 0, None);
     length_is(&rt, calls.journal(), 2);
     Ok(())
 }

@@ -4,12 +4,13 @@ ghost use Rattle.std.specs.Prelude.{◌≡◌, [], None, false, IfOk};
 ghost use Rattle.rpc_handlers.specs.HandlerRule.{empty_memo};
 ghost use Rattle.rpc_ids.specs.declared.method.Role.TheVariants.{Client as client_role};
 
+use crate::checks::{fact_is, is_sent, took};
 use bytes::Bytes;
 use rpc_channel::Channels;
 use rpc_client::Client;
 use rpc_handlers::{Acts, Answer, Event, Handler, Memo, Out, Outs, Parts, Words};
 use rpc_ids::{Kind, MethodRef, Registry, Status};
-use rpc_journal::{Act, InvokeRefused, SayRefused, StartRefused};
+use rpc_journal::{InvokeRefused, SayRefused, StartRefused};
 use rpc_packet::{CallName, PacketType};
 use std::alloc::{AllocError, Global};
 use std::process::Abort;
@@ -122,14 +123,6 @@ pub fn feed(
     client.feed(frame)
 }
 
-/// The type and the status of the packet that goes out next.
-pub fn next_sent(client: &mut Client<Quiet>) -> Option<(PacketType, Status)> {
-    match client.next_out()?.act {
-        Act::Send(packet) => Some((packet.ptype, Status::of(packet.status))),
-        Act::Keep(_) | Act::LeaveCall => None,
-    }
-}
-
 /// The client asks for call 1 of a method, with this answer.
 pub fn invokes(
     rt: &impl Abort,
@@ -144,12 +137,18 @@ pub fn invokes(
     assert_eq!(rt; invoke(rt, client, alloc, method), want);
 }
 
+// What was said of a call has this answer.
+fn answers(rt: &impl Abort, answer: Result<(), SayRefused>, want: Result<(), SayRefused>) {
+    assert_eq!(rt; answer, want);
+}
+
 /// A message of call 0, which must be there, is said with this answer.
 pub fn says(rt: &impl Abort, client: &mut Client<Quiet>, want: Result<(), SayRefused>)
     ensures { client.new.serving.table.setting ≡ client.old.serving.table.setting }
 {
     assert!(rt; 0 < client.calls().count());
-    assert_eq!(rt; client.say(0, Out::Say(Bytes::from_static(b"a"))), want);
+    let answer = client.say(0, Out::Say(Bytes::from_static(b"a")));
+    answers(rt, answer, want);
 }
 
 /// The client ends the stream of call 0, which must be there, with this answer.
@@ -157,20 +156,21 @@ pub fn completes(rt: &impl Abort, client: &mut Client<Quiet>, want: Result<(), S
     requires { client.old.serving.table.setting.role ≡ client_role }
     ensures { client.new.serving.table.setting ≡ client.old.serving.table.setting }
 {
-    assert_eq!(rt; done(rt, client, 0), want);
+    let answer = done(rt, client, 0);
+    answers(rt, answer, want);
 }
 
 /// All of a frame is fed.
 pub fn feeds(rt: &impl Abort, client: &mut Client<Quiet>, frame: &[u8]) {
-    assert_eq!(rt; feed(rt, client, frame), Ok(frame.len()));
+    took(rt, feed(rt, client, frame), frame.len());
 }
 
 /// This goes out next.
 pub fn sends(rt: &impl Abort, client: &mut Client<Quiet>, want: Option<(PacketType, Status)>) {
-    assert_eq!(rt; next_sent(client), want);
+    is_sent(rt, client.next_out(), want);
 }
 
 /// Whether the client has nothing to do.
 pub fn idles(rt: &impl Abort, client: &Client<Quiet>, want: bool) {
-    assert_eq!(rt; client.idle(), want);
+    fact_is(rt, client.idle(), want);
 }

@@ -2,7 +2,8 @@
 ghost use Rattle.std.specs.Prelude.{◌≡◌};
 ghost use Rattle.rpc_packet.specs.declared.packet_type.PacketType.TheVariants.{Request};
 
-use super::{DEMO, Did, ECHO, NO_SEGMENT, is_text, items, maker_of_nothing, run_ready, table};
+use super::{DEMO, Did, ECHO, NO_SEGMENT, empty_table, items, maker_of_nothing, run_ready, table};
+use crate::checks::is_text;
 use bytes::Bytes;
 use demo_services::{DemoCall, DemoMaker};
 use link_io::Why;
@@ -41,6 +42,12 @@ fn table_with_two_calls(alloc: Global, maker: &DemoMaker) -> Result<Calls<DemoCa
     Ok(calls)
 }
 
+// The same, where nobody needs the maker.
+fn two_asked(alloc: Global) -> Result<Calls<DemoCall>, Fail> {
+    let maker = maker_of_nothing(alloc)?;
+    table_with_two_calls(alloc, &maker)
+}
+
 const TWO_FRAMES: Counts = Counts {
     valid: 2,
     bad: 0,
@@ -56,52 +63,100 @@ fn run_both(alloc: Global, calls: &mut Calls<DemoCall>) -> Result<Vec<Item>, Fai
     Ok(items)
 }
 
+// A table has this report of a crew, where these items went out.
+fn is_crew(
+    rt: &impl Abort,
+    alloc: Global,
+    calls: &Calls<DemoCall>,
+    items: &[Item],
+    counts: Counts,
+    why: Why,
+    want: &str,
+) -> Result<(), Fail> {
+    let text = crew_text(alloc, counts, calls, items, why)?;
+    is_text(rt, text.as_str(), want);
+    Ok(())
+}
+
+// A table has this report of the connection with a number.
+fn is_connection(
+    rt: &impl Abort,
+    alloc: Global,
+    calls: &Calls<DemoCall>,
+    number: u32,
+    counts: Counts,
+    why: Why,
+    want: &str,
+) -> Result<(), Fail> {
+    let text = connection_text(alloc, number, counts, calls, why)?;
+    is_text(rt, text.as_str(), want);
+    Ok(())
+}
+
 #[test]
 fn two_calls_are_told_by_number(rt: HostRuntime) -> Result<(), Fail> {
     let alloc = rt.alloc();
-    let maker = maker_of_nothing(alloc)?;
-    let mut calls = table_with_two_calls(alloc, &maker)?;
+    let mut calls = two_asked(alloc)?;
     let items = run_both(alloc, &mut calls)?;
-    let text = crew_text(alloc, TWO_FRAMES, &calls, &items, Why::Settled)?;
-    is_text(
+    is_crew(
         &rt,
-        text.as_str(),
+        alloc,
+        &calls,
+        &items,
+        TWO_FRAMES,
+        Why::Settled,
         "frames 2 bad 0 other 0 dropped 0\n\
          call 0 1 70f45cfb 8b470ee9 1 unary OK\n\
          call 1 1 70f45cfb 8b470ee9 2 unary OK\n\
          out 0 7ea503080110011dfb5cf47025e90e478b2a0361626338019794283c7e\n\
          out 1 7ea503080110011dfb5cf47025e90e478b2a0361626338022dc521a57e\n\
          done\n",
-    );
-    Ok(())
+    )
 }
 
 #[test]
 fn a_connection_has_its_number_and_its_calls(rt: HostRuntime) -> Result<(), Fail> {
     let alloc = rt.alloc();
-    let maker = maker_of_nothing(alloc)?;
-    let calls = table_with_two_calls(alloc, &maker)?;
-    let text = connection_text(alloc, 7, TWO_FRAMES, &calls, Why::Settled)?;
-    is_text(
+    let calls = two_asked(alloc)?;
+    is_connection(
         &rt,
-        text.as_str(),
+        alloc,
+        &calls,
+        7,
+        TWO_FRAMES,
+        Why::Settled,
         "conn 7\n\
          frames 2 bad 0 other 0 dropped 0\n\
          call 0 1 70f45cfb 8b470ee9 1 unary open\n\
          call 1 1 70f45cfb 8b470ee9 2 unary open\n\
          done\n",
-    );
-    Ok(())
+    )
 }
 
-// The lines of these items, in the report of two calls that were not run.
-fn lines(alloc: Global, items: &[Item]) -> Result<String, Fail> {
-    let calls = table_with_two_calls(alloc, &maker_of_nothing(alloc)?)?;
-    let text = crew_text(alloc, NO_SEGMENT, &calls, items, Why::Memory)?;
-    let calls = "frames 0 bad 0 other 0 dropped 0\n\
-                 call 0 1 70f45cfb 8b470ee9 1 unary open\n\
-                 call 1 1 70f45cfb 8b470ee9 2 unary open\n";
-    Ok(behind(alloc, &text, calls)?)
+// The report of two calls that were not run, with these lines behind those of the calls.
+fn with_lines(alloc: Global, lines: &str) -> Result<String, AllocError> {
+    format!(in alloc;
+        "frames 0 bad 0 other 0 dropped 0\n\
+         call 0 1 70f45cfb 8b470ee9 1 unary open\n\
+         call 1 1 70f45cfb 8b470ee9 2 unary open\n\
+         {lines}"
+    )
+}
+
+// These lines stand in it where this was done.
+fn has_lines(rt: &impl Abort, alloc: Global, all: &[Did], lines: &str) -> Result<(), Fail> {
+    let items = items(alloc, all)?;
+    let report = with_lines(alloc, lines)?;
+    let calls = two_asked(alloc)?;
+    is_crew(
+        rt,
+        alloc,
+        &calls,
+        &items,
+        NO_SEGMENT,
+        Why::Memory,
+        report.as_str(),
+    )
 }
 
 const PACKETS: &[Did] = &[
@@ -116,18 +171,16 @@ const PACKETS: &[Did] = &[
 
 #[test]
 fn packets_are_told_by_call_behind_the_replies(rt: HostRuntime) -> Result<(), Fail> {
-    let alloc = rt.alloc();
-    let text = lines(alloc, &items(alloc, PACKETS)?)?;
-    is_text(
+    has_lines(
         &rt,
-        text.as_str(),
+        rt.alloc(),
+        PACKETS,
         "out - 7ea503080110011dfb5cf47025e90e478b2a0361626338019794283c7e\n\
          out - 7ea503080110011dfb5cf47025e90e478b2a0361626338019794283c7e\n\
          out 0 7ea503080110011dfb5cf47025e90e478b2a0361626338019794283c7e\n\
          out 1 7ea503080110011dfb5cf47025e90e478b2a0361626338019794283c7e\n\
          out 1 7ea503080110011dfb5cf47025e90e478b2a0361626338019794283c7e\n",
-    );
-    Ok(())
+    )
 }
 
 const UPLOADS: &[Did] = &[
@@ -148,14 +201,12 @@ const UPLOADS: &[Did] = &[
 
 #[test]
 fn uploads_are_told_by_call_and_session(rt: HostRuntime) -> Result<(), Fail> {
-    let alloc = rt.alloc();
-    let text = lines(alloc, &items(alloc, UPLOADS)?)?;
-    is_text(
+    has_lines(
         &rt,
-        text.as_str(),
+        rt.alloc(),
+        UPLOADS,
         "stored 0 9 3\nstored 0 7 8\nstored 1 8 3\n",
-    );
-    Ok(())
+    )
 }
 
 const A_CALL_IS_LEFT: &[Did] = &[
@@ -171,26 +222,7 @@ const A_CALL_IS_LEFT: &[Did] = &[
 
 #[test]
 fn a_call_that_is_left_ends_its_own_uploads(rt: HostRuntime) -> Result<(), Fail> {
-    let alloc = rt.alloc();
-    let text = lines(alloc, &items(alloc, A_CALL_IS_LEFT)?)?;
-    is_text(&rt, text.as_str(), "stored 1 8 0\n");
-    Ok(())
-}
-
-// The last line of a crew's report and of a connection's, where the session ended for this reason.
-fn last_lines(alloc: Global, why: Why) -> Result<(String, String), Fail> {
-    let calls = table(alloc, &maker_of_nothing(alloc)?)?;
-    let crew = crew_text(alloc, NO_SEGMENT, &calls, &[], why)?;
-    let connection = connection_text(alloc, 1, NO_SEGMENT, &calls, why)?;
-    let frames = "frames 0 bad 0 other 0 dropped 0\n";
-    let crew = behind(alloc, &crew, frames)?;
-    let connection = behind(alloc, &behind(alloc, &connection, "conn 1\n")?, frames)?;
-    Ok((crew, connection))
-}
-
-// What stands behind this beginning of a text; the text itself, where it has another beginning.
-fn behind(alloc: Global, text: &str, beginning: &str) -> Result<String, AllocError> {
-    String::from_str(alloc, text.strip_prefix(beginning).unwrap_or(text))
+    has_lines(&rt, rt.alloc(), A_CALL_IS_LEFT, "stored 1 8 0\n")
 }
 
 const REASONS: &[(Why, &str)] = &[
@@ -202,17 +234,36 @@ const REASONS: &[(Why, &str)] = &[
     (Why::JournalLimit, "limit journal 1000000\n"),
 ];
 
-fn ends_by(rt: &impl Abort, alloc: Global, why: Why, last: &str) -> Result<(), Fail> {
-    let (crew, connection) = last_lines(alloc, why)?;
-    is_text(rt, crew.as_str(), last);
-    is_text(rt, connection.as_str(), last);
-    Ok(())
+// The last line of a crew's report over no call, where the session ended for this reason.
+fn crew_ends(
+    rt: &impl Abort,
+    alloc: Global,
+    calls: &Calls<DemoCall>,
+    row: &(Why, &str),
+) -> Result<(), Fail> {
+    let (why, last) = *row;
+    let report = format!(in alloc; "frames 0 bad 0 other 0 dropped 0\n{last}")?;
+    is_crew(rt, alloc, calls, &[], NO_SEGMENT, why, report.as_str())
+}
+
+// The last line of the report of connection 1, in the same way.
+fn connection_ends(
+    rt: &impl Abort,
+    alloc: Global,
+    calls: &Calls<DemoCall>,
+    row: &(Why, &str),
+) -> Result<(), Fail> {
+    let (why, last) = *row;
+    let report = format!(in alloc; "conn 1\nframes 0 bad 0 other 0 dropped 0\n{last}")?;
+    is_connection(rt, alloc, calls, 1, NO_SEGMENT, why, report.as_str())
 }
 
 #[test]
 fn each_reason_has_its_last_line(rt: HostRuntime) -> Result<(), Fail> {
-    for (why, last) in REASONS {
-        ends_by(&rt, rt.alloc(), *why, last)?;
+    let calls = empty_table(rt.alloc())?;
+    for row in REASONS {
+        crew_ends(&rt, rt.alloc(), &calls, row)?;
+        connection_ends(&rt, rt.alloc(), &calls, row)?;
     }
     Ok(())
 }
@@ -220,14 +271,23 @@ fn each_reason_has_its_last_line(rt: HostRuntime) -> Result<(), Fail> {
 #[test]
 fn want_of_memory_has_no_last_line(rt: HostRuntime) -> Result<(), Fail> {
     let alloc = rt.alloc();
-    let calls = table(alloc, &maker_of_nothing(alloc)?)?;
-    let text = crew_text(alloc, NO_SEGMENT, &calls, &[], Why::Memory)?;
-    is_text(&rt, text.as_str(), "frames 0 bad 0 other 0 dropped 0\n");
-    let text = connection_text(alloc, 1000, NO_SEGMENT, &calls, Why::Memory)?;
-    is_text(
+    let calls = empty_table(alloc)?;
+    is_crew(
         &rt,
-        text.as_str(),
+        alloc,
+        &calls,
+        &[],
+        NO_SEGMENT,
+        Why::Memory,
+        "frames 0 bad 0 other 0 dropped 0\n",
+    )?;
+    is_connection(
+        &rt,
+        alloc,
+        &calls,
+        1000,
+        NO_SEGMENT,
+        Why::Memory,
         "conn 1000\nframes 0 bad 0 other 0 dropped 0\n",
-    );
-    Ok(())
+    )
 }

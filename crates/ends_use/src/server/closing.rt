@@ -1,10 +1,11 @@
 //! A server closes a channel.
 
-use super::{SparingMaker, feeds, works};
+use super::{SparingMaker, feeds, status_is, works};
+use crate::checks::{is_sent, number_is};
 use rpc_calls::CloseRefused;
 use rpc_channel::Channels;
 use rpc_ids::{Kind, Registry, Status};
-use rpc_journal::{Act, StartRefused};
+use rpc_journal::StartRefused;
 use rpc_packet::PacketType;
 use rpc_server::Server;
 use std::alloc::Global;
@@ -62,23 +63,9 @@ fn closes(
     assert_eq!(rt; server.close_channel(channel), want);
 }
 
-// This call, which must be there, has ended so, or lives.
-fn status_is(rt: &impl Abort, server: &Server<SparingMaker>, call: u32, want: Option<Status>) {
-    assert!(rt; call < server.calls().count());
-    assert_eq!(rt; server.calls().status(call), want);
-}
-
-// The type and the status of the packet that goes out next.
-fn next_sent(server: &mut Server<SparingMaker>) -> Option<(PacketType, Status)> {
-    match server.next_out()?.act {
-        Act::Send(packet) => Some((packet.ptype, Status::of(packet.status))),
-        Act::Keep(_) | Act::LeaveCall => None,
-    }
-}
-
 // This goes out next.
 fn tells(rt: &impl Abort, server: &mut Server<SparingMaker>, want: Option<(PacketType, Status)>) {
-    assert_eq!(rt; next_sent(server), want);
+    is_sent(rt, server.next_out(), want);
 }
 
 const ITS_ABORT: Option<(PacketType, Status)> = Some((PacketType::ServerError, Status::Aborted));
@@ -96,9 +83,9 @@ fn a_channel_that_is_closed_ends_its_calls_alone(rt: HostRuntime) -> Result<(), 
     serves(&rt, &mut server, CHAT_2_1, Ok(true));
     closes(&rt, &mut server, 1, Ok(2));
     closes(&rt, &mut server, 1, Err(CloseRefused::NotIn));
-    status_is(&rt, &server, 0, Some(Status::Aborted));
-    status_is(&rt, &server, 1, Some(Status::Aborted));
-    status_is(&rt, &server, 2, None);
+    status_is(&rt, server.calls(), 0, Some(Status::Aborted));
+    status_is(&rt, server.calls(), 1, Some(Status::Aborted));
+    status_is(&rt, server.calls(), 2, None);
     tells(&rt, &mut server, ITS_ABORT);
     tells(&rt, &mut server, ITS_ABORT);
     tells(&rt, &mut server, None);
@@ -110,7 +97,7 @@ fn a_request_on_a_closed_channel_is_answered(rt: HostRuntime) -> Result<(), Fail
     let mut server = open_server(rt.alloc())?;
     closes(&rt, &mut server, 1, Ok(0));
     serves(&rt, &mut server, CHAT_1_3, Ok(false));
-    assert_eq!(rt; server.calls().count(), 0);
+    number_is(&rt, u64::from(server.calls().count()), 0);
     tells(&rt, &mut server, UNAVAILABLE);
     Ok(())
 }
