@@ -238,10 +238,40 @@ where
     Ok(did)
 }
 
+// Serves a link that brings so many Echo calls, and whose reads of these numbers fail.
+fn serve_calls<R: Threads + Wait + Sync, O: Sink + Send, G: Gate + Sync>(
+    rt: &R,
+    alloc: Global,
+    count: u32,
+    fails: &[u64],
+    link_out: &mut O,
+    workers: u32,
+    gate: &G,
+) -> Result<Session, Fail>
+    requires workers { (0 < workers) × (workers ≤ 16) }
+    requires open { O.finished link_out.old ≡ false }
+{
+    let stream = echo_calls(alloc, count)?;
+    let mut link_in = MemSource::new(stream, Vec::from_slice(alloc, fails)?);
+    serve_echoes(
+        rt,
+        alloc,
+        &mut link_in,
+        link_out,
+        workers,
+        &mut Still::new(),
+        gate,
+    )
+}
+
 // The session ended so, and so many items were written.
 fn ended(rt: &impl Abort, did: &Session, why: Why, done: u64) {
-    assert_eq!(rt; did.why, why);
+    why_is(rt, did, why);
     number_is(rt, did.done, done);
+}
+
+fn why_is(rt: &impl Abort, did: &Session, why: Why) {
+    assert_eq!(rt; did.why, why);
 }
 
 // So many frames came.
@@ -269,17 +299,8 @@ fn word_is(rt: &impl Abort, word: &AtomicU64, want: u64) {
 #[test]
 fn four_hundred_calls_settle(rt: HostRuntime) -> Result<(), Fail> {
     let alloc = rt.alloc();
-    let mut link_in = MemSource::new(echo_calls(alloc, 400)?, Vec::new(alloc));
     let mut link_out = MemSink::new(Vec::new(alloc), Vec::new(alloc));
-    let did = serve_echoes(
-        &rt,
-        alloc,
-        &mut link_in,
-        &mut link_out,
-        1,
-        &mut Still::new(),
-        &Free,
-    )?;
+    let did = serve_calls(&rt, alloc, 400, &[], &mut link_out, 1, &Free)?;
     ended(&rt, &did, Why::Settled, 400);
     heard(&rt, &did, 400);
     wrote(&rt, &link_out, 400);
@@ -290,17 +311,8 @@ fn four_hundred_calls_settle(rt: HostRuntime) -> Result<(), Fail> {
 #[test]
 fn the_second_write_fails(rt: HostRuntime) -> Result<(), Fail> {
     let alloc = rt.alloc();
-    let mut link_in = MemSource::new(echo_calls(alloc, 400)?, Vec::new(alloc));
     let mut link_out = MemSink::new(Vec::new(alloc), Vec::from_slice(alloc, &[2])?);
-    let did = serve_echoes(
-        &rt,
-        alloc,
-        &mut link_in,
-        &mut link_out,
-        1,
-        &mut Still::new(),
-        &Free,
-    )?;
+    let did = serve_calls(&rt, alloc, 400, &[], &mut link_out, 1, &Free)?;
     let written = frames(link_out.bytes());
     ended(&rt, &did, Why::Sink, u64::from(written));
     some_came(&rt, written);
@@ -310,17 +322,8 @@ fn the_second_write_fails(rt: HostRuntime) -> Result<(), Fail> {
 #[test]
 fn what_came_before_a_fault_of_the_source_is_served(rt: HostRuntime) -> Result<(), Fail> {
     let alloc = rt.alloc();
-    let mut link_in = MemSource::new(echo_calls(alloc, 1)?, Vec::from_slice(alloc, &[2])?);
     let mut link_out = MemSink::new(Vec::new(alloc), Vec::new(alloc));
-    let did = serve_echoes(
-        &rt,
-        alloc,
-        &mut link_in,
-        &mut link_out,
-        4,
-        &mut Still::new(),
-        &Free,
-    )?;
+    let did = serve_calls(&rt, alloc, 1, &[2], &mut link_out, 4, &Free)?;
     ended(&rt, &did, Why::Source, 1);
     wrote(&rt, &link_out, 1);
     Ok(())

@@ -1,11 +1,31 @@
 //! Runs in a chosen order, and many at a time.
+ghost use Rattle.std.specs.Prelude.{◌<◌, ◌≤◌};
 
-use super::{echo_calls, ended, serve_echoes, turn_until, word_is};
-use link_io::{MemSink, MemSource, Still, Why};
+use super::{ended, serve_calls, turn_until, word_is};
+use link_io::{MemSink, Why};
 use rpc_crew::Gate;
+use std::alloc::Global;
+use std::process::Abort;
+use std::sync::Wait;
 use std::sync::atomic::{AtomicU64, Ordering};
 use std::test::Fail;
+use std::thread::Threads;
 use std::time::Clock;
+
+// So many Echo calls are served by as many workers, and each comes through the gate.
+fn all_pass<R: Abort + Threads + Wait + Sync, G: Gate + Sync>(
+    rt: &R,
+    alloc: Global,
+    count: u32,
+    gate: &G,
+) -> Result<(), Fail>
+    requires { (0 < count) × (count ≤ 16) }
+{
+    let mut link_out = MemSink::new(Vec::new(alloc), Vec::new(alloc));
+    let did = serve_calls(rt, alloc, count, &[], &mut link_out, count, gate)?;
+    ended(rt, &did, Why::Settled, u64::from(count));
+    Ok(())
+}
 
 // Holds the run of call 0 until that of call 1 is over.
 #[derive(Drop)]
@@ -35,7 +55,6 @@ impl<'a, R: Clock> Gate for SecondFirst<'a, R> {
 
 #[test]
 fn a_second_call_is_over_while_the_first_runs(rt: HostRuntime) -> Result<(), Fail> {
-    let alloc = rt.alloc();
     let gate = SecondFirst {
         rt: &rt,
         over: AtomicU64::new(0),
@@ -43,18 +62,7 @@ fn a_second_call_is_over_while_the_first_runs(rt: HostRuntime) -> Result<(), Fai
         after: AtomicU64::new(0),
         late: AtomicU64::new(0),
     };
-    let mut link_in = MemSource::new(echo_calls(alloc, 2)?, Vec::new(alloc));
-    let mut link_out = MemSink::new(Vec::new(alloc), Vec::new(alloc));
-    let did = serve_echoes(
-        &rt,
-        alloc,
-        &mut link_in,
-        &mut link_out,
-        2,
-        &mut Still::new(),
-        &gate,
-    )?;
-    ended(&rt, &did, Why::Settled, 2);
+    all_pass(&rt, rt.alloc(), 2, &gate)?;
     word_is(&rt, &gate.before, 2);
     word_is(&rt, &gate.after, 2);
     word_is(&rt, &gate.late, 0);
@@ -83,25 +91,13 @@ impl<'a, R: Clock> Gate for AllAtOnce<'a, R> {
 
 #[test]
 fn sixteen_handlers_run_at_a_time(rt: HostRuntime) -> Result<(), Fail> {
-    let alloc = rt.alloc();
     let gate = AllAtOnce {
         rt: &rt,
         before: AtomicU64::new(0),
         after: AtomicU64::new(0),
         late: AtomicU64::new(0),
     };
-    let mut link_in = MemSource::new(echo_calls(alloc, 16)?, Vec::new(alloc));
-    let mut link_out = MemSink::new(Vec::new(alloc), Vec::new(alloc));
-    let did = serve_echoes(
-        &rt,
-        alloc,
-        &mut link_in,
-        &mut link_out,
-        16,
-        &mut Still::new(),
-        &gate,
-    )?;
-    ended(&rt, &did, Why::Settled, 16);
+    all_pass(&rt, rt.alloc(), 16, &gate)?;
     word_is(&rt, &gate.before, 16);
     word_is(&rt, &gate.after, 16);
     word_is(&rt, &gate.late, 0);

@@ -1,6 +1,6 @@
 //! The moment from which a session counts.
 
-use super::serve_echoes;
+use super::{number_is, serve_echoes, why_is};
 use link_io::{MemSink, MemSource, StepClock, Why};
 use rpc_crew::Free;
 use std::test::Fail;
@@ -18,7 +18,7 @@ fn a_session_counts_from_its_first_moment(rt: HostRuntime) -> Result<(), Fail> {
         &mut StepClock::new(Vec::from_slice(alloc, &[1_000])?),
         &Free,
     )?;
-    assert_eq!(rt; did.why, Why::Settled);
-    assert_eq!(rt; did.began, 1_000);
+    why_is(&rt, &did, Why::Settled);
+    number_is(&rt, did.began, 1_000);
     Ok(())
 }

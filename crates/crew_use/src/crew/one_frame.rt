@@ -1,8 +1,8 @@
 //! A sink that takes one frame at a call, so that a write can fail between any two frames.
 ghost use Rattle.std.specs.Prelude.{◌≡◌, ◌<◌, ◌≤◌, None, length};
 
-use super::{echo_calls, ended, serve_echoes, wrote};
-use link_io::{Failed, MemSink, MemSource, Sink, Still, Why};
+use super::{ended, serve_calls, wrote};
+use link_io::{Failed, MemSink, Sink, Why};
 use rpc_crew::Free;
 use std::test::Fail;
 
@@ -48,19 +48,10 @@ impl Sink for OneFrame {
 #[test]
 fn two_frames_are_written_where_the_third_write_fails(rt: HostRuntime) -> Result<(), Fail> {
     let alloc = rt.alloc();
-    let mut link_in = MemSource::new(echo_calls(alloc, 400)?, Vec::new(alloc));
     let mut link_out = OneFrame {
         inner: MemSink::new(Vec::new(alloc), Vec::from_slice(alloc, &[3])?),
     };
-    let did = serve_echoes(
-        &rt,
-        alloc,
-        &mut link_in,
-        &mut link_out,
-        1,
-        &mut Still::new(),
-        &Free,
-    )?;
+    let did = serve_calls(&rt, alloc, 400, &[], &mut link_out, 1, &Free)?;
     ended(&rt, &did, Why::Sink, 2);
     wrote(&rt, &link_out.inner, 2);
     Ok(())

@@ -3,7 +3,7 @@ ghost use mathlib.Core.Bool.{false≢true};
 ghost use Rattle.std.specs.Prelude.{[], None, false};
 ghost use Rattle.rpc_handlers.specs.HandlerRule.{empty_memo};
 
-use super::{heard, no_memo, number_is, serve_by, wrote};
+use super::{heard, no_memo, number_is, serve_by, why_is, wrote};
 use bytes::Bytes;
 use link_io::{MemSink, MemSource, Still, Why};
 use rpc_crew::Gate;
@@ -87,6 +87,12 @@ impl<'a, R: Clock> Gate for Slow<'a, R> {
     fn after(&self, _call: u32) {}
 }
 
+fn chat_alone(alloc: Global) -> Result<Registry, Fail> {
+    let mut registry = Registry::new(alloc);
+    registry.add(b"demo.Demo", b"Chat", Kind::Bidi, false)?;
+    Ok(registry)
+}
+
 // The request of one call of Chat, and so many messages to it.
 fn chat(alloc: Global, messages: u32) -> Result<Vec<u8>, AllocError> {
     let mut stream = Vec::new(alloc);
@@ -114,8 +120,7 @@ fn chat(alloc: Global, messages: u32) -> Result<Vec<u8>, AllocError> {
 #[test]
 fn no_packet_is_lost_where_a_queue_is_full(rt: HostRuntime) -> Result<(), Fail> {
     let alloc = rt.alloc();
-    let mut registry = Registry::new(alloc);
-    registry.add(b"demo.Demo", b"Chat", Kind::Bidi, false)?;
+    let registry = chat_alone(alloc)?;
     let mut link_in = MemSource::new(chat(alloc, 300)?, Vec::new(alloc));
     let mut link_out = MemSink::new(Vec::new(alloc), Vec::new(alloc));
     let did = serve_by(
@@ -129,7 +134,7 @@ fn no_packet_is_lost_where_a_queue_is_full(rt: HostRuntime) -> Result<(), Fail> 
         &mut Still::new(),
         &Slow { rt: &rt },
     )?;
-    assert_eq!(rt; did.why, Why::Settled);
+    why_is(&rt, &did, Why::Settled);
     heard(&rt, &did, 301);
     // Each of 301 packets arrived, and so did the end of the input; the event of each had a Start and a Finish.
     number_is(&rt, did.journal.len(), 906);
