@@ -1,4 +1,5 @@
 //! Texts with runs of ordinary octets between their escapes: a decoder copies such a run in blocks of 32.
+ghost use Rattle.std.specs.Prelude.{◌≤◌};
 
 use hdlc_frame::{Bad, Decoded, decode_pieces, encode_ui};
 use std::alloc::{AllocError, Global};
@@ -41,7 +42,9 @@ fn finds(
     limit: usize,
     pieces: &[&[u8]],
     want: Result<&[u8], Bad>,
-) -> Result<(), Fail> {
+) -> Result<(), Fail>
+    requires { (6 ≤ limit) × (limit ≤ 8192) }
+{
     let all = decode_pieces(alloc, limit, pieces)?;
     assert_eq!(rt; found(&all), Some(want));
     Ok(())
@@ -54,7 +57,9 @@ fn finds_however_cut(
     limit: usize,
     stream: &[u8],
     want: Result<&[u8], Bad>,
-) -> Result<(), Fail> {
+) -> Result<(), Fail>
+    requires { (6 ≤ limit) × (limit ≤ 8192) }
+{
     for cut in 0..stream.len() {
         let (before, behind) = stream.split_at(cut);
         finds(rt, alloc, limit, &[before, behind], want)?;
