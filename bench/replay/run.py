@@ -5,13 +5,15 @@ Builds bench/replay/plain_server.rs with rustc, bench/replay/crates_server with 
 crc32fast (left out where they aren't there), and the program crates/pw_main with rt (proved, by LLVM). A plain server runs in two ways:
 it keeps nothing, or each packet that came or went and an entry for each step, as the program has to.
 
-run.py            the measured table: load, recordings of 100,000 Echo calls and of calls left open, how both grow, and frames for
+run.py            the measured tables: load, recordings of 100,000 Echo calls and of calls left open, how both grow, and frames for
                   another address
+run.py frames     the last of them alone
 run.py compare N  N recordings with damage, repeated names and all packet types; the two must write the same
 """
 import os
 import random
 import resource
+import statistics
 import subprocess
 import sys
 import zlib
@@ -22,6 +24,7 @@ sys.path.insert(0, os.path.join(TOP, "bench", "plain"))
 import debian
 
 BUILD = os.path.join(TOP, "bench", "build")
+TURNS = 21
 SERVICE = 0x70F45CFB
 METHODS = [0x8B470EE9, 0xB63613B6, 0x09570BB8, 0x9BA981BC]
 
@@ -86,10 +89,38 @@ def table(program, servers):
     for n in ("7500", "15000", "30000"):
         words = ["load", n, "7"]
         times.append(measured(f"`load {n} 7`", program, servers, (words, words)))
-    for length in (16, 256, 4096):
-        measured(f"`replay raw`, 32 MB of frames of {length} for another address", program, servers, raw, other_frames(length))
     print(f"three times as many calls left open take {spans[1] / spans[0]:.2f} times as long")
     print(f"load grows by {times[1] / times[0]:.2f} and {times[2] / times[1]:.2f} where its calls double")
+
+
+# Each reads the same file, and they take turns: a run is so short that one of them tells little.
+def frames_table(program, servers):
+    print(f"frames for another address, seconds of processor time, {TURNS} turns: best; median")
+    heads = [f"{kind} | ratio" for kind in ("std", "crates")[:len(servers)]]
+    print(f"| payload | MB | this program | {' | '.join(heads)} |")
+    print("|---" * (3 + 2 * len(servers)) + "|")
+    commands = [[program, "replay", "raw"], *([server, "raw"] for server in servers)]
+    for length in (16, 256, 4096):
+        stream = other_frames(length) * 4
+        path = os.path.join(BUILD, "frames")
+        with open(path, "wb") as file:
+            file.write(stream)
+        turns = [[spent_on(command, path) for command in commands] for _ in range(TURNS)]
+        (best, middle), *beside = [(min(times), statistics.median(times)) for times in zip(*turns)]
+        cells = [str(length), f"{len(stream) / 1e6:.0f}", f"{best:.3f}; {middle:.3f}"]
+        for least, median in beside:
+            cells += [f"{least:.3f}; {median:.3f}", f"{best / least:.2f}; {middle / median:.2f}"]
+        print(f"| {' | '.join(cells)} |", flush=True)
+
+
+# Frames for another address are answered by nothing.
+def spent_on(command, path):
+    with open(path, "rb") as file:
+        start = spent()
+        out = subprocess.run(command, stdin=file, check=True, capture_output=True).stdout
+    if out:
+        sys.exit(f"{command}: it answers frames for another address")
+    return spent() - start
 
 
 # Some 32 MB of frames of random octets for the address 123.
@@ -158,7 +189,10 @@ def main():
     else:
         crates = ("bytes", "crc32fast", "hashbrown", "memchr", "slab")
         fast = debian.built(os.path.join(HERE, "crates_server"), crates, BUILD)
-        table(program, [plain] + [fast] * (fast is not None))
+        servers = [plain] + [fast] * (fast is not None)
+        if sys.argv[1:2] != ["frames"]:
+            table(program, servers)
+        frames_table(program, servers)
 
 
 if __name__ == "__main__":

@@ -1,8 +1,10 @@
 -- Ordinary octets copied, a block at a time.
-use Rattle.std.proofs.Common.{◌≡◌, ◌≢◌, ℕ, ◌+◌, ◌<◌, ◌≤◌, ◌⊎◌, List, ◌++◌, length, get_or, take, drop, get_or-drop, get_or-take, take-take, sym, ap, ◌∙◌, append_assoc, subst, arith}
-use Rattle.std.proofs.lemmas.List.{length-take-le}
+use Rattle.std.proofs.Common.{◌≡◌, ◌≢◌, ℕ, ◌+◌, ◌<◌, ◌≤◌, ◌⊎◌, List, [], ◌∷◌, ◌++◌, length, get_or, take, drop, get_or-drop, get_or-take, take-take, refl, sym, ap, ◌∙◌, append_assoc, subst, arith}
+use Rattle.std.proofs.lemmas.List.{length-drop, length-take-le}
 use Rattle.std.proofs.lemmas.List.Elements.{All-append}
+use Rattle.std.proofs.lemmas.Simd.{length-chunk}
 use Rattle.std.proofs.Math.Seq.{take-add, take-append-add}
+use lib.Lanes.{chunk, put_chunk}
 use Rattle.hdlc_frame.specs.declared.octets.TheConstants.{ESCAPE, FLAG}
 use Rattle.hdlc_frame.specs.Steps.{IsOrdinary}
 
@@ -37,3 +39,17 @@ stop_on done k m octets rest block er eb below stop =
     ap (λ l. get_or l k 0) eb ∙ get_or-take m rest k 0 below ∙ ap (λ l. get_or l k 0) er ∙ get_or-drop done octets k 0 in
     let P : ℕ → Type 0 = λ octet. (octet ≡ FLAG) ⊎ (octet ≡ ESCAPE) in
     subst P same stop
+
+-- a block that is written over as many octets
+pub over_all : (xs ys : List ℕ) → length xs ≡ length ys → put_chunk 0 xs ys ≡ ys
+over_all [] [] e = refl
+over_all [] (y ∷ ys) e = absurd (omega arith)
+over_all (x ∷ xs) [] e = absurd (omega arith)
+over_all (x ∷ xs) (y ∷ ys) e = ap (λ l. y ∷ l) (over_all xs ys (omega arith))
+
+pub block_over :
+    (at done m : ℕ) (buffer octets : List ℕ) → m ≡ 32 → at + 32 ≤ length buffer → done + 32 ≤ length octets →
+    put_chunk 0 (take m (drop at buffer)) (chunk done 32 octets) ≡ take 32 (drop done octets)
+block_over at done m buffer octets e room has =
+    over_all (take m (drop at buffer)) (chunk done 32 octets)
+    (length-take-le m (drop at buffer) (omega (arith, length-drop at buffer)) ∙ e ∙ sym (length-chunk done 32 octets has))

@@ -10,6 +10,7 @@ mod Tables
 mod TextRuns
 mod Texts
 pub mod Machines
+pub mod Marks
 pub mod Numbers
 pub mod Parting
 mod Laying

@@ -1,5 +1,5 @@
 -- The steps of the decoder, each a run with an escape, a flag or nothing behind it, against the stream.
-use Rattle.std.proofs.Common.{◌≡◌, ℕ, ◌+◌, ◌-◌, ◌<◌, ◌≤◌, ◌||◌, ltb, min, Bool, true, false, List, [], ◌∷◌, ◌++◌, length, get_or, slice_range, take, drop, map, Some, refl, sym, ap, ◌∙◌, append_assoc, subst, inl, inr, arith}
+use Rattle.std.proofs.Common.{◌≡◌, ℕ, ◌+◌, ◌-◌, ◌<◌, ◌≤◌, ◌||◌, ltb, min, Bool, true, false, List, [], ◌∷◌, ◌++◌, length, get_or, slice_range, take, drop-drop, drop, map, Some, refl, sym, ap, ◌∙◌, append_assoc, subst, inl, inr, arith}
 use Rattle.std.specs.Bool.{if◌then◌else◌}
 use Rattle.std.proofs.lemmas.Bool.{cases_lt, lt-ltb, le-ltb}
 use Rattle.std.proofs.lemmas.List.{append-nil, length-append, length-drop, length-take, take_more, length-take-le, take-append-drop, take-append-le, take_all}
@@ -220,6 +220,20 @@ pub moves_behind :
 moves_behind a b c piece rest at n e m1 m2 =
     let P : List ℕ → Type 0 = λ l. Moves a c l [] in
     subst P (ap (λ l. take at piece ++ take n l) e ∙ sym (take-add at n piece)) (moves_then a b c (take at piece) (take n rest) [] m1 m2)
+
+-- a step, and the text behind it
+pub step_text :
+    (a b c : Reading) (piece rest : List ℕ) (at end n : ℕ) → at ≤ end → rest ≡ drop end piece → Moves a b (slice_range piece at end) [] →
+    Moves b c (take n rest) [] → Moves a c (slice_range piece at (end + n)) []
+step_text a b c piece rest at end n h e m1 m2 =
+    let P : List ℕ → Type 0 = λ l. Moves a c l [] in
+    let part = drop at piece in
+    let whole : at + (end - at) ≡ end = omega arith in
+    let long : end - at + n ≡ end + n - at = omega arith in
+    let behind : drop (end - at) part ≡ drop end piece = drop-drop (end - at) at piece ∙ ap (λ k. drop k piece) whole in
+    subst P
+    (ap (λ l. take (end - at) part ++ take n l) (e ∙ sym behind) ∙ sym (take-add (end - at) n part) ∙ ap (λ k. take k part) long)
+    (moves_then a b c (slice_range piece at end) (take n rest) [] m1 m2)
 
 -- octets that were added to the content in the buffer
 pub kept_in :

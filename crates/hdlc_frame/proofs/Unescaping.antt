@@ -11,7 +11,7 @@ use Rattle.hdlc_frame.specs.declared.phase.Phase.TheVariants.{Escaped}
 use Rattle.hdlc_frame.specs.Content.{unescaped}
 use Rattle.hdlc_frame.specs.Machine.{HasRead, HasReadText, Reading, content_behind}
 use Rattle.hdlc_frame.specs.Steps.{IsOrdinary, Moves, Unescapes, phase_in_text}
-use Rattle.hdlc_frame.proofs.Contents.{neq-eqb, walk_escape, walk_escaped, walk_itself}
+use Rattle.hdlc_frame.proofs.Contents.{neq-eqb, walk_escape, walk_escaped}
 use Rattle.hdlc_frame.proofs.Texts.{behind_escaped, behind_plain, grown, has_more, onto_content, onto_nothing, onto_twice, run_told}
 use Rattle.hdlc_frame.proofs.Runs.{moves_text}
 use Rattle.hdlc_frame.proofs.Parting.{NoFlag}
@@ -53,14 +53,7 @@ unread e xs old = record {
   told = λ rest. onto_nothing (unescaped e rest);
 }
 
-pub more_itself :
-    (e : Bool) (xs old middle new : List ℕ) (i : ℕ) → i < length xs → Unescapes e (take i xs) false old middle → get_or xs i 0 ≢ FLAG →
-    get_or xs i 0 ≢ ESCAPE → new ≡ middle ++ get_or xs i 0 ∷ [] → Unescapes e (take (i + 1) xs) false old new
-more_itself e xs old middle new i below u f other en =
-    let x = get_or xs i 0 in
-    snoc_at e false false xs old middle new (x ∷ []) i below u f (omega arith) en (λ rest. walk_itself x rest f other)
-
-more_escape :
+pub more_escape :
     (e : Bool) (xs old new : List ℕ) (i : ℕ) → i < length xs → Unescapes e (take i xs) false old new → get_or xs i 0 ≡ ESCAPE →
     Unescapes e (take (i + 1) xs) true old new
 more_escape e xs old new i below u escape =
@@ -68,25 +61,15 @@ more_escape e xs old new i below u escape =
     snoc_at e false true xs old new new [] i below u (omega arith) (omega arith) (sym (append-nil new))
     (λ rest. walk_escape x rest escape ∙ onto_nothing (unescaped true rest))
 
-pub more_turned :
+more_turned :
     (e : Bool) (xs old middle new : List ℕ) (i : ℕ) → i < length xs → Unescapes e (take i xs) true old middle → get_or xs i 0 ≢ FLAG →
     get_or xs i 0 ≢ ESCAPE → new ≡ middle ++ bit_xor (get_or xs i 0) ESCAPE_BIT ∷ [] → Unescapes e (take (i + 1) xs) false old new
 more_turned e xs old middle new i below u f other en =
     let x = get_or xs i 0 in
     snoc_at e true false xs old middle new (bit_xor x ESCAPE_BIT ∷ []) i below u f (omega arith) en (λ rest. walk_escaped x rest f other)
 
--- an escape and the octet behind it
-pub more_pair :
-    (e : Bool) (xs old middle new : List ℕ) (i : ℕ) → i + 1 < length xs → Unescapes e (take i xs) false old middle → get_or xs i 0 ≡ ESCAPE →
-    get_or xs (i + 1) 0 ≢ FLAG → get_or xs (i + 1) 0 ≢ ESCAPE → new ≡ middle ++ bit_xor (get_or xs (i + 1) 0) ESCAPE_BIT ∷ [] →
-    Unescapes e (take (i + 2) xs) false old new
-more_pair e xs old middle new i below u escape f other en =
-    let two : i + 1 + 1 ≡ i + 2 = omega arith in
-    let P : ℕ → Type 0 = λ n. Unescapes e (take n xs) false old new in
-    subst P two (more_turned e xs old middle new (i + 1) below (more_escape e xs old middle i (omega arith) u escape) f other en)
-
 -- ordinary octets
-pub more_run :
+more_run :
     (e : Bool) (xs rest old middle new : List ℕ) (i n : ℕ) → rest ≡ drop i xs → IsOrdinary (take n rest) → Unescapes e (take i xs) false old middle →
     new ≡ middle ++ take n rest → Unescapes e (take (i + n) xs) false old new
 more_run e xs rest old middle new i n er ordinary u en =
@@ -102,6 +85,16 @@ more_run e xs rest old middle new i n er ordinary u en =
           ap (unescaped e) (append_assoc (take i xs) run more) ∙ u.told (run ++ more) ∙ ap (onto_content u.more) (run_told run more ordinary) ∙
           onto_twice u.more run (unescaped false more);
     })
+
+-- behind an escape, the octet that it changed and ordinary ones
+pub more_behind :
+    (e : Bool) (xs rest old middle first new : List ℕ) (i n : ℕ) → i < length xs → Unescapes e (take i xs) true old middle → get_or xs i 0 ≢ FLAG →
+    get_or xs i 0 ≢ ESCAPE → first ≡ middle ++ bit_xor (get_or xs i 0) ESCAPE_BIT ∷ [] → rest ≡ drop (i + 1) xs → IsOrdinary (take n rest) →
+    new ≡ first ++ take n rest → Unescapes e (take (i + (1 + n)) xs) false old new
+more_behind e xs rest old middle first new i n below u f other ef er ordinary en =
+    let same : i + 1 + n ≡ i + (1 + n) = omega arith in
+    let P : ℕ → Type 0 = λ k. Unescapes e (take k xs) false old new in
+    subst P same (more_run e xs rest old first new (i + 1) n er ordinary (more_turned e xs old middle first i below u f other ef) en)
 
 flag_free : (bytes : List ℕ) → All (λ octet. octet ≢ FLAG) bytes → NoFlag bytes
 flag_free bytes none = λ k d below. neq-eqb (get_or bytes k d) FLAG (none k d below)

@@ -106,7 +106,18 @@ impl Machine {
     }
 
     // Reads octets with no flag and no escape among them.
+    #[inline(always)]
     fn read_run(&mut self, buffer: &mut [u8], run: &[u8])
+        requires { self.old.len ≤ length buffer.old }
+        ensures within { self.new.len ≤ length buffer.new }
+        ensures read { reading_at self.new buffer.new ≡ after_run (reading_at self.old buffer.old) run.now }
+    {
+        if !run.is_empty() {
+            self.read_octets(buffer, run);
+        }
+    }
+
+    fn read_octets(&mut self, buffer: &mut [u8], run: &[u8])
         requires { self.old.len ≤ length buffer.old }
         ensures within { self.new.len ≤ length buffer.new }
         ensures read { reading_at self.new buffer.new ≡ after_run (reading_at self.old buffer.old) run.now }
@@ -178,6 +189,7 @@ impl Machine {
     }
 
     // Behind an escape, reads text as far as it is ordinary or escaped and the buffer has room. Answers how many octets.
+    #[inline(always)]
     fn read_text(&mut self, buffer: &mut [u8], octets: &[u8]) -> usize
         requires { self.old.len ≤ length buffer.old }
         ensures kept { self.new.len ≤ length buffer.new }
@@ -187,11 +199,22 @@ impl Machine {
         if !self.is_behind_escape() {
             return 0;
         }
+        self.read_escaped(buffer, octets)
+    }
+
+    fn read_escaped(&mut self, buffer: &mut [u8], octets: &[u8]) -> usize
+        requires kept { self.old.len ≤ length buffer.old }
+        requires phase { self.old.phase ≡ Escaped }
+        requires short { self.old.is_long ≡ false }
+        ensures kept { self.new.len ≤ length buffer.new }
+        ensures within { result ≤ length octets.now }
+        ensures moves { Moves (reading_at self.old buffer.old) (reading_at self.new buffer.new) (take result octets.now) [] }
+    {
         let room = buffer.len() - self.len;
         let part = &octets[..octets.len().min(room)];
-        let (read, end) = unescape(buffer, self.len, part);
+        let (read, end, is_behind) = unescape(buffer, self.len, part);
         self.len = end;
-        self.phase = Phase::in_text(read == 0);
+        self.phase = Phase::in_text(is_behind);
         read
     }
 
@@ -216,7 +239,7 @@ impl Machine {
         if rest[n] == ESCAPE {
             self.read_run(buffer, run);
             self.read_escape();
-            return (end, Closed::Open);
+            return (end + self.read_text(buffer, &piece[end..]), Closed::Open);
         }
         if n > 0 && self.is_at_start() {
             return (end, Closed::Whole(at, at + n));
@@ -235,12 +258,8 @@ impl Machine {
         ensures within { IsWithin piece.now result.1 }
         ensures moves { Moves (reading_at self.old buffer.old) (reading_at self.new buffer.new) (take result.0 piece.now) (closed_found (reading_at self.new buffer.new) piece.now result.1) }
     {
-        let mut at = 0;
+        let mut at = self.read_text(buffer, piece);
         while at < piece.len() {
-            at += self.read_text(buffer, &piece[at..]);
-            if at == piece.len() {
-                return (at, Closed::Open);
-            }
             let (end, closed) = self.step(buffer, piece, at);
             match closed {
                 Closed::Open => at = end,

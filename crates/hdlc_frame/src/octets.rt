@@ -1,9 +1,10 @@
 //! The octets that the framing standard names (RFC 1662, section 4.1).
 
-ghost use Rattle.std.specs.Prelude.{◌≡◌, ◌<◌, ◌≤◌, ◌==◌, ◌||◌, ◌↔◌, ◌⊎◌, IsTrue, length, slice_index, take};
+ghost use Rattle.std.specs.Prelude.{◌≡◌, ◌+◌, ◌<◌, ◌≤◌, ◌==◌, ◌||◌, ◌⊎◌, IfSome, IsNone, drop, length, slice_index, take};
 ghost use Rattle.hdlc_frame.specs.Steps.{IsOrdinary};
 
 use memchr::memchr2;
+use std::simd::prelude::*;
 
 /// Stands in front of a frame and behind it, and nowhere else.
 pub const FLAG: u8 = 0x7E;
@@ -17,8 +18,30 @@ pub const ESCAPE_BIT: u8 = 0x20;
 /// The control octet of an unnumbered information frame.
 pub const UI_CONTROL: u8 = 0x03;
 
+/// How many octets are looked at together.
+pub(crate) const BLOCK: usize = 32;
+
 /// How many octets stand in front of the first flag or escape.
 pub(crate) fn ordinary_len(octets: &[u8]) -> usize
+    ensures within { result ≤ length octets.now }
+    ensures ordinary { IsOrdinary (take result octets.now) }
+    ensures stop { result < length octets.now → (slice_index octets.now result ≡ FLAG) ⊎ (slice_index octets.now result ≡ ESCAPE) }
+{
+    if octets.is_empty() || needs_escape(octets[0]) {
+        return 0;
+    }
+    let mut at = 0;
+    'looks: while BLOCK <= octets.len() - at {
+        match mark_in(octets, at) {
+            Some(n) => return at + n,
+            None => at += BLOCK,
+        }
+    }
+    at + searched_len(&octets[at..])
+}
+
+// The same for few octets.
+fn searched_len(octets: &[u8]) -> usize
     ensures within { result ≤ length octets.now }
     ensures ordinary { IsOrdinary (take result octets.now) }
     ensures stop { result < length octets.now → (slice_index octets.now result ≡ FLAG) ⊎ (slice_index octets.now result ≡ ESCAPE) }
@@ -29,31 +52,19 @@ pub(crate) fn ordinary_len(octets: &[u8]) -> usize
     }
 }
 
-/// How many octets are looked at together where a run of ordinary ones is copied.
-pub(crate) const BLOCK: usize = 32;
-
-/// How many octets of a block stand in front of the first flag or escape. It is soon told where there is none.
+/// Where the first flag or escape of the block from `at` on stands, counted from `at`.
 #[inline(always)]
-pub(crate) fn ordinary_in(block: &[u8; BLOCK]) -> usize
-    ensures within { result ≤ length block.now }
-    ensures ordinary { IsOrdinary (take result block.now) }
-    ensures stop { result < length block.now → (slice_index block.now result ≡ FLAG) ⊎ (slice_index block.now result ≡ ESCAPE) }
+pub(crate) fn mark_in(octets: &[u8], at: usize) -> Option<usize>
+    requires { at + BLOCK ≤ length octets.now }
+    ensures some { IfSome result (λ n. (n < BLOCK) × IsOrdinary (take n (drop at octets.now)) × ((slice_index octets.now (at + n) ≡ FLAG) ⊎ (slice_index octets.now (at + n) ≡ ESCAPE))) }
+    ensures none { IsNone result → IsOrdinary (take BLOCK (drop at octets.now)) }
 {
-    if is_ordinary(block) {
-        return BLOCK;
+    let past_escape = u8x32::from_slice(&octets[at..]) - u8x32::splat(ESCAPE);
+    let marks = past_escape.simd_lt(u8x32::splat(2)).to_bitmask();
+    if marks == 0 {
+        return None;
     }
-    ordinary_len(block)
-}
-
-#[inline(always)]
-fn is_ordinary(block: &[u8; BLOCK]) -> bool
-    ensures { IsTrue result ↔ IsOrdinary block.now }
-{
-    let mut all = true;
-    for octet in block {
-        all &= !needs_escape(*octet);
-    }
-    all
+    Some(marks.trailing_zeros() as usize)
 }
 
 /// Whether an octet of content is escaped in a frame's text.

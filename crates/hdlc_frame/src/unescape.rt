@@ -1,54 +1,34 @@
 //! The content that a text between two flags stands for (RFC 1662, section 4.2), where it has escapes.
 
-ghost use Rattle.std.specs.Prelude.{◌≡◌, ◌≢◌, ◌<◌, ◌+◌, ◌≤◌, ◌==◌, ◌++◌, ◌⊎◌, bit_xor, get_or, length, slice_index, take, true, IfSome};
+ghost use Rattle.std.specs.Prelude.{◌≡◌, ◌≢◌, ◌<◌, ◌+◌, ◌≤◌, ◌++◌, ◌⊎◌, bit_xor, get_or, length, slice_index, take, true, IfSome};
 ghost use Rattle.hdlc_frame.specs.Steps.{IsOrdinary, Unescapes};
 
-use crate::octets::{BLOCK, ESCAPE, ESCAPE_BIT, FLAG, needs_escape, ordinary_in, ordinary_len};
+use crate::octets::{BLOCK, ESCAPE, ESCAPE_BIT, FLAG, mark_in, needs_escape, ordinary_len};
+use std::simd::prelude::*;
 
-/// Behind an escape, writes what `octets` stand for behind the first `len` octets of `buffer`. It stops at a flag, and at an
-/// escape that no ordinary octet follows. Answers how many octets it read, and where what it wrote ends.
-pub(crate) fn unescape(buffer: &mut [u8], len: usize, octets: &[u8]) -> (usize, usize)
+/// Behind an escape, writes what `octets` stand for behind the first `len` octets of `buffer`. It stops at a flag, and behind an
+/// escape that no ordinary octet follows. Answers how many octets it read, where what it wrote ends, and whether an escape is the
+/// last that it read.
+pub(crate) fn unescape(buffer: &mut [u8], len: usize, octets: &[u8]) -> (usize, usize, bool)
     requires room { len + length octets.now ≤ length buffer.old }
     ensures within { result.0 ≤ length octets.now }
     ensures kept { result.1 ≤ length buffer.new }
-    ensures reads { Unescapes true (take result.0 octets.now) (result.0 == 0) (take len buffer.old) (take result.1 buffer.new) }
+    ensures reads { Unescapes true (take result.0 octets.now) result.2 (take len buffer.old) (take result.1 buffer.new) }
 {
-    let Some(first) = turned(octets, 0) else {
-        return (0, len);
-    };
-    buffer[len] = first;
-    let mut at = 1;
-    let mut end = len + 1;
-    let mut quiet = 0usize;
-    'octets: while at < octets.len() {
-        let octet = octets[at];
-        if octet == FLAG {
-            return (at, end);
+    let mut at = 0;
+    let mut end = len;
+    'escapes: while let Some(meant) = turned(octets, at) {
+        buffer[end] = meant;
+        let run = copy_run(buffer, end + 1, &octets[at + 1..]);
+        end += 1 + run;
+        at += 1 + run;
+        if at == octets.len() || octets[at] == FLAG {
+            return (at, end, false);
         }
-        if octet == ESCAPE {
-            let Some(meant) = turned(octets, at + 1) else {
-                return (at, end);
-            };
-            buffer[end] = meant;
-            at += 2;
-            end += 1;
-            quiet = 0;
-        } else if quiet < QUIET {
-            buffer[end] = octet;
-            at += 1;
-            end += 1;
-            quiet += 1;
-        } else {
-            let n = copy_run(buffer, end, &octets[at..]);
-            at += n;
-            end += n;
-        }
+        at += 1;
     }
-    (at, end)
+    (at, end, true)
 }
-
-// Behind so many octets without an escape, a block is searched for the next one and no longer an octet looked at by itself.
-const QUIET: usize = 1;
 
 // What the octet at `at` stands for behind an escape. There is none at the end, and a flag and an escape stand for nothing.
 #[inline(always)]
@@ -71,16 +51,17 @@ fn copy_run(buffer: &mut [u8], from: usize, octets: &[u8]) -> usize
     ensures copied { take (from + result) buffer.new ≡ take from buffer.old ++ take result octets.now }
 {
     let mut done = 0;
-    let mut rest = octets;
-    'blocks: while let Some((block, behind)) = rest.split_first_chunk::<BLOCK>() {
-        buffer[from + done..from + done + BLOCK].copy_from_slice(block);
-        let n = ordinary_in(block);
-        if n < BLOCK {
-            return done + n;
+    'copies: while BLOCK <= octets.len() - done {
+        let mark = mark_in(octets, done);
+        u8x32::from_slice(&octets[done..]).copy_to_slice(
+            &mut buffer[from + done..from + done + BLOCK],
+        );
+        match mark {
+            Some(n) => return done + n,
+            None => done += BLOCK,
         }
-        done += BLOCK;
-        rest = behind;
     }
+    let rest = &octets[done..];
     let n = ordinary_len(rest);
     buffer[from + done..from + done + n].copy_from_slice(&rest[..n]);
     done + n

@@ -1,62 +1,62 @@
-use Rattle.std.proofs.Common.{◌∙◌, ◌-◌, ◌<◌, ◌++◌, ◌∷◌, [], true, length, take, drop, ap, arith}
-use Rattle.std.proofs.lemmas.List.{length-set, take_more_set, take_rest}
-use Rattle.hdlc_frame.proofs.Unescaping.{more_itself, more_pair, more_run, more_turned, unread}
+use Rattle.std.proofs.Common.{◌≡◌, ◌≢◌, ℕ, ◌+◌, ◌-◌, ◌<◌, ◌++◌, ◌∷◌, ◌⊎◌, [], List, length, take, drop, get_or, get_or-drop, true, inl, inr, sym, ap, ◌∙◌, subst, arith}
+use Rattle.std.proofs.lemmas.List.{length-drop, length-set, take_more_set, take_rest}
+use Rattle.hdlc_frame.specs.declared.octets.TheConstants.{ESCAPE, FLAG}
+use Rattle.hdlc_frame.proofs.Unescaping.{more_behind, more_escape}
 use Rattle.hdlc_frame.proofs.unescape.unescape.Goals as goal
 
-pub octets-init : goal.octets-init
-octets-init c =
-    let octets = c.args.octets.now in
-    let buffer = c.args.buffer.now in
-    let len = c.args.len in
-    let first = c.in-Some.ensures in
-    let has : len < length buffer = let room = c.requires in let some = first.0 in omega arith in
-    record {
-      within = let some = first.0 in omega arith;
-      room = omega arith;
-      same = length-set buffer len _;
-      reads =
-          more_turned true octets (take len buffer) (take len buffer) _ 0 first.0 (unread true octets (take len buffer)) first.1 first.2
-          (take_more_set buffer len _ has ∙ ap (λ meant. take len buffer ++ meant ∷ []) first.3);
-    }
+-- what stopped a run is an escape, if it isn't a flag
+escape_at :
+    (xs : List ℕ) (i n : ℕ) → i + n < length xs → get_or xs (i + n) 0 ≢ FLAG →
+    ((n < length (take (length xs - i) (drop i xs))) →
+    (get_or (take (length xs - i) (drop i xs)) n 0 ≡ FLAG) ⊎ (get_or (take (length xs - i) (drop i xs)) n 0 ≡ ESCAPE)) →
+    get_or xs (i + n) 0 ≡ ESCAPE
+escape_at xs i n below other stop =
+    let rest = drop i xs in
+    let all : take (length xs - i) rest ≡ rest = take_rest xs i in
+    let same : get_or (take (length xs - i) rest) n 0 ≡ get_or xs (i + n) 0 = ap (λ l. get_or l n 0) all ∙ get_or-drop i xs n 0 in
+    let long : length (take (length xs - i) rest) ≡ length xs - i = ap length all ∙ length-drop i xs in
+    elim (stop (omega (arith, long))) [
+      | inl flag ↦ absurd (other (sym same ∙ flag))
+      | inr escape ↦ sym same ∙ escape
+    ]
 
-pub octets-preserved-then-octet-eq-ESCAPE : goal.octets-preserved-then-octet-eq-ESCAPE
-octets-preserved-then-octet-eq-ESCAPE c =
-    let l = c.octets in
+pub returns-then-at-octets-clause-reads : goal.returns-then-at-octets-clause-reads
+returns-then-at-octets-clause-reads c =
     let octets = c.args.octets.now in
-    let next = c.in-Some-turned.ensures in
-    let has : l.end < length l.buffer = let room = l.invariant.room in let same = l.invariant.same in let given = c.requires in let below = c.octets-test.true in omega arith in
-    record {
-      within = let below = next.0 in omega arith;
-      room = let room = l.invariant.room in omega arith;
-      same = length-set l.buffer l.end _ ∙ l.invariant.same;
-      reads =
-          more_pair true octets _ _ _ l.at next.0 l.invariant.reads c.if-octet-eq-ESCAPE.true next.1 next.2
-          (take_more_set l.buffer l.end _ has ∙ ap (λ meant. take l.end l.buffer ++ meant ∷ []) next.3);
-    }
+    let l = c.escapes in
+    let n = c.copy_run-run.result in
+    let next = c.in-Some.ensures in
+    let run = c.copy_run-run.ensures in
+    let has : l.end < length l.buffer = let room = l.invariant.room in let same = l.invariant.same in let below = next.0 in omega arith in
+    let behind : l.end + (1 + n) ≡ l.end + 1 + n = omega arith in
+    more_behind true octets (take (length octets - (l.at + 1)) (drop (l.at + 1) octets)) _ (take l.end l.buffer) _ _ l.at n next.0 l.invariant.reads next.1 next.2
+    (take_more_set l.buffer l.end _ has ∙ ap (λ meant. take l.end l.buffer ++ meant ∷ []) next.3) (take_rest octets (l.at + 1)) run.ordinary
+    (ap (λ k. take k c.copy_run-run.new.buffer) behind ∙ run.copied)
 
-pub octets-preserved-then-quiet-lt-QUIET : goal.octets-preserved-then-quiet-lt-QUIET
-octets-preserved-then-quiet-lt-QUIET c =
-    let l = c.octets in
+pub escapes-preserved : goal.escapes-preserved
+escapes-preserved c =
     let octets = c.args.octets.now in
-    let below = c.octets-test.true in
-    let has : l.end < length l.buffer = let room = l.invariant.room in let same = l.invariant.same in let given = c.requires in omega arith in
+    let l = c.escapes in
+    let n = c.copy_run-run.result in
+    let next = c.in-Some.ensures in
+    let run = c.copy_run-run.ensures in
+    let has : l.end < length l.buffer = let room = l.invariant.room in let same = l.invariant.same in let below = next.0 in omega arith in
+    let behind : l.end + (1 + n) ≡ l.end + 1 + n = omega arith in
+    let short = run.within in
+    let long = length-drop (l.at + 1) octets in
+    let all = ap length (take_rest octets (l.at + 1)) in
+    let at : l.at + 1 + n ≡ l.at + (1 + n) = omega arith in
+    let below : l.at + (1 + n) < length octets = let not_end = c.if-at-octets.false in let some = next.0 in omega (arith, short, long, all) in
+    let P : ℕ → Type 0 = λ k. get_or octets k 0 ≡ ESCAPE in
+    let Q : ℕ → Type 0 = λ k. get_or octets k 0 ≢ FLAG in
     record {
       within = omega arith;
       room = let room = l.invariant.room in omega arith;
-      same = length-set l.buffer l.end _ ∙ l.invariant.same;
+      same = let same = l.invariant.same in omega (arith, length-set l.buffer l.end c.in-Some.meant);
       reads =
-          more_itself true octets _ _ _ l.at below l.invariant.reads c.if-octet-eq-FLAG.false c.if-octet-eq-ESCAPE.false
-          (take_more_set l.buffer l.end _ has);
-    }
-
-pub octets-preserved : goal.octets-preserved
-octets-preserved c =
-    let l = c.octets in
-    let octets = c.args.octets.now in
-    let run = c.copy_run-n.ensures in
-    record {
-      within = let within = run.within in omega arith;
-      room = let room = l.invariant.room in omega arith;
-      same = let same = l.invariant.same in omega arith;
-      reads = more_run true octets (take (length octets - l.at) (drop l.at octets)) _ _ _ l.at c.copy_run-n.result (take_rest octets l.at) run.ordinary l.invariant.reads run.copied;
+          more_escape true octets _ _ (l.at + (1 + n)) below
+          (more_behind true octets (take (length octets - (l.at + 1)) (drop (l.at + 1) octets)) _ (take l.end l.buffer) _ _ l.at n next.0 l.invariant.reads
+          next.1 next.2 (take_more_set l.buffer l.end _ has ∙ ap (λ meant. take l.end l.buffer ++ meant ∷ []) next.3) (take_rest octets (l.at + 1))
+          run.ordinary (ap (λ k. take k c.copy_run-run.new.buffer) behind ∙ run.copied))
+          (subst P at (escape_at octets (l.at + 1) n (omega arith) (subst Q (sym at) c.if-octets-at-eq-FLAG.false) run.stop));
     }

@@ -1,14 +1,15 @@
-use Rattle.std.proofs.Common.{◌≡◌, ◌+◌, ◌-◌, ◌≤◌, false, length, take, true}
+use Rattle.std.proofs.Common.{◌≡◌, ◌+◌, ◌-◌, ◌≤◌, length, take, true}
 use Rattle.hdlc_frame.specs.Steps.{Unescapes}
 use Rattle.hdlc_frame.proofs.unescape.unescape.Given as goal
 
-abbrev pub invariant-octets : goal.invariant-octets
-invariant-octets l = record {
+-- an escape was read last
+abbrev pub invariant-escapes : goal.invariant-escapes
+invariant-escapes l = record {
   within : l.at ≤ length l.octets;
   room : l.end ≤ l.len + l.at;
   same : length l.buffer ≡ length l.fn.buffer;
-  reads : Unescapes true (take l.at l.octets) false (take l.len l.fn.buffer) (take l.end l.buffer);
+  reads : Unescapes true (take l.at l.octets) true (take l.len l.fn.buffer) (take l.end l.buffer);
 }
 
-abbrev pub decreases-octets : goal.decreases-octets
-decreases-octets l = length l.octets - l.at
+abbrev pub decreases-escapes : goal.decreases-escapes
+decreases-escapes l = length l.octets - l.at

@@ -1,9 +1,9 @@
-use Rattle.std.proofs.Common.{◌≡◌, ◌≢◌, ℕ, ◌<◌, ◌-◌, ◌⊎◌, length, get_or, take, drop, ap, inl, inr, arith}
+use Rattle.std.proofs.Common.{◌≡◌, ◌≢◌, ℕ, ◌+◌, ◌<◌, ◌-◌, ◌⊎◌, length, get_or, take, drop, ap, inl, inr, arith}
 use Rattle.std.proofs.lemmas.List.{take_rest}
 use Rattle.hdlc_frame.specs.declared.octets.TheConstants.{ESCAPE, FLAG}
 use Rattle.hdlc_frame.specs.Machine.{reading_at}
 use Rattle.hdlc_frame.proofs.machine.Machine.step.Goals as goal
-use Rattle.hdlc_frame.proofs.Machines.{step_end, step_escape, step_flag, step_whole}
+use Rattle.hdlc_frame.proofs.Machines.{step_end, step_escape, step_flag, step_text, step_whole}
 
 flag_else : (x : ℕ) → (x ≡ FLAG) ⊎ (x ≡ ESCAPE) → x ≢ ESCAPE → x ≡ FLAG
 flag_else x (inl is) other = is
@@ -27,9 +27,15 @@ returns-then-rest-n-eq-ESCAPE-clause-moves c =
     let n = c.ordinary_len-n.result in
     let below : n < length rest = omega (arith, c.ordinary_len-n.ensures.within, c.if-n-rest.false) in
     let later = c.read_run-then-rest-n-eq-ESCAPE.new.buffer in
+    let end = at + n + 1 in
+    let escaped =
     step_escape (reading_at c.args.self.now c.args.buffer.now) (reading_at c.read_run-then-rest-n-eq-ESCAPE.new.self later)
     (reading_at c.read_escape.new.self later) piece rest at n (take_rest piece at) below
     c.if-rest-n-eq-ESCAPE.true c.ordinary_len-n.ensures.ordinary c.read_run-then-rest-n-eq-ESCAPE.ensures.read (c.read_escape.ensures.read later)
+    in
+    step_text (reading_at c.args.self.now c.args.buffer.now) (reading_at c.read_escape.new.self later)
+    (reading_at c.read_text.new.self c.read_text.new.buffer) piece (take (length piece - end) (drop end piece)) at end c.read_text.result (omega arith)
+    (take_rest piece end) escaped c.read_text.ensures.moves
 
 pub returns-then-is_at_start-clause-moves : goal.returns-then-is_at_start-clause-moves
 returns-then-is_at_start-clause-moves c =
