@@ -24,7 +24,8 @@ sys.path.insert(0, os.path.join(TOP, "bench", "plain"))
 import debian
 
 BUILD = os.path.join(TOP, "bench", "build")
-TURNS = 21
+TURNS = 41
+INPUT_LIMIT = 67_108_864
 SERVICE = 0x70F45CFB
 METHODS = [0x8B470EE9, 0xB63613B6, 0x09570BB8, 0x9BA981BC]
 
@@ -101,7 +102,7 @@ def frames_table(program, servers):
     print("|---" * (3 + 2 * len(servers)) + "|")
     commands = [[program, "replay", "raw"], *([server, "raw"] for server in servers)]
     for length in (16, 256, 4096):
-        stream = other_frames(length) * 4
+        stream = other_frames(length)
         path = os.path.join(BUILD, "frames")
         with open(path, "wb") as file:
             file.write(stream)
@@ -123,11 +124,12 @@ def spent_on(command, path):
     return spent() - start
 
 
-# Some 32 MB of frames of random octets for the address 123.
+# Frames of random octets for the address 123, as many as one input may have.
 def other_frames(length):
     rng = random.Random(length)
     heads = (b"\xf7\x03" + rng.randbytes(length) for _ in range((1 << 20) // length))
-    return b"".join(flagged(head + zlib.crc32(head).to_bytes(4, "little")) for head in heads) * 32
+    block = b"".join(flagged(head + zlib.crc32(head).to_bytes(4, "little")) for head in heads)
+    return block * (INPUT_LIMIT // len(block))
 
 
 def flagged(content):
