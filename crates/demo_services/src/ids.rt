@@ -32,8 +32,8 @@ pub const READ: u32 = 0x5b78_66da;
 /// The method Write.
 pub const WRITE: u32 = 0xd463_0586;
 
-#[tactic(auto, unfolding(rpc_ids::specs::Names::name_id))]
 /// Each id is that of its name. The function does nothing: what counts is its contract.
+#[tactic(auto, unfolding(rpc_ids::specs::Names::name_id))]
 pub fn ids_are_of_names()
     ensures demo { DEMO ≡ name_id (codes "demo.Demo") }
     ensures echo { ECHO ≡ name_id (codes "Echo") }

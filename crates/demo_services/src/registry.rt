@@ -7,10 +7,10 @@ ghost use Rattle.demo_services.specs.Methods.{demo_id, demo_method, demo_methods
 use rpc_ids::{AddRefused, Kind, Registry};
 use std::alloc::{AllocError, Global};
 
-#[tactic(auto, unfolding(rpc_ids::specs::Names::name_id))]
 /// A registry of seven methods: the four of the service `demo.Demo`, one of each kind, of which none is told of the time;
 /// Text of `demo.Log`, which has streams both ways; and Read and Write of `pw.transfer.Transfer`, which have streams both
 /// ways and are told of the time.
+#[tactic(auto, unfolding(rpc_ids::specs::Names::name_id))]
 pub fn demo_registry(alloc: Global) -> Result<Registry, AllocError>
     ensures methods { IfOk result (λ registry. registry ≡ demo_methods) }
     ensures found { IfOk result (λ registry. All (λ m. method_of registry m.service m.method ≡ Some m) demo_methods) }

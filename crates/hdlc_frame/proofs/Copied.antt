@@ -31,15 +31,6 @@ ordinary_on done k octets rest er before more =
     subst Q (sym (take-add done k octets))
     (All-append (λ octet. (octet ≢ FLAG) × (octet ≢ ESCAPE)) (take done octets) (take k (drop done octets)) before (subst P er more))
 
-pub stop_on :
-    (done k m : ℕ) (octets rest block : List ℕ) → rest ≡ drop done octets → block ≡ take m rest → k < m →
-    (get_or block k 0 ≡ FLAG) ⊎ (get_or block k 0 ≡ ESCAPE) → (get_or octets (done + k) 0 ≡ FLAG) ⊎ (get_or octets (done + k) 0 ≡ ESCAPE)
-stop_on done k m octets rest block er eb below stop =
-    let same : get_or block k 0 ≡ get_or octets (done + k) 0 =
-    ap (λ l. get_or l k 0) eb ∙ get_or-take m rest k 0 below ∙ ap (λ l. get_or l k 0) er ∙ get_or-drop done octets k 0 in
-    let P : ℕ → Type 0 = λ octet. (octet ≡ FLAG) ⊎ (octet ≡ ESCAPE) in
-    subst P same stop
-
 -- a block that is written over as many octets
 pub over_all : (xs ys : List ℕ) → length xs ≡ length ys → put_chunk 0 xs ys ≡ ys
 over_all [] [] e = refl

@@ -213,14 +213,6 @@ more_taken stream piece rest at n e =
     append_assoc stream (take at piece) (take n rest) ∙ ap (λ l. stream ++ (take at piece ++ take n l)) e ∙
     ap (λ l. stream ++ l) (sym (take-add at n piece))
 
--- more behind what was read
-pub moves_behind :
-    (a b c : Reading) (piece rest : List ℕ) (at n : ℕ) → rest ≡ drop at piece → Moves a b (take at piece) [] → Moves b c (take n rest) [] →
-    Moves a c (take (at + n) piece) []
-moves_behind a b c piece rest at n e m1 m2 =
-    let P : List ℕ → Type 0 = λ l. Moves a c l [] in
-    subst P (ap (λ l. take at piece ++ take n l) e ∙ sym (take-add at n piece)) (moves_then a b c (take at piece) (take n rest) [] m1 m2)
-
 -- a step, and the text behind it
 pub step_text :
     (a b c : Reading) (piece rest : List ℕ) (at end n : ℕ) → at ≤ end → rest ≡ drop end piece → Moves a b (slice_range piece at end) [] →

@@ -44,15 +44,6 @@ snoc_at e e1 e2 xs old middle new added i below u f short en law =
     let P : List ℕ → Type 0 = λ l. Unescapes e l e2 old new in
     subst P (sym (take_more xs i 0 below)) (snoc e e1 e2 (take i xs) old middle new added (get_or xs i 0) u f short en law)
 
-pub unread : (e : Bool) (xs old : List ℕ) → Unescapes e (take 0 xs) e old old
-unread e xs old = record {
-  more = [];
-  grown = sym (append-nil old);
-  few = omega arith;
-  no_flag = All-nil (λ octet. octet ≢ FLAG);
-  told = λ rest. onto_nothing (unescaped e rest);
-}
-
 pub more_escape :
     (e : Bool) (xs old new : List ℕ) (i : ℕ) → i < length xs → Unescapes e (take i xs) false old new → get_or xs i 0 ≡ ESCAPE →
     Unescapes e (take (i + 1) xs) true old new

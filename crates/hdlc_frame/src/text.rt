@@ -51,8 +51,8 @@ fn push_octet(octet: u8, out: &mut Vec<u8>) -> Result<(), AllocError>
     Ok(())
 }
 
-#[tactic(auto, unfolding(crate::specs::Encoded::text_of))]
 /// Writes the text that stands for `content` from `at` on. Answers where it ends, and `None` where `out` is too short.
+#[tactic(auto, unfolding(crate::specs::Encoded::text_of))]
 pub(crate) fn put_text(out: &mut [u8], at: usize, content: &[u8]) -> Option<usize>
     requires { at ≤ length out.old }
     ensures { Lays out.old at (text_of content.now) result out.new }

@@ -22,8 +22,8 @@ use std::alloc::{AllocError, Global};
 use std::sync::Wait;
 use std::thread::Threads;
 
-#[tactic(auto, using(crate::proofs::CallLemmas::limit_fits))]
 /// Connects to the path, opens the call that the words tell, and writes what came of it.
+#[tactic(auto, using(crate::proofs::CallLemmas::limit_fits))]
 pub(crate) fn call<R: Threads + Wait + Sync, O: Sink, S: Store + Send, N: Linker, C: Clock + Send>(
     rt: &R,
     alloc: Global,
@@ -70,8 +70,8 @@ pub(crate) fn call<R: Threads + Wait + Sync, O: Sink, S: Store + Send, N: Linker
     )
 }
 
-#[tactic(auto, using(crate::proofs::CallLemmas::can_open, crate::proofs::CallLemmas::opening_same))]
 // The opening that the words tell.
+#[tactic(auto, using(crate::proofs::CallLemmas::can_open, crate::proofs::CallLemmas::opening_same))]
 fn opening_of(alloc: Global, words: CallWords<'_>) -> Result<Opening, AllocError>
     requires { CanCall words }
     ensures can { IfOk result CanOpen }

@@ -6,8 +6,8 @@ use hex::FromHex;
 use rpc_ids::hash_name;
 use text_fields::strip_word;
 
-#[tactic(auto, using(crate::proofs::MethodIdLemmas::digits_id, crate::proofs::MethodIdLemmas::name_id_of, crate::proofs::MethodIdLemmas::only_digits, crate::proofs::MethodIdLemmas::only_name))]
 /// The id that a word tells: its eight digits behind `0x`, else the hash of the name that it is.
+#[tactic(auto, using(crate::proofs::MethodIdLemmas::digits_id, crate::proofs::MethodIdLemmas::name_id_of, crate::proofs::MethodIdLemmas::only_digits, crate::proofs::MethodIdLemmas::only_name))]
 pub(crate) fn read_id(word: &str) -> Option<u32>
     ensures some { IfSome result (IsId word.now) }
     ensures only { (id : ℕ) → IsId word.now id → result ≡ Some id }

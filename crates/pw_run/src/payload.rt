@@ -8,8 +8,8 @@ use rpc_handlers::MAX_PAYLOAD;
 use std::alloc::{AllocError, Global};
 use text_fields::hex_bytes;
 
-#[tactic(auto, using(crate::proofs::PayloadLemmas::dash_tells, crate::proofs::PayloadLemmas::digits_tell, crate::proofs::PayloadLemmas::other_digits, crate::proofs::PayloadLemmas::tell_digits))]
 /// Whether a word tells a payload.
+#[tactic(auto, using(crate::proofs::PayloadLemmas::dash_tells, crate::proofs::PayloadLemmas::digits_tell, crate::proofs::PayloadLemmas::other_digits, crate::proofs::PayloadLemmas::tell_digits))]
 pub(crate) fn is_payload(word: &str) -> bool
     ensures some { result ≡ true → (bytes : List ℕ) × IsPayload word.now bytes }
     ensures only { (bytes : List ℕ) → IsPayload word.now bytes → result ≡ true }

@@ -30,7 +30,6 @@ use std::alloc::Global;
 use std::sync::Wait;
 use std::thread::Threads;
 
-#[tactic(auto, using(crate::proofs::WordLemmas::not_both, crate::proofs::WordLemmas::call_not_recorded, crate::proofs::WordLemmas::call_not_live, crate::proofs::CallLemmas::can_call, crate::proofs::CallLemmas::call_there, crate::proofs::CallLemmas::call_links))]
 /// Runs the command that the words name, over a source, a sink, a store, a linker and a clock. The recorded commands
 /// are those of [`run_recorded`]; the others work on threads, and may wait. The gate stands at each run of a handler of
 /// theirs.
@@ -41,6 +40,7 @@ use std::thread::Threads;
 /// two paths and lets frames go between the two links by their address. `get`, `put` and `watch` connect to a path,
 /// read a resource into the store, write one out of it, or watch a stream of messages; `call` calls a method by its
 /// names or its ids. The answer is the program's exit status, as [`Outcome::code`](crate::Outcome::code) tells it.
+#[tactic(auto, using(crate::proofs::WordLemmas::not_both, crate::proofs::WordLemmas::call_not_recorded, crate::proofs::WordLemmas::call_not_live, crate::proofs::CallLemmas::can_call, crate::proofs::CallLemmas::call_there, crate::proofs::CallLemmas::call_links))]
 pub fn run<
     R: Threads + Wait + Sync,
     I: Source + Send,

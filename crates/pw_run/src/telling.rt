@@ -18,8 +18,8 @@ use crate::{Outcome, TextCommand};
 use link_io::{Ending, Sink, Source, read_to_limit};
 use std::alloc::{AllocError, Global};
 
-#[tactic(auto, using(crate::proofs::WritesLemmas::up_to_more))]
 /// Reads the input as a text, and writes what this command tells of it. Nothing is written before the end of the text.
+#[tactic(auto, using(crate::proofs::WritesLemmas::up_to_more))]
 pub(crate) fn tell<I: Source, O: Sink>(
     alloc: Global,
     command: TextCommand,

@@ -3,6 +3,7 @@ ghost use Rattle.std.specs.Prelude.{◌≡◌, ◌+◌, ◌<◌, ◌≤◌, ◌^
 ghost use Rattle.std.specs.VecDeque.{deque_len, deque_capacity};
 ghost use Rattle.rpc_calls.specs.Owed.{items_of};
 
+use crate::answer_items::MAX_RUN_ITEMS;
 use crate::owed::Owed;
 use rpc_journal::{Item, Journal};
 use std::alloc::AllocError;
@@ -26,7 +27,8 @@ pub fn take_room(
     ensures places { OnOk result (length items.old.items + items_of calls + more_items ≤ deque_capacity items.new) }
     ensures records { OnOk result (length items.old.items + items_of calls + more_items + (calls.uncancelled + calls.running + 2) + more_entries ≤ journal.new.spare) }
 {
-    let owed = 2 * calls.uncancelled + 513 * calls.running + u64::from(more_items);
+    let in_runs = u64::from(MAX_RUN_ITEMS) * calls.running;
+    let owed = 2 * calls.uncancelled + in_runs + u64::from(more_items);
     make_places(items, owed as usize)?;
     let entries = owed + calls.uncancelled + calls.running + 2 + u64::from(more_entries);
     match entries.checked_add(items.len() as u64) {

@@ -9,9 +9,9 @@ use crate::text::push_tally;
 use link_io::Why;
 use std::alloc::{AllocError, Global};
 
-#[tactic(auto, unfolding(crate::specs::bridge::Printed::bridge_text))]
 /// Tells what a bridge did: a line for each side, the left one first, of how the segments that came from it were counted,
 /// and a last line, which says why the bridge ended. Want of memory has no last line.
+#[tactic(auto, unfolding(crate::specs::bridge::Printed::bridge_text))]
 pub fn bridge_text(alloc: Global, done: Bridged) -> Result<String, AllocError>
     ensures { IfOk result (λ text. string_bytes text ≡ bridge_text done) }
 {

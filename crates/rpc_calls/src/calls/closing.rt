@@ -42,7 +42,7 @@ impl<H: Handler> Calls<H> {
         None
     }
 
-    // Nothing speaks against it.
+    // Closes a channel that is in the list, and ends its live calls.
     fn close_calls(&mut self, seat: u32, channel: u32) -> Result<u32, AllocError>
         requires { refusal_of self.old.setting self.old.entries channel ≡ None }
         ensures did { IfOk result (λ n. CloseDid self.old.setting seat channel (Ok n) self.old.entries self.new.entries) }

@@ -77,7 +77,7 @@ impl<H: Handler> Calls<H> {
         self.calls.live(name).map(|call| call as u32)
     }
 
-    // Nothing speaks against it.
+    // Opens a call whose name no live call has.
     fn open_call(
         &mut self,
         seat: u32,

@@ -55,7 +55,7 @@ impl<H: Handler> Calls<H> {
         }
     }
 
-    // Nothing speaks against it.
+    // Replaces the handler of a call that hasn't ended.
     fn put_handler(
         &mut self,
         seat: u32,

@@ -107,7 +107,7 @@ impl<H: Handler> Calls<H> {
         None
     }
 
-    // Nothing speaks against it.
+    // Says this of a call that may say it.
     fn say_out(&mut self, seat: u32, call: u32, out: Out) -> Result<(), AllocError>
         requires can { CanSay self.old.setting self.old.entries call out }
         requires unrefused { say_refusal self.old.setting self.old.entries call out ≡ None }
@@ -129,7 +129,7 @@ impl<H: Handler> Calls<H> {
         Ok(())
     }
 
-    // Nothing speaks against it.
+    // Completes the stream of a call that has one.
     fn complete(&mut self, seat: u32, call: u32) -> Result<(), AllocError>
         requires can { CanComplete self.old.setting self.old.entries call }
         requires unrefused { done_speaks self.old.setting self.old.entries call ≡ None }

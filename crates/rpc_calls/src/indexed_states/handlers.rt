@@ -96,24 +96,25 @@ pub(super) fn leave_if_done<H: Drop>(calls: &mut CallRecords<H>, kept: &mut Kept
     ensures leaves { LeavesIfDone call calls.old calls.new }
     ensures kept { AreKept kept.old calls.old.places → AreKept kept.new calls.new.places }
 {
-    if is_done(calls, call) {
+    if can_leave(calls, call) {
         calls.leave(call);
         kept.remove(call);
     }
 }
 
 // Whether this call is kept and done with.
-fn is_done<H>(calls: &CallRecords<H>, call: u32) -> bool
+fn can_leave<H>(calls: &CallRecords<H>, call: u32) -> bool
     ensures kept { result ≡ true → is_kept_at (slice_get calls.now.places call) ≡ true }
     ensures done { (r : CallState) → slice_get calls.now.states.calls.items call ≡ Some r → is_kept_at (slice_get calls.now.places call) ≡ true → result ≡ is_done_with r }
 {
     match calls.state(call as usize) {
-        Some(state) => is_done_state(state),
+        Some(state) => has_nothing_left(state),
         None => false,
     }
 }
 
-fn is_done_state(state: &CallState) -> bool
+// Whether it has ended, isn't run and has no event that waits.
+fn has_nothing_left(state: &CallState) -> bool
     ensures { result ≡ is_done_with state.now }
 {
     state.status.is_some() && state.run.is_none() && state.waiting.is_empty()
