@@ -1,5 +1,5 @@
 -- The private steps of a decoder, each as what it makes of the state. No public contract cites them.
-use Rattle.std.specs.Prelude.{◌≡◌, ◌≢◌, ℕ, ◌+◌, ◌-◌, ◌<◌, ◌≤◌, ◌||◌, bit_xor, cond, nat_lt, Bool, true, false, List, [], ◌∷◌, ◌++◌, length, take, drop}
+use Rattle.std.specs.Prelude.{◌≡◌, ◌≢◌, ◌⊎◌, ℕ, ◌+◌, ◌-◌, ◌<◌, ◌≤◌, ◌||◌, bit_xor, cond, nat_lt, Bool, true, false, List, [], ◌∷◌, ◌++◌, length, take, drop}
 use Rattle.std.specs.List.{All}
 use Rattle.std.specs.Option.{option_map}
 use Rattle.hdlc_frame.specs.declared.closed.Closed.{Closed}
@@ -71,6 +71,10 @@ pub record Unescapes (before : Bool) (bytes : List ℕ) (after : Bool) (old new 
   pub no_flag : All (λ octet. octet ≢ FLAG) bytes
   pub told :
       (rest : List ℕ) → unescaped before (bytes ++ rest) ≡ option_map (λ content. more ++ content) (unescaped after rest)
+
+-- the octet at which a text behind an escape ends: a flag, or an escape behind another
+abbrev pub EndsText : ℕ → Phase → Type 0
+EndsText octet phase = (octet ≡ FLAG) ⊎ ((octet ≡ ESCAPE) × (phase ≡ Escaped))
 
 abbrev pub phase_in_text : Bool → Phase
 phase_in_text true = Escaped

@@ -1,10 +1,10 @@
 //! The machine of a decoder: it reads runs of ordinary octets and the flags and escapes between them, and keeps a
 //! segment's content in a buffer that it is handed at each push.
 
-ghost use Rattle.std.specs.Prelude.{◌≡◌, ◌+◌, ◌<◌, ◌≤◌, ◌++◌, [], ℕ, List, length, take, slice_range, IsNone, IsTrue, ◌↔◌, false};
+ghost use Rattle.std.specs.Prelude.{◌≡◌, ◌+◌, ◌<◌, ◌≤◌, ◌++◌, [], ℕ, List, length, take, slice_index, slice_range, IsNone, IsTrue, ◌↔◌, false};
 ghost use Rattle.hdlc_frame.specs.Found.{found};
 ghost use Rattle.hdlc_frame.specs.Machine.{HasRead, reading_at};
-ghost use Rattle.hdlc_frame.specs.Steps.{IsWithin, Moves, after_escape, after_run, begun, closed_by, closed_found, keeping};
+ghost use Rattle.hdlc_frame.specs.Steps.{EndsText, IsWithin, Moves, after_escape, after_run, begun, closed_by, closed_found, keeping};
 ghost use Rattle.hdlc_frame.specs.Told.{LiesWithin, found_told};
 ghost use Rattle.hdlc_frame.specs.declared.phase.Phase.TheVariants.{Escaped, Start};
 
@@ -188,12 +188,14 @@ impl Machine {
         matches!(self.phase, Phase::Escaped) && !self.is_long
     }
 
-    // Behind an escape, reads text as far as it is ordinary or escaped and the buffer has room. Answers how many octets.
+    // Behind an escape of a content that isn't too long, reads text as far as the buffer has room for as many octets, up to a flag or
+    // an escape behind another. Answers how many octets it read.
     #[inline(always)]
     fn read_text(&mut self, buffer: &mut [u8], octets: &[u8]) -> usize
         requires { self.old.len ≤ length buffer.old }
         ensures kept { self.new.len ≤ length buffer.new }
         ensures within { result ≤ length octets.now }
+        ensures stop { self.old.phase ≡ Escaped → self.old.is_long ≡ false → self.old.len + result < length buffer.old → result < length octets.now → EndsText (slice_index octets.now result) self.new.phase }
         ensures moves { Moves (reading_at self.old buffer.old) (reading_at self.new buffer.new) (take result octets.now) [] }
     {
         if !self.is_behind_escape() {
@@ -208,6 +210,7 @@ impl Machine {
         requires short { self.old.is_long ≡ false }
         ensures kept { self.new.len ≤ length buffer.new }
         ensures within { result ≤ length octets.now }
+        ensures stop { self.old.len + result < length buffer.old → result < length octets.now → EndsText (slice_index octets.now result) self.new.phase }
         ensures moves { Moves (reading_at self.old buffer.old) (reading_at self.new buffer.new) (take result octets.now) [] }
     {
         let room = buffer.len() - self.len;

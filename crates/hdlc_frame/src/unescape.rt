@@ -1,6 +1,6 @@
 //! The content that a text between two flags stands for (RFC 1662, section 4.2), where it has escapes.
 
-ghost use Rattle.std.specs.Prelude.{◌≡◌, ◌≢◌, ◌<◌, ◌+◌, ◌≤◌, ◌++◌, ◌⊎◌, bit_xor, get_or, length, slice_index, take, true, IfSome};
+ghost use Rattle.std.specs.Prelude.{◌≡◌, ◌≢◌, ◌<◌, ◌+◌, ◌≤◌, ◌++◌, ◌⊎◌, bit_xor, get_or, length, slice_index, take, true, IfSome, IsNone};
 ghost use Rattle.hdlc_frame.specs.Steps.{IsOrdinary, Unescapes};
 
 use crate::octets::{BLOCK, ESCAPE, ESCAPE_BIT, FLAG, mark_in, needs_escape, ordinary_len};
@@ -13,6 +13,7 @@ pub(crate) fn unescape(buffer: &mut [u8], len: usize, octets: &[u8]) -> (usize, 
     requires room { len + length octets.now ≤ length buffer.old }
     ensures within { result.0 ≤ length octets.now }
     ensures kept { result.1 ≤ length buffer.new }
+    ensures stop { result.0 < length octets.now → (slice_index octets.now result.0 ≡ FLAG) ⊎ ((slice_index octets.now result.0 ≡ ESCAPE) × (result.2 ≡ true)) }
     ensures reads { Unescapes true (take result.0 octets.now) result.2 (take len buffer.old) (take result.1 buffer.new) }
 {
     let mut at = 0;
@@ -33,7 +34,8 @@ pub(crate) fn unescape(buffer: &mut [u8], len: usize, octets: &[u8]) -> (usize, 
 // What the octet at `at` stands for behind an escape. There is none at the end, and a flag and an escape stand for nothing.
 #[inline(always)]
 fn turned(octets: &[u8], at: usize) -> Option<u8>
-    ensures { IfSome result (λ meant. (at < length octets.now) × (get_or octets.now at 0 ≢ FLAG) × (get_or octets.now at 0 ≢ ESCAPE) × (meant ≡ bit_xor (get_or octets.now at 0) ESCAPE_BIT)) }
+    ensures some { IfSome result (λ meant. (at < length octets.now) × (get_or octets.now at 0 ≢ FLAG) × (get_or octets.now at 0 ≢ ESCAPE) × (meant ≡ bit_xor (get_or octets.now at 0) ESCAPE_BIT)) }
+    ensures none { IsNone result → at < length octets.now → (slice_index octets.now at ≡ FLAG) ⊎ (slice_index octets.now at ≡ ESCAPE) }
 {
     if at >= octets.len() || needs_escape(octets[at]) {
         return None;

@@ -25,7 +25,7 @@ returns-then-at-octets-clause-reads c =
     let octets = c.args.octets.now in
     let l = c.escapes in
     let n = c.copy_run-run.result in
-    let next = c.in-Some.ensures in
+    let next = c.in-Some.ensures.some in
     let run = c.copy_run-run.ensures in
     let has : l.end < length l.buffer = let room = l.invariant.room in let same = l.invariant.same in let below = next.0 in omega arith in
     let behind : l.end + (1 + n) ≡ l.end + 1 + n = omega arith in
@@ -38,7 +38,7 @@ escapes-preserved c =
     let octets = c.args.octets.now in
     let l = c.escapes in
     let n = c.copy_run-run.result in
-    let next = c.in-Some.ensures in
+    let next = c.in-Some.ensures.some in
     let run = c.copy_run-run.ensures in
     let has : l.end < length l.buffer = let room = l.invariant.room in let same = l.invariant.same in let below = next.0 in omega arith in
     let behind : l.end + (1 + n) ≡ l.end + 1 + n = omega arith in
