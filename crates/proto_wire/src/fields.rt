@@ -40,8 +40,8 @@ impl<'a> Model for Fields<'a> {
 }
 
 impl<'a> Fields<'a> {
-    #[tactic(auto, unfolding(crate::specs::Reading::unread))]
     /// The fields of the message in these bytes.
+    #[tactic(auto, unfolding(crate::specs::Reading::unread))]
     pub fn new(bytes: &'a [u8]) -> Fields<'a>
         ensures start { result ≡ record { left = bytes.now; at = 0; failed = false } }
         ensures unread { unread result ≡ fields_of bytes.now }

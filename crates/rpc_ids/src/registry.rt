@@ -48,8 +48,8 @@ impl Registry {
         }
     }
 
-    #[tactic(auto, using(crate::proofs::RegistryLemmas::others_are_found))]
     /// Adds a method by its ids, of which no name need be known.
+    #[tactic(auto, using(crate::proofs::RegistryLemmas::others_are_found))]
     pub fn insert(&mut self, row: MethodRef) -> Result<(), AddRefused>
         ensures inserted { OnOk result (self.new ≡ self.old ++ row ∷ []) }
         ensures clash { (result ≡ Err AddRefused.Clash) ↔ IsSome (method_of self.old row.service row.method) }
