@@ -3,8 +3,8 @@ ghost use Rattle.std.specs.Prelude.{◌≡◌, false};
 
 mod checks;
 mod devices;
+mod input_limit;
 mod journal_limit;
-mod limits;
 mod listing;
 mod uploads;
 mod uploads_served;

@@ -8,6 +8,7 @@ mod client;
 mod client_desk;
 mod closing;
 mod desk;
+mod journal_limit;
 mod letters;
 mod limits;
 mod many;

@@ -1,7 +1,8 @@
 //! What is told of the runs of scripts, as texts.
 
 mod desk;
-mod limits;
+mod frame_limit;
+mod journal_limit;
 mod losses;
 mod plain;
 mod repeats;

@@ -1,4 +1,4 @@
-//! Scripts of which a run meets a limit, or comes near it.
+//! Scripts of which a run meets the limit of frames, or comes near it.
 
 use super::desk::{ends, tells, told};
 use std::alloc::{AllocError, Global};
@@ -22,21 +22,6 @@ fn push_long_chat(text: &mut String) -> Result<(), AllocError> {
     Ok(())
 }
 
-// Requests that come too late leave 2,000 calls of Read open at the server, and each moment runs them all.
-fn many_open_calls(alloc: Global) -> Result<String, AllocError> {
-    let mut text = String::new(alloc);
-    for read in 0..2_000_u32 {
-        writeln!(text, "swap {}", read.saturating_mul(3).saturating_add(1))?;
-    }
-    for frame in 6_002..6_282 {
-        writeln!(text, "drop {frame}")?;
-    }
-    for _ in 0..2_070 {
-        text.push_str("read 7 0\n")?;
-    }
-    Ok(text)
-}
-
 #[test]
 fn twelve_long_chats_come_to_their_end(rt: HostRuntime) -> Result<(), Fail> {
     let text = told(rt.alloc(), long_chats(rt.alloc(), 12)?.as_str())?;
@@ -52,12 +37,5 @@ fn twelve_long_chats_come_to_their_end(rt: HostRuntime) -> Result<(), Fail> {
 fn thirteen_long_chats_meet_the_limit_of_frames(rt: HostRuntime) -> Result<(), Fail> {
     let script = long_chats(rt.alloc(), 13)?;
     tells(&rt, rt.alloc(), script.as_str(), "limit frames")?;
-    Ok(())
-}
-
-#[test]
-fn many_open_calls_fill_a_journal(rt: HostRuntime) -> Result<(), Fail> {
-    let script = many_open_calls(rt.alloc())?;
-    tells(&rt, rt.alloc(), script.as_str(), "limit journal")?;
     Ok(())
 }
