@@ -1,5 +1,5 @@
 -- Laws on lists of resources.
-use Rattle.std.proofs.Common.{◌≡◌, refl, ap, List, [], ◌∷◌}
+use Rattle.std.proofs.Common.{◌≡◌, refl, ap, [], ◌∷◌}
 use Rattle.std.specs.Map.{keys_of}
 use Rattle.link_io.specs.Resources.{Resources, lengths_of}
 

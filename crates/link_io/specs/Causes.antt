@@ -1,5 +1,5 @@
 -- Counts of faults: what a failure does to the count of the device that failed.
-use Rattle.std.specs.Prelude.{◌≡◌, ℕ, ◌+◌, ◌-◌, ◌^◌, ◌≤◌, min, Result, Ok, Err, OnErr, MatchResult}
+use Rattle.std.specs.Prelude.{◌≡◌, ℕ, ◌+◌, ◌-◌, ◌^◌, ◌≤◌, min, Result, Err, OnErr, MatchResult}
 use Rattle.link_io.specs.declared.store.StoreRefused.{StoreRefused}
 use Rattle.link_io.specs.declared.store.StoreRefused.TheVariants.{Failed, Memory}
 

@@ -19,12 +19,13 @@ type Place = (u64, u64);
 
 impl<'a, R: Net + Files> Bound<'a, R> {
     /// Listens at a path. A socket that nobody listens at makes way for the new one.
+    /// A file stands there only once it can be connected to.
     pub(crate) fn new(alloc: Global, rt: &'a R, path: &str) -> io::Result<Bound<'a, R>> {
         let copy = String::from_str(alloc, path)?;
         if is_left_over(rt, path) {
             fs::remove_file(rt, path)?;
         }
-        let listener = UnixListener::bind(rt, path)?;
+        let listener = listener_at(alloc, rt, path)?;
         Ok(Bound {
             rt,
             path: copy,
@@ -53,6 +54,22 @@ impl<'a, R: Net + Files> Drop for Bound<'a, R> {
         if made.is_some() && place_of(rt, path.as_str()) == made {
             let _ = fs::remove_file(rt, &path);
         }
+    }
+}
+
+// The system makes a socket's file before anybody listens at it. So it is made beside the path, and gets its name when it listens.
+// Where that can't be, or a file stands at the path, the system is asked for the path itself.
+fn listener_at(alloc: Global, rt: &(impl Net + Files), path: &str) -> io::Result<UnixListener> {
+    let pid = libc::getpid();
+    let aside = format!(in alloc; "{path}.{pid}")?;
+    let Ok(listener) = UnixListener::bind(rt, &aside) else {
+        return UnixListener::bind(rt, path);
+    };
+    let named = fs::hard_link(rt, &aside, path);
+    fs::remove_file(rt, &aside)?;
+    match named {
+        Ok(()) => Ok(listener),
+        Err(_) => UnixListener::bind(rt, path),
     }
 }
 
