@@ -1,22 +1,11 @@
 -- What a run of `dump` read and wrote.
-use Rattle.std.specs.Prelude.{◌≡◌, ℕ, List, [], ◌∷◌, ◌++◌, codes, Option}
+use Rattle.std.specs.Prelude.{◌≡◌, ℕ, List, ◌++◌, Option}
 use Rattle.link_io.specs.declared.why.Why.{Why}
 use Rattle.stream_dump.specs.Dumps.{Dumps}
 use Rattle.stream_dump.specs.Ends.{IsEnding}
-use Rattle.stream_dump.specs.Names.{Name}
+use Rattle.stream_dump.specs.Names.{Name, known_names}
 use Rattle.pw_run.specs.declared.outcome.Outcome.{Outcome}
 use Rattle.pw_run.specs.Outcome.{outcome_for}
-
--- the methods that the program knows
-abbrev pub known_names : List Name
-known_names =
-    record { service = codes "demo.Demo"; method = codes "Echo" } ∷
-    record { service = codes "demo.Demo"; method = codes "Count" } ∷
-    record { service = codes "demo.Demo"; method = codes "Sum" } ∷
-    record { service = codes "demo.Demo"; method = codes "Chat" } ∷
-    record { service = codes "demo.Log"; method = codes "Text" } ∷
-    record { service = codes "pw.transfer.Transfer"; method = codes "Read" } ∷
-    record { service = codes "pw.transfer.Transfer"; method = codes "Write" } ∷ []
 
 -- The input was dumped, with these names in front of those that the program knows, and the outcome is that of the reason for which
 -- that ended, which is no want of memory.

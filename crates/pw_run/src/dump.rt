@@ -10,39 +10,7 @@ ghost use Rattle.pw_run.specs.Outcome.{IsSilent};
 
 use crate::Outcome;
 use link_io::{Sink, Source};
-use stream_dump::{MethodName, MethodNames};
-
-// The methods that the program knows.
-const KNOWN: &[MethodName<'static>] = &[
-    MethodName {
-        service: b"demo.Demo",
-        method: b"Echo",
-    },
-    MethodName {
-        service: b"demo.Demo",
-        method: b"Count",
-    },
-    MethodName {
-        service: b"demo.Demo",
-        method: b"Sum",
-    },
-    MethodName {
-        service: b"demo.Demo",
-        method: b"Chat",
-    },
-    MethodName {
-        service: b"demo.Log",
-        method: b"Text",
-    },
-    MethodName {
-        service: b"pw.transfer.Transfer",
-        method: b"Read",
-    },
-    MethodName {
-        service: b"pw.transfer.Transfer",
-        method: b"Write",
-    },
-];
+use stream_dump::MethodNames;
 
 /// Tells what is in the input, with the names of these methods and of those that the program knows. Each line is written as soon as
 /// its segment was read, and no memory is taken.
@@ -64,6 +32,6 @@ pub(crate) fn dump<I: Source, O: Sink>(
     ensures source_later { I.faults input.old ≤ I.faults input.new }
     ensures sink_later { O.faults output.old ≤ O.faults output.new }
 {
-    names.add(KNOWN);
+    names.add_known();
     Outcome::of_session(stream_dump::dump(names.as_slice(), input, output))
 }

@@ -1,5 +1,5 @@
 -- What services and methods are called, where their ids are known.
-use Rattle.std.specs.Prelude.{ℕ, ◌==◌, ◌&&◌, Bool, List, map, find}
+use Rattle.std.specs.Prelude.{ℕ, ◌==◌, ◌&&◌, Bool, List, [], ◌∷◌, codes, map, find}
 use Rattle.std.specs.Int.{to_be_bytes, w32}
 use Rattle.std.specs.Option.{option_map_or}
 use Rattle.hex.specs.Hex.{encode_lower}
@@ -36,3 +36,14 @@ service_text names service = option_map_or (λ n. n.service) (find (has_service 
 -- the first of these names with both ids, else the digits of the method's
 abbrev pub method_text : List Name → ℕ → ℕ → List ℕ
 method_text names service method = option_map_or (λ n. n.method) (find (has_ids service method) names) (id_text method)
+
+-- the methods that the program knows
+abbrev pub known_names : List Name
+known_names =
+    record { service = codes "demo.Demo"; method = codes "Echo" } ∷
+    record { service = codes "demo.Demo"; method = codes "Count" } ∷
+    record { service = codes "demo.Demo"; method = codes "Sum" } ∷
+    record { service = codes "demo.Demo"; method = codes "Chat" } ∷
+    record { service = codes "demo.Log"; method = codes "Text" } ∷
+    record { service = codes "pw.transfer.Transfer"; method = codes "Read" } ∷
+    record { service = codes "pw.transfer.Transfer"; method = codes "Write" } ∷ []

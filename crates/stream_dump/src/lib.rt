@@ -8,6 +8,7 @@ mod counting;
 mod dumper;
 mod dumping;
 mod ids;
+mod known;
 pub mod laws;
 mod named;
 mod names;

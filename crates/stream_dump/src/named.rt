@@ -2,9 +2,10 @@
 ghost use Rattle.std.specs.Prelude.{◌≡◌, ◌+◌, ◌≤◌, ◌++◌, ℕ, List, length, map, string_bytes, IfSome, IsSomeAnd, Some};
 ghost use Rattle.std.specs.List.{list_all};
 ghost use Rattle.stream_dump.specs.Named.{AreNamed, IsNamed, is_name, is_name_octet};
-ghost use Rattle.stream_dump.specs.Names.{Name, name_of, names_of};
+ghost use Rattle.stream_dump.specs.Names.{Name, known_names, name_of, names_of};
 
 use crate::MethodName;
+use crate::known::KNOWN;
 use arrayvec::ArrayVec;
 use std::marker::Model;
 use text_fields::split_at;
@@ -50,8 +51,16 @@ impl<'a> MethodNames<'a> {
         Some(MethodNames { names })
     }
 
-    /// Adds these methods behind those that are there.
-    pub fn add(&mut self, more: &[MethodName<'a>])
+    /// Adds those that the program knows: of the services that it serves, and of transfers.
+    pub fn add_known(&mut self)
+        requires { length self.old ≤ MAX_NAMED }
+        ensures { self.new ≡ self.old ++ known_names }
+    {
+        self.add(KNOWN);
+    }
+
+    // Adds these methods behind those that are there.
+    fn add(&mut self, more: &[MethodName<'a>])
         requires { length self.old + length more.now ≤ MAX_NAMES }
         ensures { self.new ≡ self.old ++ names_of more.now }
     {

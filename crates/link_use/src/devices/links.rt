@@ -155,7 +155,9 @@ fn listen_row<R: Net + Files + AllocGlobal + Abort>(
 
 #[test]
 fn two_ends_of_a_socket_meet(rt: HostRuntime) -> Result<(), Fail> {
-    let path = path_of(&rt, "link-io-socket")?;
+    let folder = path_of(&rt, "link-io-socket")?;
+    fs::create_dir(&rt, &folder)?;
+    let path = format!(in rt.alloc(); "{folder}/socket")?;
     let mut linker = UnixLinker::new(rt.alloc(), &rt);
     linker.listen(&path)?;
     // A file is there now, so that a second one can't listen at the path.
@@ -163,7 +165,27 @@ fn two_ends_of_a_socket_meet(rt: HostRuntime) -> Result<(), Fail> {
     let mut client = UnixLinker::new(rt.alloc(), &rt);
     both_ways(&rt, &path, &mut linker, &mut client)?;
     drop(linker);
-    is_there(&rt, &path, false)
+    // It goes with its listener, and no other file was left beside it.
+    is_there(&rt, &path, false)?;
+    fs::remove_dir(&rt, &folder)?;
+    Ok(())
+}
+
+// A path of at least so many bytes, at which nothing stands.
+fn long_path(rt: &HostRuntime, length: usize) -> Result<String, Fail> {
+    let mut path = path_of(rt, "link-io-long")?;
+    for _ in path.len()..length {
+        path.push('x')?;
+    }
+    Ok(path)
+}
+
+#[test]
+fn a_socket_has_a_path_of_107_bytes_at_most(rt: HostRuntime) -> Result<(), Fail> {
+    listen_row(&rt, &long_path(&rt, 100)?, Ok(()));
+    listen_row(&rt, &long_path(&rt, 107)?, Ok(()));
+    listen_row(&rt, &long_path(&rt, 108)?, Err(Failed));
+    Ok(())
 }
 
 // A listener of the system leaves its file, which makes way.

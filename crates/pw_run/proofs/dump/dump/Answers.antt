@@ -12,5 +12,5 @@ returns-clause-did g c =
       ending = c.dump.ensures.endings;
       dumps =
           subst (λ names. Dumps names (left c.args.input.now) (left c.dump.new.input) (written c.args.output.now) (written c.dump.new.output) c.dump.result)
-          (c.as_slice.ensures ∙ c.add.ensures) c.dump.ensures.dumps;
+          (c.as_slice.ensures ∙ c.add_known.ensures) c.dump.ensures.dumps;
     }
