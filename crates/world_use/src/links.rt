@@ -32,32 +32,44 @@ fn brings(
     Ok(())
 }
 
-#[test]
-fn a_frame_that_is_kept_back_comes_behind_the_next_one(rt: HostRuntime) -> Result<(), Fail> {
-    let alloc = rt.alloc();
-    let mut link = LossyLink::new(alloc);
-    link.put(Some(Loss::Swap), frame(alloc, b"a")?)?;
-    link.put(Some(Loss::Lose), frame(alloc, b"b")?)?;
-    is_so(&rt, "nothing is on the link", link.is_empty());
-    link.put(Some(Loss::Swap), frame(alloc, b"c")?)?;
-    link.put(Some(Loss::Repeat), frame(alloc, b"d")?)?;
-    brings(&rt, alloc, &mut link, b"d")?;
-    brings(&rt, alloc, &mut link, b"d")?;
-    brings(&rt, alloc, &mut link, b"c")?;
-    brings(&rt, alloc, &mut link, b"a")?;
-    is_so(&rt, "nothing is left", link.take_frame().is_none());
+// The frame is put on the link, with this loss.
+fn puts(alloc: Global, link: &mut LossyLink, loss: Loss, bytes: &[u8]) -> Result<(), AllocError> {
+    link.put(Some(loss), frame(alloc, bytes)?)
+}
+
+// Two frames are kept back, the second behind one that is lost.
+fn keeps_two_back(rt: &impl Abort, alloc: Global, link: &mut LossyLink) -> Result<(), AllocError> {
+    puts(alloc, link, Loss::Swap, b"a")?;
+    puts(alloc, link, Loss::Lose, b"b")?;
+    is_so(rt, "nothing is on the link", link.is_empty());
+    puts(alloc, link, Loss::Swap, b"c")?;
+    puts(alloc, link, Loss::Repeat, b"d")?;
+    brings(rt, alloc, link, b"d")?;
+    brings(rt, alloc, link, b"d")?;
+    brings(rt, alloc, link, b"c")?;
+    brings(rt, alloc, link, b"a")?;
+    is_so(rt, "nothing is left", link.take_frame().is_none());
     Ok(())
 }
 
 #[test]
+fn a_frame_that_is_kept_back_comes_behind_the_next_one(rt: HostRuntime) -> Result<(), Fail> {
+    let mut link = LossyLink::new(rt.alloc());
+    Ok(keeps_two_back(&rt, rt.alloc(), &mut link)?)
+}
+
+// A bit of each of two frames is turned over.
+fn turns_two_over(rt: &impl Abort, alloc: Global, link: &mut LossyLink) -> Result<(), AllocError> {
+    puts(alloc, link, Loss::Flip(9), b"\x00\x00")?;
+    puts(alloc, link, Loss::Flip(16), b"\x00\x00")?;
+    brings(rt, alloc, link, b"\x00\x02")?;
+    brings(rt, alloc, link, b"\x01\x00")
+}
+
+#[test]
 fn a_bit_is_turned_over_modulo_the_bits_of_the_frame(rt: HostRuntime) -> Result<(), Fail> {
-    let alloc = rt.alloc();
-    let mut link = LossyLink::new(alloc);
-    link.put(Some(Loss::Flip(9)), frame(alloc, b"\x00\x00")?)?;
-    link.put(Some(Loss::Flip(16)), frame(alloc, b"\x00\x00")?)?;
-    brings(&rt, alloc, &mut link, b"\x00\x02")?;
-    brings(&rt, alloc, &mut link, b"\x01\x00")?;
-    Ok(())
+    let mut link = LossyLink::new(rt.alloc());
+    Ok(turns_two_over(&rt, rt.alloc(), &mut link)?)
 }
 
 const LOSSES: &[(u32, Loss)] = &[(2, Loss::Lose), (7, Loss::Flip(3))];
@@ -75,11 +87,15 @@ fn a_loss_is_found_by_its_number(rt: HostRuntime) -> Result<(), Fail> {
     Ok(())
 }
 
+// A frame that is kept back goes on the link.
+fn releases_one(rt: &impl Abort, alloc: Global, link: &mut LossyLink) -> Result<(), AllocError> {
+    puts(alloc, link, Loss::Swap, b"a")?;
+    link.release()?;
+    brings(rt, alloc, link, b"a")
+}
+
 #[test]
 fn what_is_kept_back_is_released(rt: HostRuntime) -> Result<(), Fail> {
     let mut link = LossyLink::new(rt.alloc());
-    link.put(Some(Loss::Swap), frame(rt.alloc(), b"a")?)?;
-    link.release()?;
-    brings(&rt, rt.alloc(), &mut link, b"a")?;
-    Ok(())
+    Ok(releases_one(&rt, rt.alloc(), &mut link)?)
 }

@@ -1,9 +1,12 @@
 //! A server between things that come to it, and what a store begins with.
 
+ghost use Rattle.link_world.specs.server.ServerSide.{ServerRests};
+
 use crate::checks::{bytes_are, count_is, is_so};
 use bytes::Bytes;
 use link_script::{Loss, Stock};
-use link_world::server::{ServerEnd, Wires, lengths, stock_bytes, store_of};
+use link_world::server::{ServerEnd, Stopped, Wires, lengths, stock_bytes, store_of};
+use std::alloc::AllocError;
 use std::process::Abort;
 use std::test::Fail;
 use transfer_base::Tuning;
@@ -29,20 +32,31 @@ fn frame_is(rt: &impl Abort, frame: Option<Bytes>, wanted: &[u8]) {
     }
 }
 
+// One answer went out, and another one was lost.
+fn one_answer_goes_out(rt: &impl Abort, wires: &mut Wires) -> Result<(), AllocError> {
+    count_is(rt, "frames", wires.frames(), 2);
+    count_is(rt, "chunks", wires.chunks(), 0);
+    frame_is(rt, wires.take_for_client(), ECHO_RESPONSE);
+    is_so(rt, "none to the client", wires.to_client().is_empty());
+    is_so(rt, "none to the server", wires.to_server().is_empty());
+    is_so(rt, "no frame", wires.take_for_server().is_none());
+    wires.release()
+}
+
+fn request_twice(server: &mut ServerEnd, wires: &mut Wires) -> Result<(), Stopped>
+    requires { ServerRests server.old }
+{
+    server.deliver(ECHO_REQUEST, wires)?;
+    server.deliver(ECHO_REQUEST, wires)
+}
+
 #[test]
 fn a_request_is_answered_once_and_its_answer_lost(rt: HostRuntime) -> Result<(), Fail> {
     let store = store_of(rt.alloc(), &[], &[])?;
     let mut server = ServerEnd::new(rt.alloc(), store, TUNING)?;
     let mut wires = Wires::new(rt.alloc(), &[(2, Loss::Lose)])?;
-    server.deliver(ECHO_REQUEST, &mut wires)?;
-    server.deliver(ECHO_REQUEST, &mut wires)?;
-    count_is(&rt, "frames", wires.frames(), 2);
-    count_is(&rt, "chunks", wires.chunks(), 0);
-    frame_is(&rt, wires.take_for_client(), ECHO_RESPONSE);
-    is_so(&rt, "none to the client", wires.to_client().is_empty());
-    is_so(&rt, "none to the server", wires.to_server().is_empty());
-    is_so(&rt, "no frame", wires.take_for_server().is_none());
-    wires.release()?;
+    request_twice(&mut server, &mut wires)?;
+    one_answer_goes_out(&rt, &mut wires)?;
     Ok(())
 }
 
@@ -51,15 +65,22 @@ fn closes(rt: &impl Abort, open: Option<u32>, wanted: Option<u32>) {
     assert_eq!(rt; open, wanted);
 }
 
+// A channel is closed twice, and the end of input comes behind a tick.
+fn close_twice(rt: &impl Abort, server: &mut ServerEnd, wires: &mut Wires) -> Result<(), Stopped>
+    requires { ServerRests server.old }
+{
+    closes(rt, server.close_channel(1, wires)?, Some(0));
+    closes(rt, server.close_channel(1, wires)?, None);
+    server.tick(2_000, wires)?;
+    server.end_in(wires)
+}
+
 #[test]
 fn a_channel_is_closed_once(rt: HostRuntime) -> Result<(), Fail> {
     let store = store_of(rt.alloc(), &[], &[])?;
     let mut server = ServerEnd::new(rt.alloc(), store, TUNING)?;
     let mut wires = Wires::new(rt.alloc(), &[])?;
-    closes(&rt, server.close_channel(1, &mut wires)?, Some(0));
-    closes(&rt, server.close_channel(1, &mut wires)?, None);
-    server.tick(2_000, &mut wires)?;
-    server.end_in(&mut wires)?;
+    close_twice(&rt, &mut server, &mut wires)?;
     let (journal, _) = server.into_parts();
     count_is(&rt, "entries", journal.len() as u64, 3);
     Ok(())

@@ -1,6 +1,10 @@
 //! Calls that are no transfers.
 
-use super::desk::{Pair, begin, empty_store, exchange};
+ghost use Rattle.link_world.specs.client.ClientSide.{Attends, ClientRests};
+ghost use Rattle.link_world.specs.server.ServerSide.{ServerRests};
+
+use super::desk::Begins::Empty;
+use super::desk::{Pair, begin, exchange};
 use crate::checks::{bytes_are, count_is, end_is, is_so};
 use bytes::Bytes;
 use link_script::Command;
@@ -32,41 +36,49 @@ fn calls(rt: &impl Abort, under: &Option<Under>, wanted: Plain, number: u64) {
     }
 }
 
+// The one call is answered by one message.
+fn echoes(rt: &impl Abort, pair: &mut Pair) -> Result<(), Fail>
+    requires rest { ClientRests pair.old.client }
+    requires attends { Attends pair.old.client pair.old.under 0 }
+    requires server { ServerRests pair.old.server }
+{
+    end_is(rt, pair.client.end_of(0), None);
+    exchange(pair, 0)?;
+    end_is(rt, pair.client.end_of(0), Some(Status::Okay));
+    count_is(rt, "messages", pair.client.messages(0), 1);
+    begins(rt, pair, b"abc")?;
+    count_is(rt, "frames", pair.wires.frames(), 2);
+    Ok(())
+}
+
 #[test]
 fn an_echo_is_answered(rt: HostRuntime) -> Result<(), Fail> {
-    let alloc = rt.alloc();
     let echo = Command::Echo(Bytes::from_static(b"abc"));
-    let mut pair = begin(alloc, empty_store(alloc)?, empty_store(alloc)?, &[], &echo)?;
-    end_is(&rt, pair.client.end_of(0), None);
-    exchange(&mut pair, 0)?;
-    end_is(&rt, pair.client.end_of(0), Some(Status::Okay));
-    count_is(&rt, "messages", pair.client.messages(0), 1);
-    begins(&rt, &pair, b"abc")?;
-    count_is(&rt, "frames", pair.wires.frames(), 2);
-    Ok(())
+    let mut pair = begin(rt.alloc(), Empty, Empty, &[], &echo)?;
+    echoes(&rt, &mut pair)
+}
+
+// The one call is answered by a message for each of two.
+fn chats(rt: &impl Abort, pair: &mut Pair) -> Result<(), Fail>
+    requires rest { ClientRests pair.old.client }
+    requires attends { Attends pair.old.client pair.old.under 0 }
+    requires server { ServerRests pair.old.server }
+{
+    exchange(pair, 0)?;
+    count_is(rt, "messages", pair.client.messages(0), 2);
+    Ok(begins(rt, pair, b"a")?)
 }
 
 #[test]
 fn a_chat_answers_each_message(rt: HostRuntime) -> Result<(), Fail> {
-    let alloc = rt.alloc();
     let chat = Command::Chat(Bytes::from_static(b"ab"));
-    let mut pair = begin(alloc, empty_store(alloc)?, empty_store(alloc)?, &[], &chat)?;
-    exchange(&mut pair, 0)?;
-    count_is(&rt, "messages", pair.client.messages(0), 2);
-    begins(&rt, &pair, b"a")?;
-    Ok(())
+    let mut pair = begin(rt.alloc(), Empty, Empty, &[], &chat)?;
+    chats(&rt, &mut pair)
 }
 
 #[test]
 fn a_count_is_under_way_and_its_link_ends(rt: HostRuntime) -> Result<(), Fail> {
-    let alloc = rt.alloc();
-    let mut pair = begin(
-        alloc,
-        empty_store(alloc)?,
-        empty_store(alloc)?,
-        &[],
-        &Command::Count(3),
-    )?;
+    let mut pair = begin(rt.alloc(), Empty, Empty, &[], &Command::Count(3))?;
     calls(&rt, &pair.under, Plain::Count, 0);
     pair.client.end_in(0, &mut pair.wires)?;
     let (journal, _) = pair.client.into_parts();
@@ -74,17 +86,23 @@ fn a_count_is_under_way_and_its_link_ends(rt: HostRuntime) -> Result<(), Fail> {
     Ok(())
 }
 
-#[test]
-fn a_sum_is_cancelled(rt: HostRuntime) -> Result<(), Fail> {
-    let alloc = rt.alloc();
-    let sum = Command::Sum(Bytes::from_static(b"ab"));
-    let mut pair = begin(alloc, empty_store(alloc)?, empty_store(alloc)?, &[], &sum)?;
+// The one call is cancelled, which the server is told.
+fn cancels(rt: &impl Abort, pair: &mut Pair) -> Result<(), Fail>
+    requires rest { ClientRests pair.old.client }
+{
     let frames = pair.wires.frames();
     // What `cancel` asks for.
     assert!(rt; pair.client.name(0).is_some());
     assert!(rt; pair.client.end_of(0).is_none());
     pair.client.cancel(0, 0, &mut pair.wires)?;
-    end_is(&rt, pair.client.end_of(0), Some(Status::Cancelled));
-    count_is(&rt, "frames", pair.wires.frames(), frames + 1);
+    end_is(rt, pair.client.end_of(0), Some(Status::Cancelled));
+    count_is(rt, "frames", pair.wires.frames(), frames.saturating_add(1));
     Ok(())
+}
+
+#[test]
+fn a_sum_is_cancelled(rt: HostRuntime) -> Result<(), Fail> {
+    let sum = Command::Sum(Bytes::from_static(b"ab"));
+    let mut pair = begin(rt.alloc(), Empty, Empty, &[], &sum)?;
+    cancels(&rt, &mut pair)
 }

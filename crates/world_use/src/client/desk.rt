@@ -30,41 +30,44 @@ pub struct Pair {
     pub sessions: u32,
 }
 
-/// A store without a resource.
-pub fn empty_store(alloc: Global) -> Result<WorldStore, Fail>
-    ensures { IfOk result (λ store. AreSmall store.full) }
-{
-    Ok(store_of(alloc, &[], &[])?)
+/// What a store begins with.
+#[derive(Clone, Copy)]
+pub enum Begins {
+    Empty,
+    /// With resource 7, of 1,000 bytes.
+    Filled,
 }
 
-/// A store with resource 7, of 1,000 bytes.
-pub fn filled_store(alloc: Global) -> Result<WorldStore, Fail>
+const STOCK: Stock = Stock {
+    id: 7,
+    len: 1_000,
+    seed: 1,
+};
+
+fn store(alloc: Global, begins: Begins) -> Result<WorldStore, Fail>
     ensures { IfOk result (λ store. AreSmall store.full) }
 {
-    let stock = Stock {
-        id: 7,
-        len: 1_000,
-        seed: 1,
-    };
-    Ok(store_of(alloc, &[stock], &[])?)
+    Ok(match begins {
+        Begins::Empty => store_of(alloc, &[], &[])?,
+        Begins::Filled => store_of(alloc, &[STOCK], &[])?,
+    })
 }
 
-/// Both ends over these stores, where this command has started at the client.
+/// Both ends over stores that begin so, where this command has started at the client.
 pub fn begin(
     alloc: Global,
-    client: WorldStore,
-    server: WorldStore,
+    client: Begins,
+    server: Begins,
     losses: &[(u32, Loss)],
     command: &Command,
 ) -> Result<Pair, Fail>
     requires asked { IsAsked command.now }
-    requires small { AreSmall client.full }
     ensures rest { IfOk result (λ pair. ClientRests pair.client) }
     ensures attends { IfOk result (λ pair. Attends pair.client pair.under 0) }
     ensures server { IfOk result (λ pair. ServerRests pair.server) }
 {
-    let mut client = ClientEnd::new(alloc, client)?;
-    let server = ServerEnd::new(alloc, server, TUNING)?;
+    let mut client = ClientEnd::new(alloc, store(alloc, client)?)?;
+    let server = ServerEnd::new(alloc, store(alloc, server)?, TUNING)?;
     let mut wires = Wires::new(alloc, losses)?;
     let mut sessions = 0;
     let way = client.start(command, &mut sessions, TUNING, 0, &mut wires)?;

@@ -1,6 +1,10 @@
 //! Reads and writes.
 
-use super::desk::{Pair, begin, empty_store, exchange, filled_store};
+ghost use Rattle.link_world.specs.client.ClientSide.{Attends, ClientRests};
+ghost use Rattle.link_world.specs.server.ServerSide.{ServerRests};
+
+use super::desk::Begins::{Empty, Filled};
+use super::desk::{Pair, begin, exchange};
 use crate::checks::{count_is, end_is, is_so};
 use link_script::{Command, Loss, ReportLine};
 use link_world::client::{Speaker, Under};
@@ -52,9 +56,7 @@ fn is_read(rt: &impl Abort, pair: &Pair, wanted: u64) {
 
 #[test]
 fn a_resource_is_read(rt: HostRuntime) -> Result<(), Fail> {
-    let alloc = rt.alloc();
-    let read = Command::Read(7, 0);
-    let mut pair = begin(alloc, empty_store(alloc)?, filled_store(alloc)?, &[], &read)?;
+    let mut pair = begin(rt.alloc(), Empty, Filled, &[], &Command::Read(7, 0))?;
     exchange(&mut pair, 0)?;
     is_read(&rt, &pair, 1_000);
     count_is(&rt, "sessions", u64::from(pair.sessions), 1);
@@ -87,15 +89,7 @@ fn length_is(rt: &impl Abort, length: Option<u64>, wanted: u64) {
 
 #[test]
 fn a_resource_is_written(rt: HostRuntime) -> Result<(), Fail> {
-    let alloc = rt.alloc();
-    let write = Command::Write(7, 0);
-    let mut pair = begin(
-        alloc,
-        filled_store(alloc)?,
-        empty_store(alloc)?,
-        &[],
-        &write,
-    )?;
+    let mut pair = begin(rt.alloc(), Filled, Empty, &[], &Command::Write(7, 0))?;
     exchange(&mut pair, 0)?;
     is_written(&rt, &pair, 1_000);
     Ok(())
@@ -111,9 +105,7 @@ fn lacks(rt: &impl Abort, under: &Option<Under>, wanted: u64) {
 
 #[test]
 fn a_resource_that_is_not_there_is_not_written(rt: HostRuntime) -> Result<(), Fail> {
-    let alloc = rt.alloc();
-    let write = Command::Write(7, 0);
-    let pair = begin(alloc, empty_store(alloc)?, empty_store(alloc)?, &[], &write)?;
+    let pair = begin(rt.alloc(), Empty, Empty, &[], &Command::Write(7, 0))?;
     lacks(&rt, &pair.under, 7);
     count_is(&rt, "frames", pair.wires.frames(), 0);
     count_is(&rt, "sessions", u64::from(pair.sessions), 0);
@@ -122,22 +114,23 @@ fn a_resource_that_is_not_there_is_not_written(rt: HostRuntime) -> Result<(), Fa
 
 const SECOND_LOST: &[(u32, Loss)] = &[(2, Loss::Lose)];
 
+// A frame more goes out once the time has come, and all is read.
+fn says_again(rt: &impl Abort, pair: &mut Pair) -> Result<(), Fail>
+    requires rest { ClientRests pair.old.client }
+    requires attends { Attends pair.old.client pair.old.under 0 }
+    requires server { ServerRests pair.old.server }
+{
+    exchange(pair, 0)?;
+    count_is(rt, "frames", pair.wires.frames(), 2);
+    pair.client.settle(2_000, &mut pair.under, &mut pair.wires)?;
+    count_is(rt, "frames", pair.wires.frames(), 3);
+    exchange(pair, 2_000)?;
+    count_is(rt, "length", pair.client.length_read(1, 0), 1_000);
+    Ok(())
+}
+
 #[test]
 fn a_start_that_is_lost_is_said_again(rt: HostRuntime) -> Result<(), Fail> {
-    let alloc = rt.alloc();
-    let read = Command::Read(7, 0);
-    let mut pair = begin(
-        alloc,
-        empty_store(alloc)?,
-        filled_store(alloc)?,
-        SECOND_LOST,
-        &read,
-    )?;
-    exchange(&mut pair, 0)?;
-    count_is(&rt, "frames", pair.wires.frames(), 2);
-    pair.client.settle(2_000, &mut pair.under, &mut pair.wires)?;
-    count_is(&rt, "frames", pair.wires.frames(), 3);
-    exchange(&mut pair, 2_000)?;
-    count_is(&rt, "length", pair.client.length_read(1, 0), 1_000);
-    Ok(())
+    let mut pair = begin(rt.alloc(), Empty, Filled, SECOND_LOST, &Command::Read(7, 0))?;
+    says_again(&rt, &mut pair)
 }

@@ -22,17 +22,22 @@ pub fn told(alloc: Global, text: &str) -> Result<String, AllocError> {
 fn told_of(alloc: Global, text: &[u8]) -> Result<String, AllocError>
     requires { length text.now < 2 ^ 20 }
 {
-    let mut told = String::new(alloc);
     match read_script(alloc, text)? {
         Ok(script) => match World::new(alloc, script)?.run() {
-            Ok(outcome) => return Ok(outcome.text),
-            Err(WorldRefused::Frames) => told.push_str("limit frames")?,
-            Err(WorldRefused::Journal) => told.push_str("limit journal")?,
-            Err(WorldRefused::Memory) => told.push_str("memory")?,
+            Ok(outcome) => Ok(outcome.text),
+            Err(refused) => String::from_str(alloc, named(refused)),
         },
-        Err(_) => told.push_str("bad line")?,
+        Err(_) => String::from_str(alloc, "bad line"),
     }
-    Ok(told)
+}
+
+// Why a script has no outcome.
+fn named(refused: WorldRefused) -> &'static str {
+    match refused {
+        WorldRefused::Frames => "limit frames",
+        WorldRefused::Journal => "limit journal",
+        WorldRefused::Memory => "memory",
+    }
 }
 
 /// The run of a script's text is told so.
