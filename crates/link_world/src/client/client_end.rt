@@ -35,7 +35,6 @@ use std::marker::Model;
 use transfer_base::Tuning;
 
 /// The client. What goes out of it is kept, and so is what its calls took.
-#[derive(Drop)]
 pub struct ClientEnd {
     pub(crate) alloc: Global,
     pub(crate) desk: Desk,
@@ -47,6 +46,12 @@ impl Model for ClientEnd {
     ghost Value = { ClientState };
 
     ghost view = { λ s. state_of s.desk };
+}
+
+impl Drop for ClientEnd {
+    fn drop(self) {
+        let Self { alloc: _, desk: _ } = self;
+    }
 }
 
 impl ClientEnd {

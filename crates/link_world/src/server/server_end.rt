@@ -36,7 +36,6 @@ use std::marker::Model;
 use transfer_base::Tuning;
 
 /// The server. What goes out of it is kept.
-#[derive(Drop)]
 pub struct ServerEnd {
     server: Server<DemoMaker>,
     store: WorldStore,
@@ -49,6 +48,16 @@ impl Model for ServerEnd {
     ghost Value = { ServerState };
 
     ghost view = { λ s. record { end = s.server; stored = s.store; items = s.items.items } };
+}
+
+impl Drop for ServerEnd {
+    fn drop(self) {
+        let Self {
+            server: _,
+            store: _,
+            items: _,
+        } = self;
+    }
 }
 
 impl ServerEnd {

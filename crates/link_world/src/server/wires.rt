@@ -18,7 +18,6 @@ use std::alloc::{AllocError, Global};
 use std::marker::Model;
 
 /// Both directions of the link. Frames are numbered from 1 over both, in the order in which they went out.
-#[derive(Drop)]
 pub struct Wires {
     alloc: Global,
     losses: Vec<(u32, Loss)>,
@@ -38,6 +37,18 @@ impl Model for Wires {
       to_client = w.to_client;
       numbered = w.numbered.items;
     } };
+}
+
+impl Drop for Wires {
+    fn drop(self) {
+        let Self {
+            alloc: _,
+            losses: _,
+            to_server: _,
+            to_client: _,
+            numbered: _,
+        } = self;
+    }
 }
 
 impl Wires {

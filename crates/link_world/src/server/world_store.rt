@@ -11,7 +11,6 @@ use std::alloc::{AllocError, Global};
 use std::marker::Model;
 
 /// A store in memory of which no call fails. Contracts see what it holds.
-#[derive(Drop)]
 pub struct WorldStore {
     inner: MemStore,
 }
@@ -25,6 +24,12 @@ impl Model for WorldStore {
     ghost view = { λ s. s.inner.stored };
 
     ghost invariant = { λ s. s.inner.fails ≡ [] };
+}
+
+impl Drop for WorldStore {
+    fn drop(self) {
+        let Self { inner: _ } = self;
+    }
 }
 
 impl WorldStore {
@@ -57,7 +62,8 @@ impl WorldStore {
     pub fn into_inner(self) -> MemStore
         ensures { result.stored ≡ self }
     {
-        self.inner
+        let Self { inner } = self;
+        inner
     }
 }
 
