@@ -20,8 +20,6 @@ import time
 TOP = os.path.dirname(os.path.dirname(os.path.dirname(os.path.abspath(__file__))))
 PROGRAM = f"{TOP}/crates/pw_main/out/pw_main"
 SECONDS = 60
-# The kernel's flag of a socket that takes connections.
-ACCEPTS = 0x10000
 
 
 def contents(path):
@@ -126,13 +124,6 @@ def two_ends(folder):
         end.close()
 
 
-def listens(path):
-    """Whether connections are taken at this path, which may be there before they are."""
-    with open("/proc/net/unix") as sockets:
-        rows = [line.split() for line in sockets.readlines()[1:]]
-    return any(row[-1] == path and int(row[3], 16) & ACCEPTS for row in rows)
-
-
 @contextlib.contextmanager
 def a_server(folder):
     """The program serves one connection, with a resource, and is refused nothing."""
@@ -142,7 +133,8 @@ def a_server(folder):
     words = [PROGRAM, "serve", f"{folder}/host/link", "1", "1"]
     quiet = subprocess.DEVNULL
     server = subprocess.Popen(words, stdin=quiet, stdout=quiet, cwd=f"{folder}/host")
-    while not listens(f"{folder}/host/link") and server.poll() is None:
+    # Once the file is there, it can be connected to.
+    while not os.path.exists(f"{folder}/host/link") and server.poll() is None:
         time.sleep(0.002)
     yield
     # Where no client came it still waits for one.
