@@ -9,7 +9,6 @@ use std::alloc::{AllocError, Global};
 use std::marker::Model;
 
 /// A linker over ends in memory, whose chosen calls fail.
-#[derive(Drop)]
 pub struct MemLinker {
     coming: Vec<(MemSource, MemSink)>,
     gone: Vec<(MemSource, MemSink)>,
@@ -20,6 +19,22 @@ pub struct MemLinker {
     faults: u64,
     in_faults: u64,
     out_faults: u64,
+}
+
+impl Drop for MemLinker {
+    fn drop(self) {
+        let Self {
+            coming: _,
+            gone: _,
+            listens: _,
+            out: _,
+            fails: _,
+            calls: _,
+            faults: _,
+            in_faults: _,
+            out_faults: _,
+        } = self;
+    }
 }
 
 impl Model for MemLinker {

@@ -7,13 +7,24 @@ use crate::{Failed, Sink};
 use std::marker::Model;
 
 /// A sink that keeps what is written in memory, and whose chosen calls fail.
-#[derive(Drop)]
 pub struct MemSink {
     content: Vec<u8>,
     fails: Vec<u64>,
     calls: u64,
     faults: u64,
     finished: bool,
+}
+
+impl Drop for MemSink {
+    fn drop(self) {
+        let Self {
+            content: _,
+            fails: _,
+            calls: _,
+            faults: _,
+            finished: _,
+        } = self;
+    }
 }
 
 impl Model for MemSink {

@@ -8,13 +8,24 @@ use crate::{Failed, Source};
 use std::marker::Model;
 
 /// A source over bytes in memory, whose chosen calls fail.
-#[derive(Drop)]
 pub struct MemSource {
     content: Vec<u8>,
     at: usize,
     fails: Vec<u64>,
     calls: u64,
     faults: u64,
+}
+
+impl Drop for MemSource {
+    fn drop(self) {
+        let Self {
+            content: _,
+            at: _,
+            fails: _,
+            calls: _,
+            faults: _,
+        } = self;
+    }
 }
 
 impl Model for MemSource {

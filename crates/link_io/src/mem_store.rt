@@ -16,12 +16,22 @@ use std::alloc::{AllocError, Global};
 use std::marker::Model;
 
 /// A store that keeps everything in memory, and whose chosen calls fail.
-#[derive(Drop)]
 pub struct MemStore {
     content: Content,
     fails: Vec<u64>,
     calls: u64,
     faults: u64,
+}
+
+impl Drop for MemStore {
+    fn drop(self) {
+        let Self {
+            content: _,
+            fails: _,
+            calls: _,
+            faults: _,
+        } = self;
+    }
 }
 
 impl Model for MemStore {

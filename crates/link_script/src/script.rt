@@ -14,7 +14,7 @@ pub const DEFAULT_WINDOW: u32 = 4;
 pub const MAX_FULL: usize = 64;
 
 /// What a world begins with, what its link does, and what happens in it, in order.
-#[derive(Debug, Drop)]
+#[derive(Debug)]
 pub struct Script {
     /// The bytes of a chunk, where the script says them.
     pub chunk: Option<u32>,
@@ -31,6 +31,21 @@ pub struct Script {
     /// The frames to which the link does something, by their numbers, which count from 1 over both directions.
     pub losses: Losses,
     pub commands: Commands,
+}
+
+impl Drop for Script {
+    fn drop(self) {
+        let Self {
+            chunk: _,
+            window: _,
+            server: _,
+            client: _,
+            left_server: _,
+            left_client: _,
+            losses: _,
+            commands: _,
+        } = self;
+    }
 }
 
 impl Script {

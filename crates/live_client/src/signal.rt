@@ -51,7 +51,6 @@ impl Signal {
 }
 
 /// The signals of a live client, by who waits for them.
-#[derive(Drop)]
 pub(crate) struct Signals {
     /// The driver waits where no event does.
     pub driver: Signal,
@@ -59,6 +58,16 @@ pub(crate) struct Signals {
     pub reader: Signal,
     /// The driver waits for the reader to begin.
     pub begun: Signal,
+}
+
+impl Drop for Signals {
+    fn drop(self) {
+        let Self {
+            driver: _,
+            reader: _,
+            begun: _,
+        } = self;
+    }
 }
 
 impl Signals {

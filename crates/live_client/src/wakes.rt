@@ -8,10 +8,18 @@ use std::alloc::{AllocError, Global};
 use task_core::bells::{Bell, Bells, Ear};
 
 /// The word of the driver's task, which the reader's bell rings, and the signals of the threads.
-#[derive(Drop)]
 pub(crate) struct Wakes {
     pub bells: Bells,
     pub signals: Signals,
+}
+
+impl Drop for Wakes {
+    fn drop(self) {
+        let Self {
+            bells: _,
+            signals: _,
+        } = self;
+    }
 }
 
 impl Wakes {

@@ -34,13 +34,24 @@ use std::marker::Model;
 
 /// The calls of one end, each with its handler, the items that wait to go out, and the journal of all that was done.
 /// Contracts see what is fixed with it, and the entries of its journal.
-#[derive(Drop)]
 pub struct Calls<H: Handler> {
     setting: Setting,
     journal: Journal,
     calls: IndexedStates<H>,
     items: VecDeque<Item>,
     alloc: Global,
+}
+
+impl<H: Handler> Drop for Calls<H> {
+    fn drop(self) {
+        let Self {
+            setting: _,
+            journal: _,
+            calls: _,
+            items: _,
+            alloc: _,
+        } = self;
+    }
 }
 
 impl<H: Handler> Model for Calls<H> {
@@ -107,6 +118,13 @@ impl<H: Handler> Calls<H> {
         ensures once { (c : ℕ) → length (ends_of (history self.setting self.entries) c) ≤ 1 }
         ensures silent { (h more : List Entry) (c : ℕ) → h ++ more ≡ self.entries → has_end (history self.setting h) c ≡ true → SaysNoMoreOf c (items_sent (history self.setting h)) (items_sent (history self.setting self.entries)) }
     {
-        self.journal
+        let Self {
+            setting: _,
+            journal,
+            calls: _,
+            items: _,
+            alloc: _,
+        } = self;
+        journal
     }
 }

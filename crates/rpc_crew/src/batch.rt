@@ -20,10 +20,18 @@ pub(crate) struct Framed {
 }
 
 /// The frames of items that came one behind the other, and wait to be written. Its memory is kept for the next ones.
-#[derive(Drop)]
 pub(crate) struct Batch {
     bytes: Vec<u8>,
     framed: VecDeque<Framed>,
+}
+
+impl Drop for Batch {
+    fn drop(self) {
+        let Self {
+            bytes: _,
+            framed: _,
+        } = self;
+    }
 }
 
 impl Model for Batch {

@@ -113,7 +113,6 @@ impl Owed {
 }
 
 /// The bells of a session, by who waits for them.
-#[derive(Drop)]
 pub(crate) struct Bells {
     /// A worker waits where no call is ready.
     pub workers: Bell,
@@ -125,6 +124,18 @@ pub(crate) struct Bells {
     pub writer: Bell,
     /// Each thread but the reader rings it when it begins, and the reader waits for all.
     pub begun: Bell,
+}
+
+impl Drop for Bells {
+    fn drop(self) {
+        let Self {
+            workers: _,
+            reader: _,
+            pump: _,
+            writer: _,
+            begun: _,
+        } = self;
+    }
 }
 
 impl Bells {

@@ -33,7 +33,6 @@ const TURN: u64 = 5;
 
 /// A table whose steps ring for those who wait for them. Each call does what `Shared`'s call of that name does, and contracts see it
 /// as that.
-#[derive(Drop)]
 pub(crate) struct Table<H: Handler> {
     shared: Shared<H>,
     bells: Bells,
@@ -41,6 +40,18 @@ pub(crate) struct Table<H: Handler> {
     // 1 once the time is told no more.
     over: AtomicU64,
     others: u32,
+}
+
+impl<H: Handler> Drop for Table<H> {
+    fn drop(self) {
+        let Self {
+            shared: _,
+            bells: _,
+            flushed: _,
+            over: _,
+            others: _,
+        } = self;
+    }
 }
 
 impl<H: Handler> Model for Table<H> {
@@ -89,7 +100,14 @@ impl<H: Handler> Table<H> {
         ensures setting { result.setting ≡ self.base }
         ensures legal { IsLegal H.rule result.setting result.entries }
     {
-        self.shared.close(passes)
+        let Self {
+            shared,
+            bells: _,
+            flushed: _,
+            over: _,
+            others: _,
+        } = self;
+        shared.close(passes)
     }
 
     pub fn bells(&self) -> &Bells {

@@ -24,9 +24,14 @@ use turn_cell::Logged;
 
 /// A table of calls whose journal is the log that the lock guards. It has no public method: it stands in the type of a
 /// pass alone.
-#[derive(Drop)]
 pub struct Desk<H: Handler> {
     calls: Calls<H>,
+}
+
+impl<H: Handler> Drop for Desk<H> {
+    fn drop(self) {
+        let Self { calls: _ } = self;
+    }
 }
 
 impl<H: Handler> Model for Desk<H> {
@@ -66,7 +71,8 @@ impl<H: Handler> Desk<H> {
     pub(crate) fn into_calls(self) -> Calls<H>
         ensures { result ≡ self }
     {
-        self.calls
+        let Self { calls } = self;
+        calls
     }
 
     /// Does nothing at run time. Calling it tells the prover that the table's journal is legal.

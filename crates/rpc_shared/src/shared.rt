@@ -31,9 +31,14 @@ pub type Pass<H> = turn_cell::Pass<Desk<H>>;
 /// the lock back; handlers run outside it. The calls without `try_` may wait; those with it never do.
 ///
 /// What a call asks of the table is asked of what its pass has seen, which never becomes untrue.
-#[derive(Drop)]
 pub struct Shared<H: Handler> {
     turn: Turn<Desk<H>>,
+}
+
+impl<H: Handler> Drop for Shared<H> {
+    fn drop(self) {
+        let Self { turn: _ } = self;
+    }
 }
 
 impl<H: Handler> Model for Shared<H> {

@@ -28,12 +28,22 @@ pub const MAX_TASKS: usize = 1024;
 ///
 /// It keeps no record of what happened. Contracts speak of every list of steps for which it stands (`StandsFor`): what
 /// those say of a task, the dispatcher does.
-#[derive(Drop)]
 pub struct Dispatcher<T> {
     alloc: Global,
     places: Slab<Place<T>>,
     timers: Timers,
     cx: Cx,
+}
+
+impl<T: Drop> Drop for Dispatcher<T> {
+    fn drop(self) {
+        let Self {
+            alloc: _,
+            places: _,
+            timers: _,
+            cx: _,
+        } = self;
+    }
 }
 
 impl<T> Model for Dispatcher<T> {

@@ -20,11 +20,20 @@ pub(crate) type Top<T> = Shared<
 
 /// A pass of one `Turn`. Contracts see which lock it is of and what it knows: its number, the base, the log
 /// that it has seen, its own entries, and what its loads gave.
-#[derive(Drop)]
 pub struct Pass<T: Logged> {
     number: u32,
     pub(crate) holding: bool,
     pub(crate) seat: Seat<Option<Kept<T>>, View<T::Entry, T::Base>>,
+}
+
+impl<T: Logged> Drop for Pass<T> {
+    fn drop(self) {
+        let Self {
+            number: _,
+            holding: _,
+            seat: _,
+        } = self;
+    }
 }
 
 impl<T: Logged> Model for Pass<T> {

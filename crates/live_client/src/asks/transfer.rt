@@ -21,7 +21,6 @@ const KEY: usize = 0;
 const POLLS: u64 = 8;
 
 /// A task behind a dispatcher, which is told the events of a call as its mail.
-#[derive(Drop)]
 pub struct TaskErrand<T: Task + Drop> {
     pub tasks: Dispatcher<T>,
     pub ear: Ear,
@@ -29,6 +28,17 @@ pub struct TaskErrand<T: Task + Drop> {
     pub first: Snapshot<T>,
     /// Whether its last poll found too little memory.
     pub short: Snapshot<bool>,
+}
+
+impl<T: Task + Drop> Drop for TaskErrand<T> {
+    fn drop(self) {
+        let Self {
+            tasks: _,
+            ear: _,
+            first: _,
+            short: _,
+        } = self;
+    }
 }
 
 impl<T: Task + Drop> TaskErrand<T> {
