@@ -1,12 +1,10 @@
 //! The table of a live client: one channel, one method, and two passes.
-ghost use Rattle.std.specs.Prelude.{◌≡◌, ◌≤◌, [], ◌∷◌, true, false, is_none, IfOk, vec_len, vec_capacity};
+ghost use Rattle.std.specs.Prelude.{◌≡◌, ◌≤◌, [], ◌∷◌, IfOk, vec_len, vec_capacity};
 ghost use Rattle.turn_cell.specs.Passes.{AreAll, IsNew};
-ghost use Rattle.rpc_shared.specs.session.Reasons.{reason_of};
 ghost use Rattle.live_client.specs.Ask.{setting_with};
 
 use crate::halting::{Seat, Table};
 use crate::silent::Silent;
-use link_io::{Ending, Why};
 use rpc_calls::Calls;
 use rpc_channel::Channels;
 use rpc_handlers::{Maker, Nobody};
@@ -91,20 +89,4 @@ pub(crate) fn together(seats: Seats) -> Vec<Seat>
     room.push_reserved(reader);
     room.push_reserved(driver);
     room
-}
-
-/// Why a live client ended: for the reason of the halt, else as the reading ended.
-pub(crate) fn why_of(halted: Option<Why>, ending: Option<Ending>) -> Why
-    requires { is_none halted ≡ true → is_none ending ≡ false }
-    ensures { result ≡ reason_of halted ending }
-{
-    if let Some(why) = halted {
-        return why;
-    }
-    match ending {
-        Some(Ending::AtEnd) => Why::Settled,
-        Some(Ending::AtLimit) => Why::InputLimit,
-        Some(Ending::Failed) => Why::Source,
-        None => unreachable!(),
-    }
 }

@@ -1,5 +1,5 @@
 //! A session, from a table without an entry to what was done.
-ghost use Rattle.std.specs.Prelude.{◌≡◌, ◌⊎◌, ◌+◌, ◌<◌, ◌≤◌, true, false, ◌∷◌, ◌++◌, [], List, IfOk, OnErr, Option, Some, None, is_none, vec_len, vec_capacity};
+ghost use Rattle.std.specs.Prelude.{◌≡◌, ◌⊎◌, ◌+◌, ◌<◌, ◌≤◌, false, ◌∷◌, ◌++◌, [], List, IfOk, OnErr, vec_len, vec_capacity};
 ghost use Rattle.std.specs.Io.KnownBytes.{IsAtEnd};
 ghost use Rattle.link_io.specs.Causes.{Rose};
 ghost use Rattle.link_io.specs.declared.why.Why.TheVariants.{Settled, Source as Read, Sink as Link, Store as Depot, InputLimit};
@@ -8,7 +8,6 @@ ghost use Rattle.rpc_journal.specs.Items.{moments};
 ghost use Rattle.rpc_schedule.specs.declared.stream.TheConstants.{INPUT_LIMIT};
 ghost use Rattle.rpc_shared.specs.session.Leaving.{LeavesLink};
 ghost use Rattle.rpc_shared.specs.session.Log.{Logs};
-ghost use Rattle.rpc_shared.specs.session.Reasons.{reason_of};
 ghost use Rattle.rpc_shared.specs.session.Sessions.{Begins, Explains, IsSessionHistory, LeavesNoneDue, TicksBetween, is_halted, session_setting};
 ghost use Rattle.rpc_crew.specs.WholeFrames.{SendsWholeFrames};
 
@@ -16,7 +15,7 @@ use crate::table::Table;
 use crate::threads::run_threads;
 use crate::working::Workers;
 use crate::{Gate, Served, Session};
-use link_io::{Clock, Ending, Sink, Source, Store, Why};
+use link_io::{Clock, Sink, Source, Store, Why};
 use rpc_calls::Calls;
 use rpc_channel::Channels;
 use rpc_frames::{Counts, Listener};
@@ -25,6 +24,7 @@ use rpc_ids::{Registry, Role};
 use rpc_shared::Pass;
 use rpc_shared::session::item_log::ItemLog;
 use rpc_shared::session::parcel::Parcel;
+use rpc_shared::session::reason::why_of;
 use rtrb::RingBuffer;
 use std::alloc::{AllocError, Global};
 use std::sync::Wait;
@@ -321,20 +321,4 @@ fn together<H: Handler>(passes: Passes<H>) -> Vec<Pass<H>>
         unreachable!()
     };
     all
-}
-
-// Why a session ended: for the reason of the halt, else as the reading ended.
-fn why_of(halted: Option<Why>, ending: Option<Ending>) -> Why
-    requires { is_none halted ≡ true → is_none ending ≡ false }
-    ensures { result ≡ reason_of halted ending }
-{
-    if let Some(why) = halted {
-        return why;
-    }
-    match ending {
-        Some(Ending::AtEnd) => Why::Settled,
-        Some(Ending::AtLimit) => Why::InputLimit,
-        Some(Ending::Failed) => Why::Source,
-        None => unreachable!(),
-    }
 }

@@ -28,13 +28,24 @@ fn all_pass<R: Abort + Threads + Wait + Sync, G: Gate + Sync>(
 }
 
 // Holds the run of call 0 until that of call 1 is over.
-#[derive(Drop)]
 struct SecondFirst<'a, R> {
     rt: &'a R,
     over: AtomicU64,
     before: AtomicU64,
     after: AtomicU64,
     late: AtomicU64,
+}
+
+impl<'a, R> Drop for SecondFirst<'a, R> {
+    fn drop(self) {
+        let Self {
+            rt: _,
+            over: _,
+            before: _,
+            after: _,
+            late: _,
+        } = self;
+    }
 }
 
 impl<'a, R: Clock> Gate for SecondFirst<'a, R> {
@@ -70,12 +81,22 @@ fn a_second_call_is_over_while_the_first_runs(rt: HostRuntime) -> Result<(), Fai
 }
 
 // Holds each run until all sixteen have begun.
-#[derive(Drop)]
 struct AllAtOnce<'a, R> {
     rt: &'a R,
     before: AtomicU64,
     after: AtomicU64,
     late: AtomicU64,
+}
+
+impl<'a, R> Drop for AllAtOnce<'a, R> {
+    fn drop(self) {
+        let Self {
+            rt: _,
+            before: _,
+            after: _,
+            late: _,
+        } = self;
+    }
 }
 
 impl<'a, R: Clock> Gate for AllAtOnce<'a, R> {

@@ -79,12 +79,40 @@ pub fn open_table(alloc: Global, maker: &Letters) -> Result<(Calls<Letter>, Meth
 }
 
 /// The four passes of a table, of the numbers 0 to 3 in order.
-#[derive(Drop)]
 pub struct Four<H: Handler> {
     pub reader: Pass<H>,
     pub writer: Pass<H>,
     pub worker: Pass<H>,
     pub other: Pass<H>,
+}
+
+impl<H: Handler> Drop for Four<H> {
+    fn drop(self) {
+        let Self {
+            reader: _,
+            writer: _,
+            worker: _,
+            other: _,
+        } = self;
+    }
+}
+
+impl<H: Handler> Four<H> {
+    /// Each by itself, in order.
+    pub fn apart(self) -> (Pass<H>, Pass<H>, Pass<H>, Pass<H>)
+        ensures reader { result.0 ≡ self.reader }
+        ensures writer { result.1 ≡ self.writer }
+        ensures worker { result.2 ≡ self.worker }
+        ensures other { result.3 ≡ self.other }
+    {
+        let Self {
+            reader,
+            writer,
+            worker,
+            other,
+        } = self;
+        (reader, writer, worker, other)
+    }
 }
 
 /// The table behind a lock with four passes.
@@ -131,12 +159,7 @@ pub fn close<H: Handler>(
     requires worker { IsSeat shared passes.worker }
     requires other { IsSeat shared passes.other }
 {
-    let Four {
-        reader,
-        writer,
-        worker,
-        other,
-    } = passes;
+    let (reader, writer, worker, other) = passes.apart();
     assert!(rt; reader.number() == 0);
     assert!(rt; writer.number() == 1);
     assert!(rt; worker.number() == 2);

@@ -75,7 +75,8 @@ fn one_thread_runs_a_call_and_another_cancels_it(rt: HostRuntime) -> Result<(), 
     let (calls, methods) = open_table(rt.alloc(), &maker)?;
     let (shared, mut passes) = share(&rt, rt.alloc(), calls);
     opens(&rt, &shared, &mut passes.reader, &maker, methods.chat);
-    let status = run_and_stop(&rt, &shared, passes.worker, passes.other);
+    let (_, _, worker, other) = passes.apart();
+    let status = run_and_stop(&rt, &shared, worker, other);
     assert_eq!(rt; status, Some(Status::Cancelled));
     Ok(())
 }
