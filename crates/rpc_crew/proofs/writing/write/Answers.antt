@@ -87,7 +87,7 @@ loop-preserved g c =
     }
 
 -- all but the end
-last : (g : Over) (c : goal.After-drop-batch-inside-in-Ok-Ended-2 g) → Writes g.H.Handler.rule c.args.shared.now (g.O.Sink.written c.args.output.now) (g.O.Sink.written c.round.new.output) (g.S.Store.holds c.args.store.now) (g.S.Store.holds c.round.new.store)
+last : (g : Over) (c : goal.After-drop-batch-in-Ok-Ended g) → Writes g.H.Handler.rule c.args.shared.now (g.O.Sink.written c.args.output.now) (g.O.Sink.written c.round.new.output) (g.S.Store.holds c.args.store.now) (g.S.Store.holds c.round.new.store)
     c.args.log.now c.round.new.log (received c.loop.ring ++ parcels c.in-Ok-Ended.ensures.makes.items) c.round.new.done c.loop.pass
 last g c =
     let written = g.O.Sink.written in
@@ -96,7 +96,7 @@ last g c =
     writes_more g.H.Handler.rule c.args.shared.now (written c.args.output.now) (written c.loop.output) (written c.round.new.output) (holds c.args.store.now) (holds c.loop.store) (holds c.round.new.store)
     c.args.log.now c.loop.log c.round.new.log (received c.loop.ring) (received c.loop.ring ++ parcels m.items) c.loop.done c.round.new.done c.loop.pass c.loop.pass m.items c.loop.invariant.writes refl m.made m.counted
 
-ended : (g : Over) (c : goal.After-drop-batch-inside-in-Ok-Ended-2 g) → received c.round.new.ring ≡ (received c.loop.ring ++ parcels c.in-Ok-Ended.ensures.makes.items) ++ End ∷ []
+ended : (g : Over) (c : goal.After-drop-batch-in-Ok-Ended g) → received c.round.new.ring ≡ (received c.loop.ring ++ parcels c.in-Ok-Ended.ensures.makes.items) ++ End ∷ []
 ended g c =
     let written = g.O.Sink.written in
     let holds = g.S.Store.holds in

@@ -31,7 +31,7 @@ returns-clause-ok c =
     c.end.ensures.ends)
 
 -- the outcome is that of the run, and both its journals are legal
-runs : (c : goal.After-drop-script-7) → IfOk c.end.result (Runs c.args.self)
+runs : (c : goal.After-drop-script-2) → IfOk c.end.result (Runs c.args.self)
 runs c =
     let i = c.self.inside in
     let t = c.run_turns.new in
@@ -43,7 +43,7 @@ runs c =
     (subst (λ set. IfOk c.end.result (λ outcome. IsLegal demo_rule set outcome.server.entries)) (setting ∙ ap (λ script. (setup_of script).server) c.self.view_is) c.end.ensures.server)
     (subst (λ set. IfOk c.end.result (λ outcome. IsLegal quiet_rule set outcome.client.entries)) shows.client.setting c.end.ensures.client)
 
-fits : (c : goal.After-drop-script-7) → IsScript c.args.self
+fits : (c : goal.After-drop-script-2) → IsScript c.args.self
 fits c = subst IsScript c.self.view_is c.self.invariant.fits
 
 pub returns-clause-bytes : goal.returns-clause-bytes
