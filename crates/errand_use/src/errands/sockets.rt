@@ -8,6 +8,7 @@ use std::alloc::{AllocError, Global};
 use std::env;
 use std::fs::{self, Files};
 use std::net::Net;
+use std::process::Abort;
 use std::sync::Wait;
 use std::test::Fail;
 use std::thread::{self, Threads, join};
@@ -103,13 +104,18 @@ fn call<R: Threads + Wait + Sync + Net + Files + time::Clock>(
     run_at(rt, alloc, line.as_str(), &mut store)
 }
 
+// The path of a socket in the folder for temporary files. Each test has a name of its own.
+fn socket_path(rt: &HostRuntime, name: &str) -> Result<String, Fail> {
+    let now = time::Clock::since_1970(rt)?.as_nanos();
+    let base = env::temp_dir(rt)?;
+    let base = base.as_str();
+    Ok(format!(in rt.alloc(); "{base}/pw-run-{name}-{now}")?)
+}
+
 #[test]
 fn a_resource_is_fetched_over_a_socket(rt: HostRuntime) -> Result<(), Fail> {
     let alloc = rt.alloc();
-    let now = time::Clock::since_1970(&rt)?.as_nanos();
-    let base = env::temp_dir(&rt)?;
-    let base = base.as_str();
-    let path = format!(in alloc; "{base}/pw-run-socket-{now}")?;
+    let path = socket_path(&rt, "socket")?;
     let path = path.as_str();
     let (served, got) = join(
         &rt,
@@ -123,116 +129,103 @@ fn a_resource_is_fetched_over_a_socket(rt: HostRuntime) -> Result<(), Fail> {
     Ok(())
 }
 
+// A server ended well, and a client that called a method ended with this status and wrote this.
+fn is_called(
+    rt: &impl Abort,
+    served: Result<u8, AllocError>,
+    called: Result<Ran, AllocError>,
+    status: u8,
+    written: &[u8],
+) -> Result<(), AllocError> {
+    status_is(rt, "serve", served?, 0);
+    told(rt, "call", &called?, status, written);
+    Ok(())
+}
+
 #[test]
 fn a_unary_method_is_called_over_a_socket(rt: HostRuntime) -> Result<(), Fail> {
     let alloc = rt.alloc();
-    let now = time::Clock::since_1970(&rt)?.as_nanos();
-    let base = env::temp_dir(&rt)?;
-    let base = base.as_str();
-    let path = format!(in alloc; "{base}/pw-run-unary-{now}")?;
+    let path = socket_path(&rt, "unary")?;
     let path = path.as_str();
     let (served, called) = join(
         &rt,
         || serve_one(&rt, alloc, path),
         || call(&rt, alloc, path, "demo.Demo Echo unary 616263"),
     );
-    status_is(&rt, "serve", served?, 0);
-    told(
-        &rt,
-        "call",
-        &called?,
-        0,
-        b"message 616263\ncall OK 1\ndone\n",
-    );
+    is_called(&rt, served, called, 0, b"message 616263\ncall OK 1\ndone\n")?;
     Ok(())
 }
 
 #[test]
 fn a_stream_of_a_server_is_called_over_a_socket(rt: HostRuntime) -> Result<(), Fail> {
     let alloc = rt.alloc();
-    let now = time::Clock::since_1970(&rt)?.as_nanos();
-    let base = env::temp_dir(&rt)?;
-    let base = base.as_str();
-    let path = format!(in alloc; "{base}/pw-run-server-{now}")?;
+    let path = socket_path(&rt, "server")?;
     let path = path.as_str();
     let (served, called) = join(
         &rt,
         || serve_one(&rt, alloc, path),
         || call(&rt, alloc, path, "demo.Demo Count server 03 within 60000"),
     );
-    status_is(&rt, "serve", served?, 0);
-    told(
+    is_called(
         &rt,
-        "call",
-        &called?,
+        served,
+        called,
         0,
         b"message 01\nmessage 02\nmessage 03\ncall OK 3\ndone\n",
-    );
+    )?;
     Ok(())
 }
 
 #[test]
 fn a_stream_of_a_client_is_called_over_a_socket(rt: HostRuntime) -> Result<(), Fail> {
     let alloc = rt.alloc();
-    let now = time::Clock::since_1970(&rt)?.as_nanos();
-    let base = env::temp_dir(&rt)?;
-    let base = base.as_str();
-    let path = format!(in alloc; "{base}/pw-run-client-{now}")?;
+    let path = socket_path(&rt, "client")?;
     let path = path.as_str();
     let (served, called) = join(
         &rt,
         || serve_one(&rt, alloc, path),
         || call(&rt, alloc, path, "demo.Demo Sum client 0102 ff"),
     );
-    status_is(&rt, "serve", served?, 0);
-    told(
+    is_called(
         &rt,
-        "call",
-        &called?,
+        served,
+        called,
         0,
         b"message 0000000000000102\ncall OK 1\ndone\n",
-    );
+    )?;
     Ok(())
 }
 
 #[test]
 fn both_streams_are_called_over_a_socket(rt: HostRuntime) -> Result<(), Fail> {
     let alloc = rt.alloc();
-    let now = time::Clock::since_1970(&rt)?.as_nanos();
-    let base = env::temp_dir(&rt)?;
-    let base = base.as_str();
-    let path = format!(in alloc; "{base}/pw-run-bidi-{now}")?;
+    let path = socket_path(&rt, "bidi")?;
     let path = path.as_str();
     let (served, called) = join(
         &rt,
         || serve_one(&rt, alloc, path),
         || call(&rt, alloc, path, "0x70f45cfb 0x9ba981bc bidi 0102 - ff"),
     );
-    status_is(&rt, "serve", served?, 0);
-    told(
+    is_called(
         &rt,
-        "call",
-        &called?,
+        served,
+        called,
         0,
         b"message 0102\nmessage -\nmessage ff\ncall OK 3\ndone\n",
-    );
+    )?;
     Ok(())
 }
 
 #[test]
 fn an_unknown_method_is_called_over_a_socket(rt: HostRuntime) -> Result<(), Fail> {
     let alloc = rt.alloc();
-    let now = time::Clock::since_1970(&rt)?.as_nanos();
-    let base = env::temp_dir(&rt)?;
-    let base = base.as_str();
-    let path = format!(in alloc; "{base}/pw-run-unknown-{now}")?;
+    let path = socket_path(&rt, "unknown")?;
     let path = path.as_str();
     let (served, called) = join(
         &rt,
         || serve_one(&rt, alloc, path),
         || call(&rt, alloc, path, "demo.Demo Reboot client 00"),
     );
-    status_is(&rt, "serve", served?, 0);
-    told(&rt, "call", &called?, 9, b"call NOT_FOUND 0\ndone\n");
+    is_called(&rt, served, called, 9, b"call NOT_FOUND 0\ndone\n")?;
     Ok(())
 }
