@@ -1,21 +1,20 @@
 -- The calls of a table over the end of a run, a cancel, and a call that leaves.
-use Rattle.std.proofs.Common.{◌≡◌, ◌≢◌, ◌⊎◌, inl, inr, ℕ, ◌<◌, Bool, true, false, ◌||◌, List, [], ◌++◌, drop, length, slice_get, slice_set, length-set, Option, Some, None, is_some, if◌then◌else◌, refl, ap, sym, ◌∙◌, subst, arith}
+use Rattle.std.proofs.Common.{◌≡◌, ◌≢◌, ◌⊎◌, inl, inr, ℕ, ◌<◌, true, false, List, [], ◌++◌, drop, length, slice_get, slice_set, length-set, Option, Some, None, is_some, if◌then◌else◌, refl, ap, sym, ◌∙◌, subst, arith}
 use Rattle.std.proofs.lemmas.Option.{slice_get_within}
 use Rattle.rpc_journal.specs.declared.table.call_state.CallState.{CallState}
 use Rattle.rpc_journal.specs.table.Touch.{Touch, cancelling}
 use Rattle.rpc_journal.specs.table.Turns.{Turns}
-use Rattle.rpc_journal.proofs.PlaceLemmas.{get_some, some_same}
+use Rattle.rpc_journal.proofs.PlaceLemmas.{get_some}
 use Rattle.rpc_journal.proofs.table.StepLemmas.{get_other, get_set, same_or_not}
 use Rattle.rpc_journal.specs.Queues.{put_at}
 use Rattle.rpc_calls.specs.declared.call_place.CallPlace.{CallPlace}
 use Rattle.rpc_calls.specs.declared.kept_calls.KeptCalls.{KeptCalls}
-use Rattle.rpc_calls.specs.Facts.{IsDoneWith, is_done_with}
-use Rattle.rpc_calls.specs.Handlers.{over_state}
+use Rattle.rpc_calls.specs.Facts.{is_done_with}
 use Rattle.rpc_calls.specs.InUse.{AreInUse, AreKept}
 use Rattle.rpc_calls.specs.Kept.{is_kept_at}
 use Rattle.rpc_calls.specs.Places.{ChangesAt}
-use Rattle.rpc_calls.specs.Roll.{Changes, Roll}
-use Rattle.rpc_calls.specs.RunEnds.{CutsHandler, EndsRun, HandlersLeft, IsPutBack, LeavesIfDone, PutsBack}
+use Rattle.rpc_calls.specs.Roll.{Roll}
+use Rattle.rpc_calls.specs.RunEnds.{CutsHandler, EndsRun, IsPutBack, LeavesIfDone, PutsBack}
 use Rattle.rpc_calls.proofs.InUseSteps.{done_is}
 
 -- a change that puts nothing is the same at each place

@@ -1,5 +1,5 @@
 -- What is told of calls, by their states.
-use Rattle.std.proofs.Common.{◌≡◌, ◌∙◌, ◌==◌, ◌&&◌, ℕ, Bool, true, false, not, if◌then◌else◌, List, [], length, slice_get, Option, Some, None, IfSome, IfNone, IsSome, option_map, is_none, is_some, refl, ap, sym, subst}
+use Rattle.std.proofs.Common.{◌≡◌, ◌∙◌, ℕ, Bool, true, false, if◌then◌else◌, List, slice_get, Option, Some, None, IfSome, IfNone, IsSome, option_map, is_none, is_some, refl, ap, sym}
 use Rattle.rpc_journal.specs.declared.table.call_state.CallState.{CallState}
 use Rattle.rpc_journal.specs.declared.table.call_states.CallStates.{CallStates}
 use Rattle.std.proofs.lemmas.Option.{slice_get_within}
@@ -12,7 +12,6 @@ use Rattle.rpc_journal.specs.table.Newest.{newest_of}
 use Rattle.rpc_journal.proofs.table.KnownStates.{told_of}
 use Rattle.rpc_journal.proofs.table.NewestLemmas.{newest_there, live_at as live_at_newest}
 use Rattle.rpc_calls.specs.Numbers.{live_at, live_if}
-use Rattle.rpc_journal.specs.Choice.{first_place}
 use Rattle.rpc_journal.specs.table.Touch.{is_startable}
 use Rattle.rpc_journal.proofs.PlaceLemmas.{some_same}
 use Rattle.rpc_calls.specs.declared.call_place.CallFacts.{CallFacts}

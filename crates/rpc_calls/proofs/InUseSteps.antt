@@ -1,26 +1,19 @@
 -- The calls that are kept, over changes of calls.
-use Rattle.std.proofs.Common.{◌≡◌, ◌≢◌, ◌⊎◌, inl, inr, ℕ, ◌+◌, ◌<◌, ◌≤◌, Bool, true, false, not, ◌&&◌, List, [], ◌∷◌, ◌++◌, length, drop, slice_get, slice_set, length-set, Option, Some, None, is_some, is_none, if◌then◌else◌, refl, ap, sym, ◌∙◌, subst, arith}
-use Rattle.std.proofs.lemmas.Bool.{and_parts, both_ways}
-use Rattle.std.proofs.lemmas.Option.{slice_get_within}
+use Rattle.std.proofs.Common.{◌≡◌, ◌≢◌, ◌⊎◌, inl, inr, ℕ, Bool, true, false, ◌&&◌, List, [], ◌∷◌, ◌++◌, drop, slice_get, Option, Some, None, is_some, is_none, if◌then◌else◌, refl, ap, sym, ◌∙◌, subst}
+use Rattle.std.proofs.lemmas.Bool.{and_parts}
 use Rattle.rpc_handlers.specs.declared.event.Event.{Event}
 use Rattle.rpc_journal.specs.declared.waiting.Waiting.{Waiting}
 use Rattle.rpc_journal.specs.declared.table.call_state.CallState.{CallState}
-use Rattle.rpc_journal.specs.declared.table.notice.Notice.{Notice}
-use Rattle.rpc_journal.specs.declared.table.notice.Notice.TheVariants.{Time, InputEnded, ChannelClosed}
-use Rattle.rpc_journal.specs.Kinds.{is_empty, or_else}
+use Rattle.rpc_journal.specs.Kinds.{is_empty}
 use Rattle.rpc_journal.specs.Queues.{put_at}
-use Rattle.rpc_journal.specs.table.Touch.{IsTouched, Touch, cancelling, is_told, telling, touch_told, untouched}
-use Rattle.rpc_journal.specs.table.Turns.{IsTold, Turns}
-use Rattle.rpc_journal.proofs.PlaceLemmas.{get_some, some_same}
-use Rattle.rpc_journal.proofs.table.StepLemmas.{get_other, same_or_not}
-use Rattle.rpc_calls.specs.declared.call_place.CallPlace.{CallPlace}
+use Rattle.rpc_journal.specs.table.Touch.{Touch}
+use Rattle.rpc_journal.specs.table.Turns.{Turns}
+use Rattle.rpc_journal.proofs.table.StepLemmas.{same_or_not}
 use Rattle.rpc_calls.specs.declared.kept_calls.KeptCalls.{KeptCalls}
 use Rattle.rpc_calls.specs.Facts.{IsDoneWith, is_done_with}
 use Rattle.rpc_calls.specs.InUse.{AreInUse, AreKept}
-use Rattle.rpc_calls.specs.Kept.{is_kept, is_kept_at}
-use Rattle.rpc_calls.specs.Places.{ChangesAll, ChangesAt}
-use Rattle.rpc_calls.specs.Roll.{Changes, Leaves, Roll}
-use Rattle.rpc_calls.specs.Widened.{IsWider}
+use Rattle.rpc_calls.specs.Kept.{is_kept_at}
+use Rattle.rpc_calls.specs.Roll.{Changes, Roll}
 
 and_false : (a : Bool) → (a && false) ≡ false
 and_false true = refl

@@ -1,5 +1,5 @@
 -- The records of a table over calls that leave, that are cancelled when they have left, and that open.
-use Rattle.std.proofs.Common.{◌≡◌, ◌≢◌, ◌⊎◌, inl, inr, ℕ, zero, suc, ◌+◌, ◌<◌, ◌≤◌, Bool, true, false, not, ◌||◌, List, [], ◌∷◌, ◌++◌, length, map, slice_get, slice_index_or, slice_set, length-set, Option, Some, None, option_map, is_some, is_none, if◌then◌else◌, refl, ap, sym, ◌∙◌, subst, arith, length-append}
+use Rattle.std.proofs.Common.{◌≡◌, ◌≢◌, ◌⊎◌, inl, inr, ℕ, zero, suc, ◌<◌, ◌≤◌, Bool, true, false, not, ◌||◌, List, [], ◌∷◌, ◌++◌, length, map, slice_get, slice_index_or, slice_set, length-set, Option, Some, None, option_map, is_some, is_none, if◌then◌else◌, refl, ap, sym, ◌∙◌, subst, arith, length-append}
 use Rattle.slab.specs.Slab.{Slab, Updates, get}
 use Rattle.std.proofs.lemmas.Option.{slice_get_within}
 use Rattle.rpc_packet.specs.declared.call_name.CallName.{CallName}
@@ -20,13 +20,13 @@ use Rattle.rpc_calls.specs.Facts.{IsDoneWith, facts_of, is_done_with}
 use Rattle.rpc_journal.specs.table.Newest.{IsNamed}
 use Rattle.rpc_calls.specs.Marks.{marks_of, no_marks}
 use Rattle.rpc_calls.specs.Names.{AreSameNames, IsSetTo, Names, call_under, same_key}
-use Rattle.rpc_calls.specs.Numbers.{live_at, live_if, live_in, numbers_of}
+use Rattle.rpc_calls.specs.Numbers.{live_at, live_if, numbers_of}
 use Rattle.rpc_calls.specs.Places.{ChangesAt}
 use Rattle.rpc_calls.specs.Records.{ChangesHandler, handler_of, state_in}
 use Rattle.rpc_calls.specs.Kept.{is_kept_at}
 use Rattle.rpc_calls.specs.Roll.{IsLeft, IsRecordOf, Stands, handler_in}
 use Rattle.rpc_calls.proofs.InUseSteps.{done_is}
-use Rattle.rpc_calls.proofs.NumberLemmas.{IsNewestAt, newest_at, newest_more, newest_opened, numbers_kept, numbers_more}
+use Rattle.rpc_calls.proofs.NumberLemmas.{newest_at, newest_more, newest_opened, numbers_kept, numbers_more}
 use Rattle.rpc_calls.proofs.PlaceChanges.{same_list, set_changes}
 use Rattle.rpc_calls.proofs.RecordSteps.{kept_left, kept_one, map_same}
 

@@ -1,5 +1,5 @@
 -- A table of which a call has left.
-use Rattle.std.proofs.Common.{◌≡◌, ◌≢◌, ◌⊎◌, inl, inr, ℕ, ◌<◌, Bool, true, false, ◌||◌, ◌&&◌, List, length, slice_get, slice_set, length-set, Option, Some, None, is_some, refl, ap, sym, ◌∙◌, subst, arith}
+use Rattle.std.proofs.Common.{◌≡◌, ◌≢◌, ◌⊎◌, inl, inr, ℕ, ◌<◌, Bool, true, false, ◌||◌, List, length, slice_get, slice_set, length-set, Option, Some, None, refl, ap, sym, ◌∙◌, subst, arith}
 use Rattle.std.proofs.lemmas.Option.{slice_get_within}
 use Rattle.rpc_handlers.specs.declared.event.Memo.{Memo}
 use Rattle.rpc_handlers.specs.HandlerRule.{HandlerRule}
@@ -10,13 +10,12 @@ use Rattle.rpc_journal.specs.declared.setting.Setting.{Setting}
 use Rattle.rpc_journal.specs.Calls.{runner_of}
 use Rattle.rpc_journal.specs.Effect.{Deed}
 use Rattle.rpc_journal.specs.History.{history}
-use Rattle.rpc_journal.specs.Kinds.{is_empty}
 use Rattle.rpc_journal.specs.Recorded.{Recorded}
 use Rattle.rpc_journal.specs.table.Agrees.{AgreesOn}
 use Rattle.rpc_journal.proofs.PlaceLemmas.{get_some, some_same}
 use Rattle.rpc_journal.proofs.table.StepLemmas.{get_other, get_set, same_or_not}
 use Rattle.rpc_calls.specs.Facts.{IsDoneWith, is_done_with}
-use Rattle.rpc_calls.specs.Handlers.{Keeps, is_over, over_state}
+use Rattle.rpc_calls.specs.Handlers.{Keeps, over_state}
 use Rattle.rpc_calls.specs.Roll.{Roll}
 use Rattle.rpc_calls.specs.RunEnds.{HandlersLeft}
 use Rattle.rpc_calls.specs.TableHolds.{IsTable}

@@ -1,5 +1,5 @@
 -- The records of a table over a change of one call.
-use Rattle.std.proofs.Common.{◌≡◌, ◌≢◌, ◌⊎◌, inl, inr, ℕ, zero, suc, ◌<◌, Bool, true, false, List, [], ◌∷◌, length, map, slice_get, slice_set, length-set, Option, Some, None, is_some, is_none, IsSome, IfSome, if◌then◌else◌, refl, ap, sym, ◌∙◌, subst, arith}
+use Rattle.std.proofs.Common.{◌≡◌, ◌≢◌, ◌⊎◌, inl, inr, ℕ, zero, suc, ◌<◌, Bool, true, false, List, [], ◌∷◌, length, map, slice_get, slice_set, Option, Some, None, is_some, is_none, IsSome, IfSome, if◌then◌else◌, refl, ap, sym, ◌∙◌, subst}
 use Rattle.slab.specs.Slab.{ContainsKey, Slab, Updates, get, with_value}
 use Rattle.slab.proofs.SlabLemmas.{Updates-with_value}
 use Rattle.std.proofs.lemmas.Option.{slice_get_within}
@@ -10,13 +10,13 @@ use Rattle.rpc_journal.specs.table.Newest.{newest_of}
 use Rattle.rpc_journal.specs.table.Touch.{Touch}
 use Rattle.rpc_journal.specs.table.Turns.{Turns}
 use Rattle.rpc_journal.specs.Kinds.{or_else}
-use Rattle.rpc_journal.proofs.PlaceLemmas.{get_some, some_same}
-use Rattle.rpc_journal.proofs.table.StepLemmas.{get_other, get_set, same_or_not}
+use Rattle.rpc_journal.proofs.PlaceLemmas.{some_same}
+use Rattle.rpc_journal.proofs.table.StepLemmas.{get_set, same_or_not}
 use Rattle.rpc_calls.specs.declared.call_place.CallFacts.{CallFacts}
 use Rattle.rpc_calls.specs.declared.call_place.CallPlace.{CallPlace}
 use Rattle.rpc_calls.specs.declared.call_place.CallPlace.TheVariants.{Kept, Left}
 use Rattle.rpc_calls.specs.declared.call_record.CallRecord.{CallRecord}
-use Rattle.rpc_calls.specs.Names.{AreSameNames, IsSetTo, Names, call_under, same_key}
+use Rattle.rpc_calls.specs.Names.{Names, call_under, same_key}
 use Rattle.rpc_calls.specs.Numbers.{live_at, live_if, live_in, numbers_of}
 use Rattle.rpc_calls.specs.Places.{ChangesAt}
 use Rattle.rpc_calls.specs.Records.{CanTurnUnder, ChangesRecord, TakesOldest, handler_of, state_in}

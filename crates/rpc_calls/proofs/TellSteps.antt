@@ -1,14 +1,12 @@
 -- The calls of a table over what tells all of them, or makes places for the events of all.
-use Rattle.std.proofs.Common.{◌≡◌, ◌≢◌, ◌⊎◌, inl, inr, ℕ, ◌+◌, ◌<◌, ◌≤◌, Bool, true, false, not, ◌&&◌, nat_lt, List, [], ◌∷◌, ◌++◌, length, slice_get, Option, Some, None, is_some, is_none, if◌then◌else◌, refl, ap, sym, ◌∙◌, subst, arith}
+use Rattle.std.proofs.Common.{◌≡◌, ◌≢◌, ◌⊎◌, inl, inr, ℕ, ◌+◌, ◌<◌, ◌≤◌, Bool, true, false, not, ◌&&◌, nat_lt, List, length, slice_get, Option, Some, None, is_some, is_none, if◌then◌else◌, refl, ap, sym, ◌∙◌, subst, arith}
 use Rattle.std.specs.List.{list_any}
-use Rattle.std.specs.VecDeque.{deque_capacity}
 use Rattle.std.proofs.lemmas.List.{append-nil}
 use Rattle.rpc_journal.specs.declared.table.call_state.CallState.{CallState}
 use Rattle.rpc_journal.specs.declared.table.notice.Notice.{Notice}
 use Rattle.rpc_journal.specs.declared.table.notice.Notice.TheVariants.{Time, InputEnded, ChannelClosed}
 use Rattle.rpc_journal.specs.Queues.{is_tick}
-use Rattle.rpc_journal.specs.table.Agrees.{HasRoomFor}
-use Rattle.rpc_journal.specs.table.Touch.{events_kept, is_told, telling, touch_told, untouched}
+use Rattle.rpc_journal.specs.table.Touch.{is_told, telling, touch_told, untouched}
 use Rattle.rpc_journal.specs.table.Turns.{IsTold, Turns}
 use Rattle.rpc_journal.proofs.table.AgreeLemmas.{is_untouched}
 use Rattle.std.proofs.Math.Arith.{lt_of_le-ne}

@@ -1,5 +1,5 @@
 -- The list of the calls that don't run and for which an event waits.
-use Rattle.std.specs.Prelude.{◌≡◌, ◌≢◌, ◌==◌, ℕ, ◌+◌, ◌<◌, ◌≤◌, ◌⊎◌, Bool, true, false, ◌&&◌, ◌||◌, nat_lt, nat_le, List, length, slice_index_or, Option, Some, None, is_some}
+use Rattle.std.specs.Prelude.{◌≡◌, ◌≢◌, ◌==◌, ℕ, ◌+◌, ◌<◌, ◌≤◌, ◌⊎◌, Bool, ◌&&◌, ◌||◌, nat_lt, nat_le, List, length, slice_index_or, Option, Some, None, is_some}
 use Rattle.std.specs.List.{Contains}
 use Rattle.rpc_calls.specs.declared.waiting_calls.WaitingCall.{WaitingCall}
 use Rattle.rpc_calls.specs.Marks.{one_if}

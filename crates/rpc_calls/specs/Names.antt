@@ -1,5 +1,5 @@
 -- The names of live calls.
-use Rattle.std.specs.Prelude.{◌≡◌, ℕ, ◌&&◌, Bool, List, Option, Some, None, eqb, if◌then◌else◌}
+use Rattle.std.specs.Prelude.{◌≡◌, ℕ, ◌&&◌, Bool, List, Option, eqb, if◌then◌else◌}
 use Rattle.std.specs.Map.{lookup}
 use Rattle.rpc_packet.specs.declared.call_name.CallName.{CallName}
 

@@ -1,11 +1,9 @@
 -- A call that opens.
-use Rattle.std.specs.Prelude.{◌≡◌, ℕ, List, [], ◌∷◌, ◌++◌, length, Some}
+use Rattle.std.specs.Prelude.{◌≡◌, ℕ, [], ◌∷◌, ◌++◌, length, Some}
 use Rattle.rpc_journal.specs.declared.table.call_state.CallState.{CallState}
 use Rattle.rpc_journal.specs.table.Newest.{IsNamed}
 use Rattle.rpc_calls.specs.Outside.{SameOutside, SameRest}
-use Rattle.rpc_calls.specs.Kept.{is_kept_at}
 use Rattle.rpc_calls.specs.Roll.{Roll}
-use Rattle.rpc_calls.specs.declared.call_place.CallPlace.{CallPlace}
 use Rattle.rpc_calls.specs.declared.call_place.CallPlace.TheVariants.{Kept}
 
 module _ {H : Type 0} where

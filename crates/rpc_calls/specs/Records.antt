@@ -1,12 +1,11 @@
 -- The records of calls in a slab.
-use Rattle.std.specs.Prelude.{◌≡◌, ℕ, ◌∷◌, Bool, Option, Some, None, IfSome}
+use Rattle.std.specs.Prelude.{◌≡◌, ℕ, ◌∷◌, Option, Some, None, IfSome}
 use Rattle.slab.specs.Slab.{Slab, Updates, get}
 use Rattle.rpc_journal.specs.declared.table.call_state.CallState.{CallState}
 use Rattle.rpc_journal.specs.declared.waiting.Waiting.{Waiting}
-use Rattle.rpc_journal.specs.table.Turns.{Turns}
 use Rattle.rpc_calls.specs.declared.call_record.CallRecord.{CallRecord}
 use Rattle.rpc_calls.specs.declared.state_change.StateChange.{StateChange}
-use Rattle.rpc_calls.specs.StateChanges.{CanTurn, is_start, touch_of}
+use Rattle.rpc_calls.specs.StateChanges.{CanTurn}
 
 module _ {H : Type 0} where
   abbrev pub state_in : Option (CallRecord H) → Option CallState

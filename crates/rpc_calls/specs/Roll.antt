@@ -1,5 +1,5 @@
 -- The calls of a table: their states, their handlers, and where each is found.
-use Rattle.std.specs.Prelude.{◌≡◌, ◌≢◌, ℕ, ◌<◌, ◌^◌, Bool, true, false, List, [], ◌∷◌, ◌++◌, length, map, slice_get, slice_set, Option, Some, None}
+use Rattle.std.specs.Prelude.{◌≡◌, ◌≢◌, ℕ, false, List, length, slice_get, slice_set, Option, Some, None}
 use Rattle.slab.specs.Slab.{Slab, get}
 use Rattle.rpc_packet.specs.declared.call_name.CallName.{CallName}
 use Rattle.rpc_journal.specs.declared.table.call_state.CallState.{CallState}
@@ -8,7 +8,7 @@ use Rattle.rpc_calls.specs.declared.call_place.CallFacts.{CallFacts}
 use Rattle.rpc_calls.specs.declared.call_place.CallPlace.{CallPlace}
 use Rattle.rpc_calls.specs.declared.call_place.CallPlace.TheVariants.{Kept, Left}
 use Rattle.rpc_calls.specs.declared.call_record.CallRecord.{CallRecord}
-use Rattle.rpc_calls.specs.Facts.{IsDoneWith, facts_of, is_done_with}
+use Rattle.rpc_calls.specs.Facts.{IsDoneWith, facts_of}
 use Rattle.rpc_calls.specs.Kept.{is_kept_at}
 use Rattle.rpc_calls.specs.Names.{Names, call_under}
 use Rattle.rpc_calls.specs.Numbers.{live_in}

@@ -1,4 +1,3 @@
-use Rattle.std.proofs.Common.{sym}
 use Rattle.rpc_journal.specs.table.Turns.{Turns}
 use Rattle.rpc_calls.specs.StateChanges.{touch_of}
 use Rattle.rpc_calls.proofs.RecordSteps.{record_set}

@@ -1,7 +1,5 @@
-use Rattle.std.proofs.Common.{◌≡◌, Some, IsSome, option_map, slice_get, refl, ap, subst, sym}
+use Rattle.std.proofs.Common.{subst, sym}
 use Rattle.rpc_journal.specs.table.Touch.{cancelling}
-use Rattle.rpc_journal.proofs.PlaceLemmas.{get_some}
-use Rattle.rpc_calls.specs.Facts.{facts_of}
 use Rattle.rpc_calls.specs.Places.{ChangesAt}
 use Rattle.rpc_journal.specs.table.Turns.{Turns}
 use Rattle.rpc_calls.proofs.cancelling.cancel_call.Goals as goal

@@ -1,4 +1,4 @@
-use Rattle.std.proofs.Common.{◌≡◌, ◌∙◌, ◌++◌, ◌∷◌, [], Some, IfSome, IsSome, slice_get, if◌then◌else◌, length, refl, ap, sym, subst, arith}
+use Rattle.std.proofs.Common.{◌≡◌, ◌∙◌, ◌++◌, ◌∷◌, [], Some, IfSome, slice_get, if◌then◌else◌, refl, ap, sym, subst, arith}
 use Rattle.std.proofs.Math.Facts.{Fits-of_lt}
 use Rattle.rpc_ids.specs.declared.status.Status.TheVariants.{Aborted}
 use Rattle.rpc_journal.specs.declared.table.call_state.CallState.{CallState}

@@ -1,4 +1,4 @@
-use Rattle.std.proofs.Common.{◌≡◌, ◌++◌, ◌∙◌, Some, IfSome, length, slice_get, is_some, ap, sym, subst, arith}
+use Rattle.std.proofs.Common.{◌≡◌, ◌++◌, ◌∙◌, Some, IfSome, slice_get, ap, sym, subst}
 use Rattle.rpc_journal.specs.declared.table.call_state.CallState.{CallState}
 use Rattle.rpc_journal.specs.table.Touch.{finishing_so, completes_given, end_given}
 use Rattle.rpc_journal.proofs.PlaceLemmas.{get_some, some_same}

@@ -1,9 +1,5 @@
-use Rattle.std.proofs.Common.{◌≡◌, ◌∙◌, true, Some, length, map, slice_get, slice_set, IfSome, refl, ap, sym, subst, arith}
-use Rattle.rpc_journal.specs.declared.table.call_state.CallState.{CallState}
-use Rattle.rpc_journal.specs.table.Touch.{cancelling}
-use Rattle.rpc_journal.specs.table.Turns.{Turns}
+use Rattle.std.proofs.Common.{◌≡◌, Some, slice_get, IfSome, refl, sym, subst}
 use Rattle.rpc_calls.specs.declared.call_place.CallPlace.TheVariants.{Left}
-use Rattle.rpc_calls.specs.Places.{ChangesAt}
 use Rattle.rpc_calls.proofs.LeaveSteps.{CutLeft, cut_left}
 use Rattle.rpc_calls.proofs.call_records.CallRecords.cancel_left.Goals as goal
 

@@ -1,5 +1,4 @@
-use Rattle.std.proofs.Common.{◌≡◌, ◌∙◌, Some, None, slice_get, option_map, ap, sym, subst}
-use Rattle.rpc_calls.specs.Facts.{facts_of}
+use Rattle.std.proofs.Common.{◌∙◌, Some, ap, sym}
 use Rattle.rpc_calls.proofs.LeaveSteps.{facts_beyond, facts_kept, facts_left}
 use Rattle.rpc_calls.proofs.RecordSteps.{key_there}
 use Rattle.rpc_calls.proofs.call_records.CallRecords.facts.Goals as goal

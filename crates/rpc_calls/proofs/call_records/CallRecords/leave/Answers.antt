@@ -1,4 +1,4 @@
-use Rattle.std.proofs.Common.{◌≡◌, ◌∙◌, Some, length, map, slice_get, slice_set, length-set, refl, ap, sym, subst, arith}
+use Rattle.std.proofs.Common.{◌≡◌, ◌∙◌, Some, slice_get, length-set, refl, ap, sym, subst, arith}
 use Rattle.rpc_calls.specs.Facts.{facts_of}
 use Rattle.std.proofs.lemmas.Option.{slice_get_within}
 use Rattle.rpc_journal.proofs.PlaceLemmas.{some_same}
@@ -6,7 +6,6 @@ use Rattle.rpc_journal.proofs.table.StepLemmas.{get_other, get_set}
 use Rattle.rpc_calls.specs.declared.call_place.CallPlace.TheVariants.{Kept, Left}
 use Rattle.rpc_calls.specs.declared.call_record.CallRecord.{CallRecord}
 use Rattle.rpc_calls.specs.Kept.{is_kept_at}
-use Rattle.rpc_calls.specs.Roll.{Leaves}
 use Rattle.rpc_calls.proofs.LeaveSteps.{handlers_left, stands_left}
 use Rattle.rpc_calls.proofs.RecordSteps.{key_there}
 use Rattle.rpc_calls.proofs.call_records.CallRecords.leave.Goals as goal

@@ -1,4 +1,4 @@
-use Rattle.std.proofs.Common.{◌∙◌, Some, option_map, ap, sym}
+use Rattle.std.proofs.Common.{◌∙◌, option_map, ap, sym}
 use Rattle.rpc_journal.proofs.PlaceLemmas.{some_same}
 use Rattle.rpc_calls.specs.declared.call_place.CallFacts.{CallFacts}
 use Rattle.rpc_calls.specs.Facts.{facts_of}

@@ -1,4 +1,4 @@
-use Rattle.std.proofs.Common.{◌≡◌, ◌∙◌, Some, None, false, slice_get, ap, sym, subst}
+use Rattle.std.proofs.Common.{◌≡◌, ◌∙◌, Some, slice_get, ap, sym, subst}
 use Rattle.rpc_calls.specs.Kept.{is_kept_at}
 use Rattle.rpc_calls.proofs.LeaveSteps.{left_done, left_empty, state_kept}
 use Rattle.rpc_calls.proofs.RecordSteps.{key_there}

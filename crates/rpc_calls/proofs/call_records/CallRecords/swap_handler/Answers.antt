@@ -1,4 +1,4 @@
-use Rattle.std.proofs.Common.{◌≡◌, ◌∙◌, Some, length, map, slice_get, slice_set, refl, ap, sym, subst}
+use Rattle.std.proofs.Common.{◌≡◌, ◌∙◌, Some, map, slice_get, slice_set, ap, sym, subst}
 use Rattle.rpc_calls.specs.Roll.{handler_in}
 use Rattle.rpc_calls.proofs.LeaveSteps.{handler_was, handlers_swapped, stands_swapped}
 use Rattle.rpc_calls.proofs.RecordSteps.{key_there}

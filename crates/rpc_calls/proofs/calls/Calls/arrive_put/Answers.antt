@@ -10,7 +10,7 @@ use Rattle.rpc_calls.specs.Owed.{items_of}
 use Rattle.rpc_journal.specs.table.Touch.{putting}
 use Rattle.rpc_calls.specs.Places.{ChangesAt}
 use Rattle.rpc_journal.specs.table.Turns.{Turns}
-use Rattle.rpc_calls.proofs.ArriveSteps.{arrives_put, live_status, table_roomier}
+use Rattle.rpc_calls.proofs.ArriveSteps.{Arrives, arrives_put, live_status, table_roomier}
 use Rattle.rpc_calls.proofs.InUseSteps.{live_used}
 use Rattle.rpc_calls.proofs.WiderSteps.{table_widened}
 use Rattle.rpc_calls.proofs.calls.Calls.arrive_put.Goals as goal
@@ -46,26 +46,23 @@ invariant_of-self-in_err-packet g c =
     (table_widened g.H.Acts.now g.H.Acts.can_act g.H.Handler.rule c.self.inside.setting c.self.inside.journal c.args.call c.self.inside.calls.states c.widen.new.self.states c.self.inside.calls.handlers c.self.inside.items.items (deque_capacity c.self.inside.items) c.self.invariant c.in_ok-widen.ensures.same)
     c.in_ok-take_room.ensures.entries c.in_ok-take_room.ensures.spare c.in_ok-take_room.ensures.items c.in_ok-take_room.ensures.capacity)
 
-pub invariant_of-self-2 : goal.invariant_of-self-2
-invariant_of-self-2 g c =
-    rw (c.put.ensures.handlers, c.widen.ensures.handlers)
-    ((arrives_put g.H.Acts.now g.H.Acts.can_act g.H.Handler.rule c.self.inside.setting c.self.inside.journal c.push.new.self c.args.seat c.args.call c.len-at.result c.args.p.now (event_put c.args.completes c.args.p.now) c.widen.new.self.states c.put.new.self.states c.self.inside.calls.handlers c.self.inside.items.items c.take_room.new.items.items _ (deque_capacity c.take_room.new.items) c.take_room.new.journal.spare (table_widened g.H.Acts.now g.H.Acts.can_act g.H.Handler.rule c.self.inside.setting c.self.inside.journal c.args.call c.self.inside.calls.states c.widen.new.self.states c.self.inside.calls.handlers c.self.inside.items.items (deque_capacity c.self.inside.items) c.self.invariant c.in_ok-widen.ensures.same)
+-- The table after the packet.
+arrived : (g : _) (c : goal.After-push g)
+    → Arrives g.H.Acts.now g.H.Acts.can_act g.H.Handler.rule c.self.inside.setting c.self.inside.journal c.push.new.self c.args.seat c.args.p.now (queued_row c.args.call (event_put c.args.completes c.args.p.now)).answer c.put.new.self.states c.self.inside.calls.handlers c.take_room.new.items.items (deque_capacity c.take_room.new.items)
+arrived g c =
+    arrives_put g.H.Acts.now g.H.Acts.can_act g.H.Handler.rule c.self.inside.setting c.self.inside.journal c.push.new.self c.args.seat c.args.call c.len-at.result c.args.p.now (event_put c.args.completes c.args.p.now) c.widen.new.self.states c.put.new.self.states c.self.inside.calls.handlers c.self.inside.items.items c.take_room.new.items.items _ (deque_capacity c.take_room.new.items) c.take_room.new.journal.spare (table_widened g.H.Acts.now g.H.Acts.can_act g.H.Handler.rule c.self.inside.setting c.self.inside.journal c.args.call c.self.inside.calls.states c.widen.new.self.states c.self.inside.calls.handlers c.self.inside.items.items (deque_capacity c.self.inside.items) c.self.invariant c.in_ok-widen.ensures.same)
     (subst (λ t. CanTake t.setting t.entries c.args.seat c.args.p.now (queued_row c.args.call (event_put c.args.completes c.args.p.now))) (sym c.self.view_is) c.requires.take)
     (subst (λ t. IsLiveCall (past t) c.args.call) (sym c.self.view_is) c.requires.live) c.len-at.ensures.len c.in_ok-widen.ensures.room
     (subst (λ e. ChangesAt c.args.call (Turns c.len-at.result (putting e)) c.widen.new.self.states.calls.items c.put.new.self.states.calls.items) c.in_ok-packet.ensures.1 c.put.ensures.change) c.put.ensures.outside.unflushed c.put.ensures.outside.input c.put.ensures.outside.halt c.put.ensures.outside.newest c.put.ensures.outside.closed c.in_ok-take_room.ensures.items
     (c.push.ensures.entries ∙ ap (λ es. adding es c.args.seat (Arrive c.in_ok-packet.packet)) c.in_ok-take_room.ensures.entries ∙ ap (λ q. adding c.self.inside.journal.entries c.args.seat (Arrive q)) c.in_ok-packet.ensures.0)
     c.push.ensures.spare
     (subst (λ o. length c.self.inside.items.items + items_of o + 0 ≤ deque_capacity c.take_room.new.items) c.owed.ensures.counts c.in_ok-take_room.ensures.places)
-    (subst (λ o. length c.self.inside.items.items + items_of o + 0 + (o.uncancelled + o.running + 2) + 1 ≤ c.take_room.new.journal.spare) c.owed.ensures.counts c.in_ok-take_room.ensures.records)).table)
+    (subst (λ o. length c.self.inside.items.items + items_of o + 0 + (o.uncancelled + o.running + 2) + 1 ≤ c.take_room.new.journal.spare) c.owed.ensures.counts c.in_ok-take_room.ensures.records)
+
+pub invariant_of-self-2 : goal.invariant_of-self-2
+invariant_of-self-2 g c = rw (c.put.ensures.handlers, c.widen.ensures.handlers) (arrived g c).table
 
 pub returns-clause-took : goal.returns-clause-took
 returns-clause-took g c =
     subst (λ t. Took g.H.Handler.rule t.setting c.args.seat c.args.p.now (Queued c.args.call) t.entries c.push.new.self.entries) c.self.view_is
-    (arrives_put g.H.Acts.now g.H.Acts.can_act g.H.Handler.rule c.self.inside.setting c.self.inside.journal c.push.new.self c.args.seat c.args.call c.len-at.result c.args.p.now (event_put c.args.completes c.args.p.now) c.widen.new.self.states c.put.new.self.states c.self.inside.calls.handlers c.self.inside.items.items c.take_room.new.items.items _ (deque_capacity c.take_room.new.items) c.take_room.new.journal.spare (table_widened g.H.Acts.now g.H.Acts.can_act g.H.Handler.rule c.self.inside.setting c.self.inside.journal c.args.call c.self.inside.calls.states c.widen.new.self.states c.self.inside.calls.handlers c.self.inside.items.items (deque_capacity c.self.inside.items) c.self.invariant c.in_ok-widen.ensures.same)
-    (subst (λ t. CanTake t.setting t.entries c.args.seat c.args.p.now (queued_row c.args.call (event_put c.args.completes c.args.p.now))) (sym c.self.view_is) c.requires.take)
-    (subst (λ t. IsLiveCall (past t) c.args.call) (sym c.self.view_is) c.requires.live) c.len-at.ensures.len c.in_ok-widen.ensures.room
-    (subst (λ e. ChangesAt c.args.call (Turns c.len-at.result (putting e)) c.widen.new.self.states.calls.items c.put.new.self.states.calls.items) c.in_ok-packet.ensures.1 c.put.ensures.change) c.put.ensures.outside.unflushed c.put.ensures.outside.input c.put.ensures.outside.halt c.put.ensures.outside.newest c.put.ensures.outside.closed c.in_ok-take_room.ensures.items
-    (c.push.ensures.entries ∙ ap (λ es. adding es c.args.seat (Arrive c.in_ok-packet.packet)) c.in_ok-take_room.ensures.entries ∙ ap (λ q. adding c.self.inside.journal.entries c.args.seat (Arrive q)) c.in_ok-packet.ensures.0)
-    c.push.ensures.spare
-    (subst (λ o. length c.self.inside.items.items + items_of o + 0 ≤ deque_capacity c.take_room.new.items) c.owed.ensures.counts c.in_ok-take_room.ensures.places)
-    (subst (λ o. length c.self.inside.items.items + items_of o + 0 + (o.uncancelled + o.running + 2) + 1 ≤ c.take_room.new.journal.spare) c.owed.ensures.counts c.in_ok-take_room.ensures.records)).took
+    (arrived g c).took

@@ -1,6 +1,4 @@
 use Rattle.std.proofs.Common.{◌≡◌, ◌∙◌, ◌+◌, ◌≤◌, ◌++◌, ◌∷◌, [], None, Ok, length, refl, ap, sym, subst, arith}
-use Rattle.std.proofs.Math.Facts.{Fits-of_lt}
-use Rattle.std.proofs.lemmas.List.Sums.{count_by-le-length}
 use Rattle.std.specs.VecDeque.{deque_capacity}
 use Rattle.rpc_journal.specs.declared.table.call_states.CallStates.{CallStates}
 use Rattle.rpc_journal.specs.declared.entry.EntryKind.TheVariants.{Close}
@@ -11,11 +9,10 @@ use Rattle.rpc_journal.specs.History.{adding}
 use Rattle.rpc_journal.specs.table.Newest.{newest_of}
 use Rattle.rpc_journal.specs.Refusals.{close_refusal}
 use Rattle.rpc_journal.specs.table.Agrees.{HasRoomFor}
-use Rattle.rpc_journal.specs.table.Touch.{is_told}
 use Rattle.rpc_journal.specs.table.Turns.{IsTold}
 use Rattle.rpc_calls.specs.Owed.{items_of, owed_by}
 use Rattle.rpc_calls.specs.Places.{ChangesAll}
-use Rattle.rpc_calls.proofs.CloseTables.{close_room, table_shut}
+use Rattle.rpc_calls.proofs.CloseTables.{Closes, close_room, table_shut}
 use Rattle.rpc_calls.proofs.OpenTables.{table_kept}
 use Rattle.rpc_calls.proofs.calls.Calls.close_calls.Goals as goal
 
@@ -49,10 +46,11 @@ invariant_of-self-in_err-make_channel_place g c =
     })
     c.in_ok-take_room.ensures.entries c.in_ok-take_room.ensures.spare c.in_ok-take_room.ensures.items c.in_ok-take_room.ensures.capacity)
 
-pub invariant_of-self-2 : goal.invariant_of-self-2
-invariant_of-self-2 g c =
-    rw (c.set_unflushed.ensures.handlers, c.close_channel.ensures.handlers, c.make_channel_place.ensures.handlers)
-    ((table_shut g.H.Acts.now g.H.Acts.can_act g.H.Handler.rule c.self.inside.setting c.self.inside.journal c.push.new.self c.args.seat c.args.channel c.len-at.result c.count_live-ended.result c.self.inside.calls.states c.set_unflushed.new.self.states c.self.inside.calls.handlers c.self.inside.items.items c.say_closing.new.items.items _ (deque_capacity c.say_closing.new.items) c.take_room.new.journal.spare c.self.invariant
+-- The table after the close.
+shut : (g : _) (c : goal.After-push g)
+    → Closes g.H.Acts.now g.H.Acts.can_act g.H.Handler.rule c.self.inside.setting c.self.inside.journal c.push.new.self c.args.seat c.args.channel c.count_live-ended.result c.set_unflushed.new.self.states c.self.inside.calls.handlers c.say_closing.new.items.items (deque_capacity c.say_closing.new.items)
+shut g c =
+    table_shut g.H.Acts.now g.H.Acts.can_act g.H.Handler.rule c.self.inside.setting c.self.inside.journal c.push.new.self c.args.seat c.args.channel c.len-at.result c.count_live-ended.result c.self.inside.calls.states c.set_unflushed.new.self.states c.self.inside.calls.handlers c.self.inside.items.items c.say_closing.new.items.items _ (deque_capacity c.say_closing.new.items) c.take_room.new.journal.spare c.self.invariant
     (subst (λ t. close_refusal t.setting t.entries c.args.channel ≡ None) (sym c.self.view_is) c.requires)
     c.len-at.ensures.len c.count_live-ended.ensures
     (subst (λ (t : CallStates). ChangesAll (IsTold c.len-at.result (ChannelClosed c.args.channel)) c.self.inside.calls.states.calls.items t.calls.items) (sym c.set_unflushed.ensures.states)
@@ -67,43 +65,15 @@ invariant_of-self-2 g c =
     (c.push.ensures.entries ∙ ap (λ es. adding es c.args.seat (Close c.args.channel)) c.in_ok-take_room.ensures.entries)
     c.push.ensures.spare
     (subst (λ n. length c.self.inside.items.items + items_of (owed_by c.self.inside.calls.states.calls.items) + c.count_live-ended.result ≤ n) (sym c.say_closing.ensures.capacity) (subst (λ o. length c.self.inside.items.items + items_of o + c.count_live-ended.result ≤ deque_capacity c.take_room.new.items) c.owed.ensures.counts c.in_ok-take_room.ensures.places))
-    (subst (λ o. length c.self.inside.items.items + items_of o + c.count_live-ended.result + (o.uncancelled + o.running + 2) + 1 ≤ c.take_room.new.journal.spare) c.owed.ensures.counts c.in_ok-take_room.ensures.records)).table)
+    (subst (λ o. length c.self.inside.items.items + items_of o + c.count_live-ended.result + (o.uncancelled + o.running + 2) + 1 ≤ c.take_room.new.journal.spare) c.owed.ensures.counts c.in_ok-take_room.ensures.records)
+
+pub invariant_of-self-2 : goal.invariant_of-self-2
+invariant_of-self-2 g c = rw (c.set_unflushed.ensures.handlers, c.close_channel.ensures.handlers, c.make_channel_place.ensures.handlers) (shut g c).table
 
 pub returns-clause-did : goal.returns-clause-did
 returns-clause-did g c =
     subst (λ t. CloseDid t.setting c.args.seat c.args.channel (Ok c.count_live-ended.result) t.entries c.push.new.self.entries) c.self.view_is
-    (table_shut g.H.Acts.now g.H.Acts.can_act g.H.Handler.rule c.self.inside.setting c.self.inside.journal c.push.new.self c.args.seat c.args.channel c.len-at.result c.count_live-ended.result c.self.inside.calls.states c.set_unflushed.new.self.states c.self.inside.calls.handlers c.self.inside.items.items c.say_closing.new.items.items _ (deque_capacity c.say_closing.new.items) c.take_room.new.journal.spare c.self.invariant
-    (subst (λ t. close_refusal t.setting t.entries c.args.channel ≡ None) (sym c.self.view_is) c.requires)
-    c.len-at.ensures.len c.count_live-ended.ensures
-    (subst (λ (t : CallStates). ChangesAll (IsTold c.len-at.result (ChannelClosed c.args.channel)) c.self.inside.calls.states.calls.items t.calls.items) (sym c.set_unflushed.ensures.states)
-    (subst (λ cs. ChangesAll (IsTold c.len-at.result (ChannelClosed c.args.channel)) cs c.close_channel.new.self.states.calls.items) c.in_ok-make_channel_place.ensures.calls c.close_channel.ensures.calls))
-    (ap (λ (t : CallStates). t.unflushed) c.set_unflushed.ensures.states ∙ c.len.ensures ∙ c.say_closing.new.items.ok.0)
-    (ap (λ (t : CallStates). t.input_ended) c.set_unflushed.ensures.states ∙ c.close_channel.ensures.input ∙ c.in_ok-make_channel_place.ensures.outside.input)
-    (ap (λ (t : CallStates). t.halted) c.set_unflushed.ensures.states ∙ c.close_channel.ensures.halt ∙ c.in_ok-make_channel_place.ensures.outside.halt)
-    (ap (λ (t : CallStates). t.newest) c.set_unflushed.ensures.states ∙ c.close_channel.ensures.newest ∙ c.in_ok-make_channel_place.ensures.outside.newest)
-    (ap (λ (t : CallStates). t.closed.items) c.set_unflushed.ensures.states ∙ c.close_channel.ensures.closed ∙ ap (λ xs. xs ++ c.args.channel ∷ []) c.in_ok-make_channel_place.ensures.outside.closed)
-    (c.say_closing.ensures.items ∙ ap (λ xs. xs ++ closing_items c.self.inside.setting.role c.args.channel 0 c.make_channel_place.new.self.states.calls.items) c.in_ok-take_room.ensures.items
-    ∙ ap (λ cs. c.self.inside.items.items ++ closing_items c.self.inside.setting.role c.args.channel 0 cs) c.in_ok-make_channel_place.ensures.calls)
-    (c.push.ensures.entries ∙ ap (λ es. adding es c.args.seat (Close c.args.channel)) c.in_ok-take_room.ensures.entries)
-    c.push.ensures.spare
-    (subst (λ n. length c.self.inside.items.items + items_of (owed_by c.self.inside.calls.states.calls.items) + c.count_live-ended.result ≤ n) (sym c.say_closing.ensures.capacity) (subst (λ o. length c.self.inside.items.items + items_of o + c.count_live-ended.result ≤ deque_capacity c.take_room.new.items) c.owed.ensures.counts c.in_ok-take_room.ensures.places))
-    (subst (λ o. length c.self.inside.items.items + items_of o + c.count_live-ended.result + (o.uncancelled + o.running + 2) + 1 ≤ c.take_room.new.journal.spare) c.owed.ensures.counts c.in_ok-take_room.ensures.records)).did
+    (shut g c).did
 
 pub returns-clause-legal : goal.returns-clause-legal
-returns-clause-legal g c =
-    (table_shut g.H.Acts.now g.H.Acts.can_act g.H.Handler.rule c.self.inside.setting c.self.inside.journal c.push.new.self c.args.seat c.args.channel c.len-at.result c.count_live-ended.result c.self.inside.calls.states c.set_unflushed.new.self.states c.self.inside.calls.handlers c.self.inside.items.items c.say_closing.new.items.items _ (deque_capacity c.say_closing.new.items) c.take_room.new.journal.spare c.self.invariant
-    (subst (λ t. close_refusal t.setting t.entries c.args.channel ≡ None) (sym c.self.view_is) c.requires)
-    c.len-at.ensures.len c.count_live-ended.ensures
-    (subst (λ (t : CallStates). ChangesAll (IsTold c.len-at.result (ChannelClosed c.args.channel)) c.self.inside.calls.states.calls.items t.calls.items) (sym c.set_unflushed.ensures.states)
-    (subst (λ cs. ChangesAll (IsTold c.len-at.result (ChannelClosed c.args.channel)) cs c.close_channel.new.self.states.calls.items) c.in_ok-make_channel_place.ensures.calls c.close_channel.ensures.calls))
-    (ap (λ (t : CallStates). t.unflushed) c.set_unflushed.ensures.states ∙ c.len.ensures ∙ c.say_closing.new.items.ok.0)
-    (ap (λ (t : CallStates). t.input_ended) c.set_unflushed.ensures.states ∙ c.close_channel.ensures.input ∙ c.in_ok-make_channel_place.ensures.outside.input)
-    (ap (λ (t : CallStates). t.halted) c.set_unflushed.ensures.states ∙ c.close_channel.ensures.halt ∙ c.in_ok-make_channel_place.ensures.outside.halt)
-    (ap (λ (t : CallStates). t.newest) c.set_unflushed.ensures.states ∙ c.close_channel.ensures.newest ∙ c.in_ok-make_channel_place.ensures.outside.newest)
-    (ap (λ (t : CallStates). t.closed.items) c.set_unflushed.ensures.states ∙ c.close_channel.ensures.closed ∙ ap (λ xs. xs ++ c.args.channel ∷ []) c.in_ok-make_channel_place.ensures.outside.closed)
-    (c.say_closing.ensures.items ∙ ap (λ xs. xs ++ closing_items c.self.inside.setting.role c.args.channel 0 c.make_channel_place.new.self.states.calls.items) c.in_ok-take_room.ensures.items
-    ∙ ap (λ cs. c.self.inside.items.items ++ closing_items c.self.inside.setting.role c.args.channel 0 cs) c.in_ok-make_channel_place.ensures.calls)
-    (c.push.ensures.entries ∙ ap (λ es. adding es c.args.seat (Close c.args.channel)) c.in_ok-take_room.ensures.entries)
-    c.push.ensures.spare
-    (subst (λ n. length c.self.inside.items.items + items_of (owed_by c.self.inside.calls.states.calls.items) + c.count_live-ended.result ≤ n) (sym c.say_closing.ensures.capacity) (subst (λ o. length c.self.inside.items.items + items_of o + c.count_live-ended.result ≤ deque_capacity c.take_room.new.items) c.owed.ensures.counts c.in_ok-take_room.ensures.places))
-    (subst (λ o. length c.self.inside.items.items + items_of o + c.count_live-ended.result + (o.uncancelled + o.running + 2) + 1 ≤ c.take_room.new.journal.spare) c.owed.ensures.counts c.in_ok-take_room.ensures.records)).table.legal
+returns-clause-legal g c = (shut g c).table.legal

@@ -1,4 +1,4 @@
-use Rattle.std.proofs.Common.{◌≡◌, ◌∙◌, ◌<◌, length, slice_get, Some, IsSome, option_map, refl, ap, subst, sym, arith}
+use Rattle.std.proofs.Common.{◌≡◌, ◌∙◌, ◌<◌, Some, IsSome, option_map, refl, ap, subst, sym, arith}
 use Rattle.rpc_journal.specs.Calls.{call_at, call_count}
 use Rattle.rpc_journal.specs.CallTable.{past}
 use Rattle.rpc_journal.proofs.PlaceLemmas.{get_some}

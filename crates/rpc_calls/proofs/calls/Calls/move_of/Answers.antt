@@ -2,7 +2,7 @@ use Rattle.std.proofs.Common.{◌≡◌, refl, sym, subst}
 use Rattle.rpc_journal.specs.Calls.{call_count}
 use Rattle.rpc_journal.specs.Entries.{arrive_row}
 use Rattle.rpc_journal.specs.History.{history}
-use Rattle.rpc_journal.specs.table.Moves.{IsOpenMove, row_of}
+use Rattle.rpc_journal.specs.table.Moves.{row_of}
 use Rattle.rpc_journal.specs.CallTable.{past}
 use Rattle.rpc_calls.specs.Arrivals.{IsLiveMove}
 use Rattle.rpc_calls.proofs.MoveLemmas.{live_move}

@@ -1,4 +1,4 @@
-use Rattle.std.proofs.Common.{◌≡◌, ◌∙◌, ◌<◌, ◌≤◌, length, reverse, slice_get, ap, sym, subst, arith}
+use Rattle.std.proofs.Common.{◌≡◌, ◌∙◌, ◌<◌, ◌≤◌, length, reverse, ap, sym, subst, arith}
 use Rattle.rpc_journal.specs.Calls.{call_count}
 use Rattle.rpc_journal.specs.Queues.{waiting_of}
 use Rattle.rpc_journal.specs.CallTable.{past}

@@ -1,7 +1,6 @@
-use Rattle.std.proofs.Common.{◌≡◌, ◌∙◌, ◌<◌, Some, length, slice_get, refl, ap, sym, subst, arith}
+use Rattle.std.proofs.Common.{◌<◌, length, sym, subst, arith}
 use Rattle.rpc_journal.specs.table.Touch.{cancelling}
 use Rattle.rpc_journal.specs.table.Turns.{Turns}
-use Rattle.rpc_calls.specs.Kept.{is_kept_at}
 use Rattle.rpc_calls.specs.Indexed.{IsIndexed}
 use Rattle.rpc_calls.specs.Places.{ChangesAt}
 use Rattle.rpc_calls.specs.RunEnds.{CutsHandler}

@@ -1,4 +1,3 @@
-use Rattle.std.proofs.Common.{Some, ap, sym}
 use Rattle.rpc_journal.proofs.PlaceLemmas.{get_some}
 use Rattle.rpc_calls.proofs.InUseSteps.{done_ended}
 use Rattle.rpc_calls.proofs.indexed_states.IndexedStates.completed_at.Goals as goal

@@ -10,7 +10,7 @@ use Rattle.rpc_calls.specs.RunEnds.{EndsRun}
 use Rattle.rpc_calls.specs.Outside.{SameOutside}
 use Rattle.rpc_calls.proofs.EndSteps.{ends_run, turns_anywhere, used_left}
 use Rattle.rpc_calls.proofs.IndexSteps.{can_reindex, index_changed}
-use Rattle.rpc_calls.proofs.InUseSteps.{kept_changed, runs_used}
+use Rattle.rpc_calls.proofs.InUseSteps.{runs_used}
 use Rattle.rpc_calls.proofs.indexed_states.IndexedStates.finish.Goals as goal
 
 pub change-requires-clause-kept : goal.change-requires-clause-kept

@@ -1,4 +1,4 @@
-use Rattle.std.proofs.Common.{◌≡◌, ◌∙◌, Some, None, not, count_by, slice_get, refl, ap, sym}
+use Rattle.std.proofs.Common.{◌≡◌, ◌∙◌, Some, not, count_by, slice_get, refl, ap, sym}
 use Rattle.std.proofs.lemmas.Bool.{le-leb, lt-leb}
 use Rattle.rpc_journal.specs.declared.table.call_state.CallState.{CallState}
 use Rattle.rpc_journal.specs.Queues.{is_ended, messages_waiting}

@@ -1,4 +1,4 @@
-use Rattle.std.proofs.Common.{◌∙◌, Some, None, ap, sym, subst}
+use Rattle.std.proofs.Common.{◌∙◌, Some, None, ap, sym}
 use Rattle.rpc_journal.specs.Kinds.{streams_out}
 use Rattle.rpc_journal.proofs.table.KnownStates.{stream_known}
 use Rattle.rpc_calls.specs.declared.call_place.CallFacts.{CallFacts}

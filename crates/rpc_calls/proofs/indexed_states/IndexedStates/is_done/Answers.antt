@@ -1,5 +1,4 @@
-use Rattle.std.proofs.Common.{◌∙◌, Some, None, ap, sym, subst}
-use Rattle.rpc_journal.specs.table.Agrees.{Agrees}
+use Rattle.std.proofs.Common.{◌∙◌, Some, None, ap, sym}
 use Rattle.rpc_journal.proofs.table.KnownStates.{done_known}
 use Rattle.rpc_calls.specs.declared.call_place.CallFacts.{CallFacts}
 use Rattle.rpc_calls.proofs.FactSteps.{facts_none, facts_row}

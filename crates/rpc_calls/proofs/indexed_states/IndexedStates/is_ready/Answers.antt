@@ -1,4 +1,4 @@
-use Rattle.std.proofs.Common.{◌≡◌, ◌∙◌, Some, None, false, slice_get, is_some, refl, ap, sym}
+use Rattle.std.proofs.Common.{◌∙◌, Some, false, slice_get, is_some, refl, ap, sym}
 use Rattle.rpc_journal.specs.declared.table.call_state.CallState.{CallState}
 use Rattle.rpc_journal.specs.table.Touch.{is_startable}
 use Rattle.rpc_journal.proofs.table.KnownStates.{ready_known}

@@ -1,4 +1,4 @@
-use Rattle.std.proofs.Common.{◌≡◌, ◌∙◌, Some, sym, subst}
+use Rattle.std.proofs.Common.{◌∙◌, sym, subst}
 use Rattle.rpc_journal.specs.table.Agrees.{Agrees, IsOpenAt}
 use Rattle.rpc_calls.proofs.FactSteps.{live_known, live_open}
 use Rattle.rpc_calls.proofs.indexed_states.IndexedStates.live.Goals as goal

@@ -1,4 +1,4 @@
-use Rattle.std.proofs.Common.{◌≡◌, ◌<◌, ◌+◌, ◌^◌, ◌∙◌, length, refl, sym, subst, arith}
+use Rattle.std.proofs.Common.{◌<◌, ◌+◌, ◌^◌, ◌∙◌, length, refl, sym, subst, arith}
 use Rattle.rpc_calls.specs.Indexed.{IsIndexed}
 use Rattle.rpc_calls.specs.InUse.{AreKept}
 use Rattle.rpc_calls.proofs.IndexSteps.{index_opened, index_widened}

@@ -1,4 +1,4 @@
-use Rattle.std.proofs.Common.{◌≡◌, ◌∙◌, Some, None, slice_get, refl, sym}
+use Rattle.std.proofs.Common.{◌∙◌, Some, None, slice_get, refl, sym}
 use Rattle.rpc_journal.specs.declared.table.call_state.CallState.{CallState}
 use Rattle.rpc_journal.proofs.table.KnownStates.{run_known}
 use Rattle.rpc_calls.proofs.FactSteps.{none_told}

@@ -1,6 +1,5 @@
-use Rattle.std.proofs.Common.{◌≡◌, ◌∙◌, length, refl, sym, subst, arith}
+use Rattle.std.proofs.Common.{◌≡◌, ◌∙◌, length, refl, subst, arith}
 use Rattle.std.proofs.lemmas.Option.{slice_get_within}
-use Rattle.rpc_calls.specs.Widened.{IsWider}
 use Rattle.std.proofs.Math.Facts.{Fits-of_lt}
 use Rattle.rpc_calls.proofs.TellSteps.{opens_two, room_more}
 use Rattle.rpc_calls.proofs.WiderSteps.{all_wider_refl, wider_more}
