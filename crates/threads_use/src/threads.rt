@@ -1,8 +1,8 @@
 //! The commands on threads, over devices in memory.
-ghost use Rattle.std.specs.Prelude.{◌≡◌, IfOk, false};
-ghost use Rattle.link_io.specs.LinkDevice.{IsUnused};
+ghost use Rattle.std.specs.Prelude.{◌≡◌, false};
 
 mod bridges;
+mod cases;
 mod checks;
 mod crew_gates;
 mod crew_reports;
@@ -10,9 +10,10 @@ mod crews;
 mod serve_clock;
 mod serve_links;
 
-use link_io::{Clock, Fulls, Linker, MemLinker, MemSink, MemSource, MemStore, Sink, Source, Still};
+use cases::{Given, Ran, linker};
+use link_io::{Clock, Fulls, Linker, MemSink, MemStore, Sink, Source, Still};
 use pw_run::run;
-use rpc_crew::{Free, Gate};
+use rpc_crew::Gate;
 use std::alloc::{AllocError, Global};
 use std::sync::Wait;
 use std::sync::atomic::{AtomicU64, Ordering};
@@ -40,13 +41,6 @@ done
 // A gate or a device turns at most so often, a millisecond each time.
 const TURNS: u32 = 10_000;
 
-/// What a command ended with, and what it wrote.
-#[derive(Drop)]
-struct Ran {
-    status: u8,
-    output: Vec<u8>,
-}
-
 /// The words of a line, in which `''` stands for an empty one.
 fn words(alloc: Global, line: &str) -> Result<Vec<String>, AllocError> {
     let mut words = Vec::new(alloc);
@@ -57,17 +51,19 @@ fn words(alloc: Global, line: &str) -> Result<Vec<String>, AllocError> {
     Ok(words)
 }
 
-/// A store without a resource, whose calls with these numbers fail.
-fn empty_store(alloc: Global, fails: &[u64]) -> Result<MemStore, AllocError> {
-    let fails = Vec::from_slice(alloc, fails)?;
-    MemStore::new(alloc, Fulls::new(alloc), Fulls::new(alloc), fails)
+/// These parts, one behind the other.
+fn joined(alloc: Global, parts: &[&[u8]]) -> Result<Vec<u8>, AllocError> {
+    let mut content = Vec::new(alloc);
+    for part in parts {
+        content.extend_from_slice(part)?;
+    }
+    Ok(content)
 }
 
-/// The first REQUEST, and then the second.
-fn both(alloc: Global) -> Result<Vec<u8>, AllocError> {
-    let mut content = Vec::from_slice(alloc, FIRST)?;
-    content.extend_from_slice(SECOND)?;
-    Ok(content)
+/// A store without a resource, whose call with this number fails.
+fn empty_store(alloc: Global, fail: u64) -> Result<MemStore, AllocError> {
+    let fails = Vec::from_slice(alloc, &[fail])?;
+    MemStore::new(alloc, Fulls::new(alloc), Fulls::new(alloc), fails)
 }
 
 /// Runs a command over these devices, and answers its status.
@@ -95,131 +91,40 @@ fn status_of<
     Ok(run(rt, alloc, &words, input, output, store, net, clock, gate))
 }
 
-/// Runs a crew on this input and into this sink, over this store, with no link and a clock that stands still, and answers its status.
-fn crew_status<R: Threads + Wait + Sync, I: Source + Send, G: Gate + Sync>(
-    rt: &R,
-    alloc: Global,
-    line: &str,
-    input: &mut I,
-    output: &mut MemSink,
-    store: &mut MemStore,
-    gate: &G,
-) -> Result<u8, AllocError>
-    requires { output.old.finished ≡ false }
-{
-    let mut net = MemLinker::new(alloc, Vec::new(alloc), Vec::new(alloc))?;
-    let mut clock = Still::new();
-    status_of(
-        rt, alloc, line, input, output, store, &mut net, &mut clock, gate,
-    )
-}
-
-/// Runs a crew on this input and over this store, with this gate at its handlers, and an output that doesn't fail.
+/// Runs a command on this input, with this gate at its handlers and a clock that stands still, and otherwise over the devices that
+/// it is given.
 fn run_over<R: Threads + Wait + Sync, I: Source + Send, G: Gate + Sync>(
     rt: &R,
     alloc: Global,
     line: &str,
     input: &mut I,
-    store: &mut MemStore,
+    given: &Given,
     gate: &G,
 ) -> Result<Ran, AllocError> {
-    let mut output = MemSink::new(Vec::new(alloc), Vec::new(alloc));
-    let status = crew_status(rt, alloc, line, input, &mut output, store, gate)?;
-    let output = Vec::from_slice(alloc, output.bytes())?;
-    Ok(Ran { status, output })
-}
-
-/// Runs a crew on this input, with this gate at its handlers, no resource, and an output that doesn't fail.
-fn run_on<R: Threads + Wait + Sync, I: Source + Send, G: Gate + Sync>(
-    rt: &R,
-    alloc: Global,
-    line: &str,
-    input: &mut I,
-    gate: &G,
-) -> Result<Ran, AllocError> {
-    let mut store = empty_store(alloc, &[])?;
-    run_over(rt, alloc, line, input, &mut store, gate)
-}
-
-/// Serves the links of this linker into this sink, over this store, with a clock that stands still, and answers the status.
-fn serve_status<R: Threads + Wait + Sync>(
-    rt: &R,
-    alloc: Global,
-    line: &str,
-    output: &mut MemSink,
-    store: &mut MemStore,
-    net: &mut MemLinker,
-) -> Result<u8, AllocError>
-    requires { output.old.finished ≡ false }
-{
-    let mut input = MemSource::new(Vec::new(alloc), Vec::new(alloc));
+    let fails = Vec::from_slice(alloc, &[given.failing_write])?;
+    let mut output = MemSink::new(Vec::new(alloc), fails);
+    let mut store = empty_store(alloc, given.failing_store_call)?;
+    let mut net = linker(alloc, given)?;
     let mut clock = Still::new();
-    status_of(
-        rt, alloc, line, &mut input, output, store, net, &mut clock, &Free,
-    )
-}
-
-/// Serves the links of this linker over this store, into an output that doesn't fail.
-fn serve_over<R: Threads + Wait + Sync>(
-    rt: &R,
-    alloc: Global,
-    line: &str,
-    store: &mut MemStore,
-    net: &mut MemLinker,
-) -> Result<Ran, AllocError> {
-    let mut output = MemSink::new(Vec::new(alloc), Vec::new(alloc));
-    let status = serve_status(rt, alloc, line, &mut output, store, net)?;
-    let output = Vec::from_slice(alloc, output.bytes())?;
-    Ok(Ran { status, output })
-}
-
-/// Serves the links of this linker, with no resource and an output that doesn't fail.
-fn serve_on<R: Threads + Wait + Sync>(
-    rt: &R,
-    alloc: Global,
-    line: &str,
-    net: &mut MemLinker,
-) -> Result<Ran, AllocError> {
-    serve_over(rt, alloc, line, &mut empty_store(alloc, &[])?, net)
-}
-
-/// What comes over a link, and the numbers of its reads and of its writes that fail.
-type Comes<'a> = (&'a [u8], u64, u64);
-
-/// The first REQUEST, over a link that doesn't fail.
-const COMES_FIRST: Comes<'static> = (FIRST, 0, 0);
-
-fn ends(alloc: Global, comes: Comes<'_>) -> Result<(MemSource, MemSink), AllocError>
-    ensures { IfOk result IsUnused }
-{
-    let (content, read, write) = comes;
-    Ok((
-        MemSource::new(
-            Vec::from_slice(alloc, content)?,
-            Vec::from_slice(alloc, &[read])?,
-        ),
-        MemSink::new(Vec::new(alloc), Vec::from_slice(alloc, &[write])?),
-    ))
-}
-
-/// A linker of one link, whose call with this number fails.
-fn one_link(alloc: Global, comes: Comes<'_>, fail: u64) -> Result<MemLinker, AllocError> {
-    let mut links = Vec::new(alloc);
-    links.push(ends(alloc, comes)?)?;
-    MemLinker::new(alloc, links, Vec::from_slice(alloc, &[fail])?)
-}
-
-/// A linker of two links, whose call with this number fails.
-fn two_links(
-    alloc: Global,
-    left: Comes<'_>,
-    right: Comes<'_>,
-    fail: u64,
-) -> Result<MemLinker, AllocError> {
-    let mut links = Vec::new(alloc);
-    links.push(ends(alloc, left)?)?;
-    links.push(ends(alloc, right)?)?;
-    MemLinker::new(alloc, links, Vec::from_slice(alloc, &[fail])?)
+    let status = status_of(
+        rt,
+        alloc,
+        line,
+        input,
+        &mut output,
+        &mut store,
+        &mut net,
+        &mut clock,
+        gate,
+    )?;
+    let is_input_left = matches!(input.read(&mut [0]), Ok(1));
+    Ok(Ran {
+        status,
+        output,
+        store,
+        net,
+        is_input_left,
+    })
 }
 
 /// Turns until the word is as large, and counts as late where it never was.

@@ -1,8 +1,9 @@
 //! Handlers of a crew that run in a chosen order, and many at a time.
 
-use super::checks::{told, word_is};
-use super::crews::CREW_REPORT;
-use super::{both, run_on, turn_until};
+use super::cases::{CALM, Ran, ask_all};
+use super::checks::{status_is, word_is, wrote};
+use super::crews::{BOTH, BOTH_REPORTED};
+use super::{joined, run_over, turn_until};
 use bytes::Bytes;
 use link_io::{Fulls, MemSink, MemSource, MemStore};
 use pw_run::run_recorded;
@@ -10,29 +11,55 @@ use rpc_crew::Gate;
 use rpc_frames::write_frame;
 use rpc_packet::{CallName, Packet, PacketType};
 use std::alloc::{AllocError, Global};
+use std::process::Abort;
+use std::sync::Wait;
 use std::sync::atomic::{AtomicU64, Ordering};
+use std::thread::Threads;
 use std::time::Clock;
 
-// Holds the run of call 0 until that of call 1 is over.
+// How many runs a gate saw begin and end, and how often it turned in vain.
 #[derive(Drop)]
-struct SecondFirst<'a, R> {
-    rt: &'a R,
-    over: AtomicU64,
+struct Counts {
     before: AtomicU64,
     after: AtomicU64,
     late: AtomicU64,
 }
 
+impl Counts {
+    fn new() -> Counts {
+        Counts {
+            before: AtomicU64::new(0),
+            after: AtomicU64::new(0),
+            late: AtomicU64::new(0),
+        }
+    }
+}
+
+// So many runs began and ended, and none was held in vain.
+fn saw(rt: &impl Abort, counts: &Counts, runs: u64) {
+    word_is(rt, "before", &counts.before, runs);
+    word_is(rt, "after", &counts.after, runs);
+    word_is(rt, "late", &counts.late, 0);
+}
+
+// Holds the run of call 0 until that of call 1 is over.
+#[derive(Drop)]
+struct SecondFirst<'a, R> {
+    rt: &'a R,
+    counts: &'a Counts,
+    over: AtomicU64,
+}
+
 impl<'a, R: Clock> Gate for SecondFirst<'a, R> {
     fn before(&self, call: u32) {
-        self.before.fetch_add(1, Ordering::SeqCst);
+        self.counts.before.fetch_add(1, Ordering::SeqCst);
         if call == 0 {
-            turn_until(self.rt, &self.over, 1, &self.late);
+            turn_until(self.rt, &self.over, 1, &self.counts.late);
         }
     }
 
     fn after(&self, call: u32) {
-        self.after.fetch_add(1, Ordering::SeqCst);
+        self.counts.after.fetch_add(1, Ordering::SeqCst);
         if call == 1 {
             self.over.store(1, Ordering::SeqCst);
         }
@@ -42,19 +69,16 @@ impl<'a, R: Clock> Gate for SecondFirst<'a, R> {
 #[test]
 fn a_second_call_is_over_while_the_first_runs(rt: HostRuntime) -> Result<(), AllocError> {
     let alloc = rt.alloc();
+    let counts = Counts::new();
     let gate = SecondFirst {
         rt: &rt,
+        counts: &counts,
         over: AtomicU64::new(0),
-        before: AtomicU64::new(0),
-        after: AtomicU64::new(0),
-        late: AtomicU64::new(0),
     };
-    let mut input = MemSource::new(both(alloc)?, Vec::new(alloc));
-    let ran = run_on(&rt, alloc, "crew 2", &mut input, &gate)?;
-    told(&rt, "crew 2", &ran, 0, CREW_REPORT);
-    word_is(&rt, "before", &gate.before, 2);
-    word_is(&rt, "after", &gate.after, 2);
-    word_is(&rt, "late", &gate.late, 0);
+    let mut input = MemSource::new(joined(alloc, BOTH)?, Vec::new(alloc));
+    let ran = run_over(&rt, alloc, "crew 2", &mut input, &CALM, &gate)?;
+    ask_all(&rt, 0, &ran, BOTH_REPORTED);
+    saw(&rt, &counts, 2);
     Ok(())
 }
 
@@ -62,19 +86,17 @@ fn a_second_call_is_over_while_the_first_runs(rt: HostRuntime) -> Result<(), All
 #[derive(Drop)]
 struct AllAtOnce<'a, R> {
     rt: &'a R,
-    before: AtomicU64,
-    after: AtomicU64,
-    late: AtomicU64,
+    counts: &'a Counts,
 }
 
 impl<'a, R: Clock> Gate for AllAtOnce<'a, R> {
     fn before(&self, _call: u32) {
-        self.before.fetch_add(1, Ordering::SeqCst);
-        turn_until(self.rt, &self.before, 16, &self.late);
+        self.counts.before.fetch_add(1, Ordering::SeqCst);
+        turn_until(self.rt, &self.counts.before, 16, &self.counts.late);
     }
 
     fn after(&self, _call: u32) {
-        self.after.fetch_add(1, Ordering::SeqCst);
+        self.counts.after.fetch_add(1, Ordering::SeqCst);
     }
 }
 
@@ -136,21 +158,34 @@ fn by_call(alloc: Global, report: &str) -> Result<String, AllocError> {
     Ok(text)
 }
 
+// What a crew writes of them.
+fn wanted_report(alloc: Global) -> Result<String, AllocError> {
+    let alone = report_alone(alloc)?;
+    by_call(alloc, alone.as_str())
+}
+
+// A crew of sixteen, with this gate at its handlers.
+fn run_sixteen<R: Threads + Wait + Sync, G: Gate + Sync>(
+    rt: &R,
+    alloc: Global,
+    gate: &G,
+) -> Result<Ran, AllocError> {
+    let mut input = sixteen_calls(alloc)?;
+    run_over(rt, alloc, "crew 16", &mut input, &CALM, gate)
+}
+
 #[test]
 fn sixteen_handlers_run_at_a_time(rt: HostRuntime) -> Result<(), AllocError> {
     let alloc = rt.alloc();
+    let counts = Counts::new();
     let gate = AllAtOnce {
         rt: &rt,
-        before: AtomicU64::new(0),
-        after: AtomicU64::new(0),
-        late: AtomicU64::new(0),
+        counts: &counts,
     };
-    let ran = run_on(&rt, alloc, "crew 16", &mut sixteen_calls(alloc)?, &gate)?;
-    let alone = report_alone(alloc)?;
-    let report = by_call(alloc, alone.as_str())?;
-    told(&rt, "crew 16", &ran, 0, report.as_bytes());
-    word_is(&rt, "before", &gate.before, 16);
-    word_is(&rt, "after", &gate.after, 16);
-    word_is(&rt, "late", &gate.late, 0);
+    let ran = run_sixteen(&rt, alloc, &gate)?;
+    let report = wanted_report(alloc)?;
+    status_is(&rt, 0, 0, ran.status, 0);
+    wrote(&rt, 0, 1, ran.output.bytes(), report.as_bytes());
+    saw(&rt, &counts, 16);
     Ok(())
 }

@@ -1,8 +1,10 @@
 //! What a crew writes, however its handlers run, and where a device fails.
 
-use super::checks::{is_so, status_is, told, told_nothing, took_nothing};
-use super::{FIRST, Ran, crew_status, empty_store, run_on, run_over};
-use link_io::{MemSink, MemSource, MemStore, Source};
+use super::cases::Asked::*;
+use super::cases::{Asked, CALM, Case, Given, Ran, ask_all, each_ends_so};
+use super::checks::{status_is, wrote};
+use super::{FIRST, run_over};
+use link_io::MemSource;
 use load_stream::LoadSource;
 use rpc_crew::Free;
 use std::alloc::{AllocError, Global};
@@ -10,38 +12,42 @@ use std::process::Abort;
 use std::sync::Wait;
 use std::thread::Threads;
 
-// The report of a load by a crew of so many workers.
-fn load_report<R: Threads + Wait + Sync>(
+// The run of a load by a crew.
+fn run_load<R: Threads + Wait + Sync>(
     rt: &R,
     alloc: Global,
     line: &str,
 ) -> Result<Ran, AllocError> {
     let mut input = LoadSource::new(alloc, 64, 3)?;
-    run_on(rt, alloc, line, &mut input, &Free)
+    run_over(rt, alloc, line, &mut input, &CALM, &Free)
 }
+
+const BY_ONE: &[Asked] = &[
+    Ends(0),
+    WritesFirst(b"frames 192 bad 0 other 0 dropped 0\ncall 0 1 "),
+    WritesLast(b"\ndone\n"),
+];
 
 #[test]
 fn a_report_is_the_same_by_any_number_of_workers(rt: HostRuntime) -> Result<(), AllocError> {
     let alloc = rt.alloc();
-    let one = load_report(&rt, alloc, "crew 1")?;
-    status_is(&rt, "crew 1", one.status, 0);
-    let output = one.output.as_slice();
-    let begins = output.starts_with(b"frames 192 bad 0 other 0 dropped 0\ncall 0 1 ");
-    is_so(&rt, "it begins so", begins);
-    is_so(&rt, "it ends so", output.ends_with(b"\ndone\n"));
-    is_reported_by(&rt, alloc, "crew 4", &one.output)?;
-    is_reported_by(&rt, alloc, "crew 16", &one.output)
+    let one = run_load(&rt, alloc, "crew 1")?;
+    ask_all(&rt, 1, &one, BY_ONE);
+    is_reported_by(&rt, alloc, 4, "crew 4", one.output.bytes())?;
+    is_reported_by(&rt, alloc, 16, "crew 16", one.output.bytes())
 }
 
-// The crew writes the same of the load.
+// A crew of so many workers writes the same of the load.
 fn is_reported_by<R: Threads + Wait + Sync + Abort>(
     rt: &R,
     alloc: Global,
+    workers: usize,
     line: &str,
     report: &[u8],
 ) -> Result<(), AllocError> {
-    let ran = load_report(rt, alloc, line)?;
-    told(rt, line, &ran, 0, report);
+    let ran = run_load(rt, alloc, line)?;
+    status_is(rt, workers, 0, ran.status, 0);
+    wrote(rt, workers, 1, ran.output.bytes(), report);
     Ok(())
 }
 
@@ -51,44 +57,42 @@ out 0 7ea503080110011dfb5cf47025e90e478b2a0361626338019794283c7e
 source fault
 ";
 
+const FAILING_SOURCE: &[Case] = &[(
+    "crew 4",
+    Given {
+        input: &[FIRST],
+        failing_read: 2,
+        ..CALM
+    },
+    &[Ends(3), Writes(BEFORE_A_FAULT)],
+)];
+
 #[test]
 fn what_came_before_a_fault_of_the_source_is_told(rt: HostRuntime) -> Result<(), AllocError> {
-    let alloc = rt.alloc();
-    let fails = Vec::from_slice(alloc, &[2])?;
-    let mut input = MemSource::new(Vec::from_slice(alloc, FIRST)?, fails);
-    let ran = run_on(&rt, alloc, "crew 4", &mut input, &Free)?;
-    told(&rt, "crew 4", &ran, 3, BEFORE_A_FAULT);
-    Ok(())
+    each_ends_so(&rt, rt.alloc(), FAILING_SOURCE)
 }
-
-const OTHERS: &[&str] = &[
-    "crew 17",
-    "crew 0",
-    "crew 04",
-    "serve p 17 1",
-    "serve p 1 0",
-    "serve p 1 1001",
-    "serve '' 1 1",
-];
 
 // Each read of the input would fail.
-fn is_no_command<R: Threads + Wait + Sync + Abort>(
-    rt: &R,
-    alloc: Global,
-    line: &str,
-) -> Result<(), AllocError> {
-    let mut input = MemSource::new(Vec::new(alloc), Vec::from_slice(alloc, &[1])?);
-    let ran = run_on(rt, alloc, line, &mut input, &Free)?;
-    told_nothing(rt, line, &ran, 2);
-    Ok(())
-}
+const UNREADABLE: Given = Given {
+    failing_read: 1,
+    ..CALM
+};
+
+const NO_COMMAND: &[Asked] = &[Ends(2), Writes(b"")];
+
+const PAST_A_BOUND: &[Case] = &[
+    ("crew 17", UNREADABLE, NO_COMMAND),
+    ("crew 0", UNREADABLE, NO_COMMAND),
+    ("crew 04", UNREADABLE, NO_COMMAND),
+    ("serve p 17 1", UNREADABLE, NO_COMMAND),
+    ("serve p 1 0", UNREADABLE, NO_COMMAND),
+    ("serve p 1 1001", UNREADABLE, NO_COMMAND),
+    ("serve '' 1 1", UNREADABLE, NO_COMMAND),
+];
 
 #[test]
 fn words_past_a_bound_name_no_command(rt: HostRuntime) -> Result<(), AllocError> {
-    for &line in OTHERS {
-        is_no_command(&rt, rt.alloc(), line)?;
-    }
-    Ok(())
+    each_ends_so(&rt, rt.alloc(), PAST_A_BOUND)
 }
 
 // What a client sends that uploads `hello, store` and a newline as resource 7 in two chunks: `examples/upload/recording`.
@@ -109,54 +113,49 @@ out 0 7ea503080110011d7bc8d65b25860563d43801e08d10477e
 done
 ";
 
-fn has_upload(store: &MemStore) -> bool {
-    matches!(store.full(7), Some(bytes) if bytes.as_slice() == b"hello, store\n".as_slice())
-}
+const STORED: &[Asked] = &[Ends(0), Writes(UPLOAD_REPORT), Stores(b"hello, store\n")];
 
 #[test]
 fn an_upload_is_told_with_its_call(rt: HostRuntime) -> Result<(), AllocError> {
     let alloc = rt.alloc();
     let content = hex::decode(alloc, RECORDING).map_err(|_| AllocError)?;
     let mut input = MemSource::new(content, Vec::new(alloc));
-    let mut store = empty_store(alloc, &[])?;
-    let ran = run_over(&rt, alloc, "crew 4", &mut input, &mut store, &Free)?;
-    told(&rt, "crew 4", &ran, 0, UPLOAD_REPORT);
-    is_so(&rt, "it is stored", has_upload(&store));
+    let ran = run_over(&rt, alloc, "crew 4", &mut input, &CALM, &Free)?;
+    ask_all(&rt, 0, &ran, STORED);
     Ok(())
 }
+
+const FAILING_OUTPUT: &[Case] = &[(
+    "crew 2",
+    Given {
+        input: &[FIRST],
+        failing_write: 1,
+        ..CALM
+    },
+    &[Ends(4), Writes(b"")],
+)];
 
 #[test]
 fn an_output_that_fails_at_once_has_nothing(rt: HostRuntime) -> Result<(), AllocError> {
-    let alloc = rt.alloc();
-    let mut input = MemSource::new(Vec::from_slice(alloc, FIRST)?, Vec::new(alloc));
-    let mut output = MemSink::new(Vec::new(alloc), Vec::from_slice(alloc, &[1])?);
-    let mut store = empty_store(alloc, &[])?;
-    let status = crew_status(
-        &rt,
-        alloc,
-        "crew 2",
-        &mut input,
-        &mut output,
-        &mut store,
-        &Free,
-    )?;
-    status_is(&rt, "crew 2", status, 4);
-    took_nothing(&rt, "crew 2", &output);
-    Ok(())
+    each_ends_so(&rt, rt.alloc(), FAILING_OUTPUT)
 }
+
+// Nothing is read.
+const FAILING_STORE: &[Case] = &[(
+    "crew 2",
+    Given {
+        input: &[FIRST],
+        failing_store_call: 1,
+        ..CALM
+    },
+    &[
+        Ends(5),
+        Writes(b"frames 0 bad 0 other 0 dropped 0\nstore fault\n"),
+        LeavesInput,
+    ],
+)];
 
 #[test]
 fn a_store_that_cannot_be_listed_is_told(rt: HostRuntime) -> Result<(), AllocError> {
-    let alloc = rt.alloc();
-    let mut input = MemSource::new(Vec::from_slice(alloc, FIRST)?, Vec::new(alloc));
-    let mut store = empty_store(alloc, &[1])?;
-    let ran = run_over(&rt, alloc, "crew 2", &mut input, &mut store, &Free)?;
-    let report = b"frames 0 bad 0 other 0 dropped 0\nstore fault\n";
-    told(&rt, "crew 2", &ran, 5, report);
-    is_so(
-        &rt,
-        "nothing is read",
-        matches!(input.read(&mut [0]), Ok(1)),
-    );
-    Ok(())
+    each_ends_so(&rt, rt.alloc(), FAILING_STORE)
 }

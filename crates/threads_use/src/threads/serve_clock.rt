@@ -1,12 +1,16 @@
 //! The time goes on while a write of a link waits.
 ghost use Rattle.std.specs.Prelude.{◌≡◌, None};
 
-use super::checks::{answered, gone_are, status_is, word_is, wrote};
-use super::{COMES_FIRST, FIRST_FRAME, FIRST_SERVED, empty_store, one_link, status_of, turn_until};
+use super::cases::{Ran, ask_all, linker};
+use super::checks::word_is;
+use super::crews::{A_LINK, SERVED};
+use super::{empty_store, status_of, turn_until};
 use link_io::{Clock, Failed, Linker, MemLinker, MemSink, MemSource, Sink, Source};
 use rpc_crew::Free;
-use std::alloc::AllocError;
+use std::alloc::{AllocError, Global};
+use std::sync::Wait;
 use std::sync::atomic::{AtomicU64, Ordering};
+use std::thread::Threads;
 use std::time;
 
 // A clock that stands still, and counts how often it was asked.
@@ -152,35 +156,50 @@ impl<'a, R: time::Clock + Sync> Linker for Waiting<'a, R> {
     }
 }
 
-#[test]
-fn the_clock_is_asked_while_a_write_waits(rt: HostRuntime) -> Result<(), AllocError> {
-    let alloc = rt.alloc();
-    let times = AtomicU64::new(0);
+// Serves a link whose ends wait, by a clock that counts here how often it is asked. What waits in vain counts there.
+fn serve_waiting<R: Threads + Wait + Sync + time::Clock>(
+    rt: &R,
+    alloc: Global,
+    times: &AtomicU64,
+    late: &AtomicU64,
+) -> Result<Ran, AllocError> {
     let written = AtomicU64::new(0);
-    let late = AtomicU64::new(0);
-    let mut net = Waiting {
-        rt: &rt,
-        net: one_link(alloc, COMES_FIRST, 0)?,
-        asked: &times,
+    let mut waiting = Waiting {
+        rt,
+        net: linker(alloc, &A_LINK)?,
+        asked: times,
         written: &written,
-        late: &late,
+        late,
     };
+    let mut input = MemSource::new(Vec::new(alloc), Vec::new(alloc));
     let mut output = MemSink::new(Vec::new(alloc), Vec::new(alloc));
+    let mut store = empty_store(alloc, 0)?;
     let status = status_of(
-        &rt,
+        rt,
         alloc,
         "serve p 1 1",
-        &mut MemSource::new(Vec::new(alloc), Vec::new(alloc)),
+        &mut input,
         &mut output,
-        &mut empty_store(alloc, &[])?,
-        &mut net,
-        &mut Asked { times: &times },
+        &mut store,
+        &mut waiting,
+        &mut Asked { times },
         &Free,
     )?;
-    status_is(&rt, "serve", status, 0);
-    wrote(&rt, "serve", output.bytes(), FIRST_SERVED);
-    gone_are(&rt, "serve", &net.net, 1);
-    answered(&rt, "the link", &net.net, 0, FIRST_FRAME);
+    Ok(Ran {
+        status,
+        output,
+        store,
+        net: waiting.net,
+        is_input_left: false,
+    })
+}
+
+#[test]
+fn the_clock_is_asked_while_a_write_waits(rt: HostRuntime) -> Result<(), AllocError> {
+    let times = AtomicU64::new(0);
+    let late = AtomicU64::new(0);
+    let ran = serve_waiting(&rt, rt.alloc(), &times, &late)?;
+    ask_all(&rt, 0, &ran, SERVED);
     word_is(&rt, "late", &late, 0);
     Ok(())
 }

@@ -1,33 +1,37 @@
 //! Connections that are served in turn, and links that fail.
 
-use super::checks::{answered, gone_are, status_is, told, told_nothing, took_nothing};
-use super::{
-    COMES_FIRST, FIRST, FIRST_FRAME, FIRST_SERVED, empty_store, one_link, serve_on, serve_over,
-    serve_status, two_links,
-};
-use link_io::MemSink;
-use std::alloc::{AllocError, Global};
-use std::process::Abort;
-use std::sync::Wait;
-use std::thread::Threads;
+use super::cases::Asked::*;
+use super::cases::Links::Two;
+use super::cases::{Asked, CALM, Case, Given, each_ends_so};
+use super::crews::{A_LINK, COMES_FIRST};
+use super::{FIRST, FIRST_FRAME, FIRST_SERVED};
+use std::alloc::AllocError;
 
-fn has_nothing<R: Threads + Wait + Sync + Abort>(
-    rt: &R,
-    alloc: Global,
-    fail: u64,
-) -> Result<(), AllocError> {
-    let mut net = one_link(alloc, COMES_FIRST, fail)?;
-    let ran = serve_on(rt, alloc, "serve p 2 1", &mut net)?;
-    told_nothing(rt, "serve", &ran, 6);
-    gone_are(rt, "serve", &net, 0);
-    Ok(())
-}
+const HAS_NOTHING: &[Asked] = &[Ends(6), Writes(b""), GivesBack(0)];
 
 // Listening is the first call of a linker, and the first connection is accepted by the second.
+const FAILING_AT_ONCE: &[Case] = &[
+    (
+        "serve p 2 1",
+        Given {
+            failing_linker_call: 1,
+            ..A_LINK
+        },
+        HAS_NOTHING,
+    ),
+    (
+        "serve p 2 1",
+        Given {
+            failing_linker_call: 2,
+            ..A_LINK
+        },
+        HAS_NOTHING,
+    ),
+];
+
 #[test]
 fn a_linker_that_fails_at_once_has_nothing(rt: HostRuntime) -> Result<(), AllocError> {
-    has_nothing(&rt, rt.alloc(), 1)?;
-    has_nothing(&rt, rt.alloc(), 2)
+    each_ends_so(&rt, rt.alloc(), FAILING_AT_ONCE)
 }
 
 const TWO_SERVED: &[u8] = b"conn 1
@@ -39,24 +43,39 @@ frames 0 bad 0 other 0 dropped 0
 done
 ";
 
+const TWO_CONNECTIONS: &[Case] = &[(
+    "serve p 2 2",
+    Given {
+        links: Two(COMES_FIRST, (b"", 0, 0)),
+        ..CALM
+    },
+    &[
+        Ends(0),
+        Writes(TWO_SERVED),
+        GivesBack(2),
+        Answers(0, FIRST_FRAME),
+        Answers(1, b""),
+    ],
+)];
+
 #[test]
 fn two_connections_are_served_in_turn(rt: HostRuntime) -> Result<(), AllocError> {
-    let mut net = two_links(rt.alloc(), COMES_FIRST, (b"", 0, 0), 0)?;
-    let ran = serve_on(&rt, rt.alloc(), "serve p 2 2", &mut net)?;
-    told(&rt, "serve", &ran, 0, TWO_SERVED);
-    gone_are(&rt, "serve", &net, 2);
-    answered(&rt, "the first", &net, 0, FIRST_FRAME);
-    answered(&rt, "the second", &net, 1, b"");
-    Ok(())
+    each_ends_so(&rt, rt.alloc(), TWO_CONNECTIONS)
 }
+
+const FAILING_ACCEPT: &[Case] = &[(
+    "serve p 1 2",
+    Given {
+        links: Two(COMES_FIRST, COMES_FIRST),
+        failing_linker_call: 3,
+        ..CALM
+    },
+    &[Ends(6), Writes(FIRST_SERVED), GivesBack(1)],
+)];
 
 #[test]
 fn what_was_served_before_a_failing_accept_is_told(rt: HostRuntime) -> Result<(), AllocError> {
-    let mut net = two_links(rt.alloc(), COMES_FIRST, COMES_FIRST, 3)?;
-    let ran = serve_on(&rt, rt.alloc(), "serve p 1 2", &mut net)?;
-    told(&rt, "serve", &ran, 6, FIRST_SERVED);
-    gone_are(&rt, "serve", &net, 1);
-    Ok(())
+    each_ends_so(&rt, rt.alloc(), FAILING_ACCEPT)
 }
 
 const BEHIND_A_READ: &[u8] = b"conn 1
@@ -71,50 +90,61 @@ call 0 1 70f45cfb 8b470ee9 1 unary OK
 sink fault
 ";
 
-// Where this read or this write of the first link fails, the run ends with this status and this report.
-fn ends_at_fault<R: Threads + Wait + Sync + Abort>(
-    rt: &R,
-    alloc: Global,
-    read: u64,
-    write: u64,
-    status: u8,
-    report: &[u8],
-) -> Result<(), AllocError> {
-    let mut net = two_links(alloc, (FIRST, read, write), COMES_FIRST, 0)?;
-    let ran = serve_on(rt, alloc, "serve p 2 2", &mut net)?;
-    told(rt, "serve", &ran, status, report);
-    gone_are(rt, "serve", &net, 1);
-    Ok(())
-}
+// The second read of the first link fails, and then its first write.
+const FAILING_LINKS: &[Case] = &[
+    (
+        "serve p 2 2",
+        Given {
+            links: Two((FIRST, 2, 0), COMES_FIRST),
+            ..CALM
+        },
+        &[Ends(3), Writes(BEHIND_A_READ), GivesBack(1)],
+    ),
+    (
+        "serve p 2 2",
+        Given {
+            links: Two((FIRST, 0, 1), COMES_FIRST),
+            ..CALM
+        },
+        &[Ends(4), Writes(BEHIND_A_WRITE), GivesBack(1)],
+    ),
+];
 
 #[test]
 fn a_fault_of_a_link_is_told_and_ends_the_run(rt: HostRuntime) -> Result<(), AllocError> {
-    ends_at_fault(&rt, rt.alloc(), 2, 0, 3, BEHIND_A_READ)?;
-    ends_at_fault(&rt, rt.alloc(), 0, 1, 4, BEHIND_A_WRITE)
+    each_ends_so(&rt, rt.alloc(), FAILING_LINKS)
 }
+
+const FAILING_OUTPUT: &[Case] = &[(
+    "serve p 2 1",
+    Given {
+        failing_write: 1,
+        ..A_LINK
+    },
+    &[Ends(4), Writes(b""), GivesBack(1), Answers(0, FIRST_FRAME)],
+)];
 
 #[test]
 fn a_link_is_answered_though_the_output_fails(rt: HostRuntime) -> Result<(), AllocError> {
-    let alloc = rt.alloc();
-    let mut net = one_link(alloc, COMES_FIRST, 0)?;
-    let mut output = MemSink::new(Vec::new(alloc), Vec::from_slice(alloc, &[1])?);
-    let mut store = empty_store(alloc, &[])?;
-    let status = serve_status(&rt, alloc, "serve p 2 1", &mut output, &mut store, &mut net)?;
-    status_is(&rt, "serve", status, 4);
-    took_nothing(&rt, "serve", &output);
-    gone_are(&rt, "serve", &net, 1);
-    answered(&rt, "the link", &net, 0, FIRST_FRAME);
-    Ok(())
+    each_ends_so(&rt, rt.alloc(), FAILING_OUTPUT)
 }
+
+const FAILING_STORE: &[Case] = &[(
+    "serve p 2 2",
+    Given {
+        links: Two(COMES_FIRST, COMES_FIRST),
+        failing_store_call: 1,
+        ..CALM
+    },
+    &[
+        Ends(5),
+        Writes(b"conn 1\nframes 0 bad 0 other 0 dropped 0\nstore fault\n"),
+        GivesBack(1),
+        Answers(0, b""),
+    ],
+)];
 
 #[test]
 fn a_store_that_cannot_be_listed_ends_the_run(rt: HostRuntime) -> Result<(), AllocError> {
-    let mut net = two_links(rt.alloc(), COMES_FIRST, COMES_FIRST, 0)?;
-    let mut store = empty_store(rt.alloc(), &[1])?;
-    let ran = serve_over(&rt, rt.alloc(), "serve p 2 2", &mut store, &mut net)?;
-    let report = b"conn 1\nframes 0 bad 0 other 0 dropped 0\nstore fault\n";
-    told(&rt, "serve", &ran, 5, report);
-    gone_are(&rt, "serve", &net, 1);
-    answered(&rt, "the link", &net, 0, b"");
-    Ok(())
+    each_ends_so(&rt, rt.alloc(), FAILING_STORE)
 }
