@@ -6,17 +6,13 @@ mod devices;
 mod input_limit;
 mod journal_limit;
 mod listing;
+mod says;
 mod uploads;
 mod uploads_served;
 
-use bytes::Bytes;
-use demo_services::ids;
 use link_io::{Fulls, MemSink, MemSource, MemStore, Sink, Source};
 use pw_run::run_recorded;
-use rpc_frames::write_frame;
-use rpc_packet::{CallName, Packet, PacketType};
 use std::alloc::{AllocError, Global};
-use transfer_chunk::ChunkRef;
 
 /// The frame of a REQUEST of Echo with payload `abc` on channel 1, call 1, and what each form of `replay` writes of it.
 const FIRST: &[u8] =
@@ -40,10 +36,18 @@ const FIRST_JOURNAL: &[u8] = b"journal
 ";
 
 /// What a command ended with, and what it wrote.
-#[derive(Drop)]
 struct Ran {
     status: u8,
-    output: Vec<u8>,
+    output: MemSink,
+}
+
+impl Drop for Ran {
+    fn drop(self) {
+        let Self {
+            status: _,
+            output: _,
+        } = self;
+    }
 }
 
 fn words(alloc: Global, line: &str) -> Result<Vec<String>, AllocError> {
@@ -54,9 +58,9 @@ fn words(alloc: Global, line: &str) -> Result<Vec<String>, AllocError> {
     Ok(words)
 }
 
-/// A store without a resource, whose calls with these numbers fail.
-fn empty_store(alloc: Global, fails: &[u64]) -> Result<MemStore, AllocError> {
-    let fails = Vec::from_slice(alloc, fails)?;
+/// A store without a resource, whose call with this number fails.
+fn empty_store(alloc: Global, fail: u64) -> Result<MemStore, AllocError> {
+    let fails = Vec::from_slice(alloc, &[fail])?;
     MemStore::new(alloc, Fulls::new(alloc), Fulls::new(alloc), fails)
 }
 
@@ -74,22 +78,23 @@ fn status_of<I: Source, O: Sink>(
     Ok(run_recorded(alloc, &words, input, output, store))
 }
 
-/// Runs a command on this input and over this store, with a sink that doesn't fail.
-fn run_over<I: Source>(
+/// Runs a command on this input and over this store, with a sink whose call with this number fails.
+fn run_failing<I: Source>(
     alloc: Global,
     line: &str,
     input: &mut I,
+    fail: u64,
     store: &mut MemStore,
 ) -> Result<Ran, AllocError> {
-    let mut output = MemSink::new(Vec::new(alloc), Vec::new(alloc));
+    let fails = Vec::from_slice(alloc, &[fail])?;
+    let mut output = MemSink::new(Vec::new(alloc), fails);
     let status = status_of(alloc, line, input, &mut output, store)?;
-    let output = Vec::from_slice(alloc, output.bytes())?;
     Ok(Ran { status, output })
 }
 
-/// Runs a command on this input, with no resource, and with a sink that doesn't fail.
+/// Runs a command on this input and with no resource, with devices that don't fail.
 fn run_on<I: Source>(alloc: Global, line: &str, input: &mut I) -> Result<Ran, AllocError> {
-    run_over(alloc, line, input, &mut empty_store(alloc, &[])?)
+    run_failing(alloc, line, input, 0, &mut empty_store(alloc, 0)?)
 }
 
 /// Runs a command on this content and over this store, with devices that don't fail.
@@ -100,38 +105,5 @@ fn run_storing(
     store: &mut MemStore,
 ) -> Result<Ran, AllocError> {
     let mut input = MemSource::new(content, Vec::new(alloc));
-    run_over(alloc, line, &mut input, store)
-}
-
-/// Appends the frame of a packet of the method Write, channel 1, call 1.
-fn write_packet(
-    alloc: Global,
-    ptype: PacketType,
-    payload: &[u8],
-    stream: &mut Vec<u8>,
-) -> Result<(), AllocError> {
-    let packet = Packet {
-        ptype,
-        name: CallName {
-            channel: 1,
-            service: ids::TRANSFER,
-            method: ids::WRITE,
-            call: 1,
-        },
-        payload: Bytes::copy_from_slice(alloc, payload)?,
-        status: 0,
-    };
-    write_frame(alloc, &packet, stream)
-}
-
-/// Appends the frame of a message that is this chunk.
-fn write_chunk(
-    alloc: Global,
-    ptype: PacketType,
-    chunk: &ChunkRef<'_>,
-    stream: &mut Vec<u8>,
-) -> Result<(), AllocError> {
-    let mut text = Vec::new(alloc);
-    chunk.write(&mut text)?;
-    write_packet(alloc, ptype, &text, stream)
+    run_failing(alloc, line, &mut input, 0, store)
 }

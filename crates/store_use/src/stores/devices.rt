@@ -1,8 +1,11 @@
 //! Sources and sinks that fail, and that take one byte at a call.
 ghost use Rattle.std.specs.Prelude.{None};
 
-use super::checks::{count_is, is_so, row_of, status_is, told, wrote};
-use super::{FIRST, FIRST_FRAME, FIRST_JOURNAL, FIRST_REPORT, empty_store, run_on, status_of};
+use super::checks::{count_is, is_so, status_is, told};
+use super::{
+    FIRST, FIRST_FRAME, FIRST_JOURNAL, FIRST_REPORT, Ran, empty_store, run_failing, run_on,
+    status_of,
+};
 use link_io::{Failed, MemSink, MemSource, Sink, Source};
 use std::alloc::{AllocError, Global};
 use std::process::Abort;
@@ -40,7 +43,7 @@ fn ends_at_read(
     let fails = Vec::from_slice(alloc, &[fail])?;
     let mut input = MemSource::new(Vec::from_slice(alloc, FIRST)?, fails);
     let ran = run_on(alloc, line, &mut input)?;
-    told(rt, row_of(alloc, line, fail)?.as_str(), &ran, 3, written);
+    told(rt, line, fail, &ran, 3, written);
     Ok(())
 }
 
@@ -108,13 +111,28 @@ fn leaves(
     left: &[u8],
 ) -> Result<(), AllocError> {
     let mut input = MemSource::new(Vec::from_slice(alloc, content)?, Vec::new(alloc));
-    let mut output = MemSink::new(Vec::new(alloc), Vec::from_slice(alloc, &[fail])?);
-    let mut store = empty_store(alloc, &[])?;
-    let status = status_of(alloc, line, &mut input, &mut output, &mut store)?;
-    let row = row_of(alloc, line, fail)?;
-    status_is(rt, row.as_str(), status, 4);
-    wrote(rt, row.as_str(), output.bytes(), left);
+    let ran = run_failing(alloc, line, &mut input, fail, &mut empty_store(alloc, 0)?)?;
+    told(rt, line, fail, &ran, 4, left);
     Ok(())
+}
+
+// Runs a command into a sink that takes one byte at a call, and whose call with this number fails.
+fn run_by_bytes<I: Source>(
+    alloc: Global,
+    line: &str,
+    input: &mut I,
+    fail: u64,
+) -> Result<Ran, AllocError> {
+    let fails = Vec::from_slice(alloc, &[fail])?;
+    let mut output = OneByte {
+        inner: MemSink::new(Vec::new(alloc), fails),
+    };
+    let mut store = empty_store(alloc, 0)?;
+    let status = status_of(alloc, line, input, &mut output, &mut store)?;
+    Ok(Ran {
+        status,
+        output: output.inner,
+    })
 }
 
 // Where the fifth of many writes of one byte fails, the first four bytes are written.
@@ -126,14 +144,11 @@ fn leaves_four(
     written: &[u8],
 ) -> Result<(), AllocError> {
     let mut input = MemSource::new(Vec::from_slice(alloc, content)?, Vec::new(alloc));
-    let mut output = OneByte {
-        inner: MemSink::new(Vec::new(alloc), Vec::from_slice(alloc, &[5])?),
-    };
-    let mut store = empty_store(alloc, &[])?;
-    let status = status_of(alloc, line, &mut input, &mut output, &mut store)?;
-    status_is(rt, line, status, 4);
-    count_is(rt, line, output.inner.bytes().len(), 4);
-    is_so(rt, line, written.starts_with(output.inner.bytes()));
+    let ran = run_by_bytes(alloc, line, &mut input, 5)?;
+    let output = ran.output.bytes();
+    status_is(rt, line, 5, ran.status, 4);
+    count_is(rt, line, 5, output.len(), 4);
+    is_so(rt, line, 5, written.starts_with(output));
     Ok(())
 }
 
@@ -169,13 +184,8 @@ fn is_the_same_by_bytes(
     let mut input = OneByte {
         inner: MemSource::new(Vec::from_slice(alloc, content)?, Vec::new(alloc)),
     };
-    let mut output = OneByte {
-        inner: MemSink::new(Vec::new(alloc), Vec::new(alloc)),
-    };
-    let mut store = empty_store(alloc, &[])?;
-    let status = status_of(alloc, line, &mut input, &mut output, &mut store)?;
-    status_is(rt, line, status, 0);
-    wrote(rt, line, output.inner.bytes(), written);
+    let ran = run_by_bytes(alloc, line, &mut input, 0)?;
+    told(rt, line, 0, &ran, 0, written);
     Ok(())
 }
 

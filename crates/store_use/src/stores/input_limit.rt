@@ -1,7 +1,7 @@
 //! Inputs of about as many bytes as an input may have.
 ghost use Rattle.std.specs.Prelude.{None};
 
-use super::checks::{count_is, row_of, told};
+use super::checks::{count_is, told};
 use super::run_on;
 use link_io::{Failed, Source};
 use std::alloc::{AllocError, Global};
@@ -70,9 +70,9 @@ fn ends_at(rt: &impl Abort, alloc: Global, limit: usize, row: &Row) -> Result<()
     let &(line, length, status, written) = row;
     let mut input = Idle { left: length };
     let ran = run_on(alloc, line, &mut input)?;
-    let name = row_of(alloc, line, length as u64)?;
-    told(rt, name.as_str(), &ran, status, written);
-    count_is(rt, name.as_str(), input.left, length.saturating_sub(limit));
+    let number = length as u64;
+    told(rt, line, number, &ran, status, written);
+    count_is(rt, line, number, input.left, length.saturating_sub(limit));
     Ok(())
 }
 

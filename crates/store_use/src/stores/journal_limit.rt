@@ -18,10 +18,15 @@ fn repeated(alloc: Global, once: &[u8], times: usize) -> Result<Vec<u8>, AllocEr
 fn the_frames_end_where_the_journal_is_full(rt: HostRuntime) -> Result<(), AllocError> {
     let alloc = rt.alloc();
     let content = repeated(alloc, FIRST, 250_001)?;
-    let mut store = empty_store(alloc, &[])?;
+    let mut store = empty_store(alloc, 0)?;
     let ran = run_storing(alloc, "replay raw", content, &mut store)?;
     let wanted = repeated(alloc, FIRST_FRAME, 250_000)?;
-    status_is(&rt, "replay raw", ran.status, 8);
-    is_so(&rt, "replay raw", ran.output == wanted);
+    status_is(&rt, "replay raw", 0, ran.status, 8);
+    is_so(
+        &rt,
+        "replay raw",
+        0,
+        ran.output.bytes() == wanted.as_slice(),
+    );
     Ok(())
 }

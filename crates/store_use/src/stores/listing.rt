@@ -1,7 +1,7 @@
 //! Stores that can't be listed, and commands that touch none.
 
 use super::checks::{is_unread, status_is, stores, told};
-use super::{FIRST, FIRST_REPORT, run_over, run_storing};
+use super::{FIRST, FIRST_REPORT, run_failing, run_storing};
 use bytes::Bytes;
 use link_io::{Fulls, MemSource, MemStore};
 use std::alloc::{AllocError, Global};
@@ -23,8 +23,8 @@ fn ends_at_list(
     written: &[u8],
 ) -> Result<(), AllocError> {
     let mut input = MemSource::new(Vec::from_slice(alloc, FIRST)?, Vec::new(alloc));
-    let ran = run_over(alloc, line, &mut input, &mut store(alloc, 1)?)?;
-    told(rt, line, &ran, 5, written);
+    let ran = run_failing(alloc, line, &mut input, 0, &mut store(alloc, 1)?)?;
+    told(rt, line, 0, &ran, 5, written);
     is_unread(rt, line, &mut input);
     Ok(())
 }
@@ -43,8 +43,8 @@ fn a_store_is_listed_once_and_kept(rt: HostRuntime) -> Result<(), AllocError> {
     let mut store = store(alloc, 2)?;
     let content = Vec::from_slice(alloc, FIRST)?;
     let ran = run_storing(alloc, "replay", content, &mut store)?;
-    told(&rt, "replay", &ran, 0, FIRST_REPORT);
-    stores(&rt, &store, 7, b"seven");
+    told(&rt, "replay", 0, &ran, 0, FIRST_REPORT);
+    stores(&rt, "stored", 0, &store, 7, Some(b"seven"));
     Ok(())
 }
 
@@ -52,7 +52,7 @@ fn a_store_is_listed_once_and_kept(rt: HostRuntime) -> Result<(), AllocError> {
 fn touches_no_store(rt: &impl Abort, alloc: Global, line: &str) -> Result<(), AllocError> {
     let content = Vec::from_slice(alloc, b"journal")?;
     let ran = run_storing(alloc, line, content, &mut store(alloc, 1)?)?;
-    status_is(rt, line, ran.status, 0);
+    status_is(rt, line, 0, ran.status, 0);
     Ok(())
 }
 

@@ -1,87 +1,50 @@
 //! Uploads in a recorded stream, and the store in which they end.
 
-use super::checks::{is_so, row_of, status_is, wrote};
-use super::{empty_store, run_storing, write_chunk, write_packet};
+use super::checks::{is_so, status_is, stores};
+use super::says::Says::{self, *};
+use super::says::frames;
+use super::{empty_store, run_storing};
 use rpc_packet::PacketType;
 use std::alloc::{AllocError, Global};
 use std::process::Abort;
-use transfer_chunk::ChunkRef;
-
-fn of_type(number: u64) -> ChunkRef<'static> {
-    ChunkRef {
-        ctype: Some(number),
-        session: Some(1),
-        ..ChunkRef::empty()
-    }
-}
-
-// START of resource 7.
-fn start() -> ChunkRef<'static> {
-    ChunkRef {
-        ctype: Some(1),
-        resource: Some(7),
-        version: Some(2),
-        desired: Some(1),
-        ..ChunkRef::empty()
-    }
-}
-
-// DATA of these bytes, behind which so many come.
-fn data(offset: u64, bytes: &'static [u8], remaining: u64) -> ChunkRef<'static> {
-    ChunkRef {
-        offset,
-        bytes,
-        remaining: Some(remaining),
-        ..of_type(0)
-    }
-}
-
-// Appends the frame of a message of the client that is this chunk.
-fn say(alloc: Global, chunk: &ChunkRef<'_>, stream: &mut Vec<u8>) -> Result<(), AllocError> {
-    write_chunk(alloc, PacketType::ClientStream, chunk, stream)
-}
 
 // What a client sends that uploads `abcde` as resource 7 in two parts, and then knows that it has ended.
-fn upload(alloc: Global) -> Result<Vec<u8>, AllocError> {
-    let mut stream = Vec::new(alloc);
-    write_packet(alloc, PacketType::Request, b"", &mut stream)?;
-    say(alloc, &start(), &mut stream)?;
-    say(alloc, &of_type(7), &mut stream)?;
-    say(alloc, &data(0, b"abc", 2), &mut stream)?;
-    say(alloc, &data(3, b"de", 0), &mut stream)?;
-    say(alloc, &of_type(5), &mut stream)?;
-    Ok(stream)
-}
+const UPLOAD: &[Says] = &[
+    Start(1, 7, 0),
+    BareConfirmation(1),
+    DataBefore(1, 0, b"abc", 2),
+    Rest(1, 3, b"de"),
+    Seen(1),
+];
 
-// Where the call of the store with this number fails, the command ends with this status and this last line, and the store has these
-// bytes of resource 7, or none.
-fn ends_so(
-    rt: &impl Abort,
-    alloc: Global,
-    fail: u64,
-    status: u8,
-    end: &[u8],
-    stored: &[u8],
-) -> Result<(), AllocError> {
-    let mut store = empty_store(alloc, &[fail])?;
-    let ran = run_storing(alloc, "replay", upload(alloc)?, &mut store)?;
-    let row = row_of(alloc, "replay", fail)?;
-    status_is(rt, row.as_str(), ran.status, status);
-    is_so(rt, row.as_str(), ran.output.as_slice().ends_with(end));
-    let held = match store.full(7) {
-        Some(bytes) => bytes.as_slice(),
-        None => b"".as_slice(),
-    };
-    wrote(rt, row.as_str(), held, stored);
+// The number of the store's call that fails, the status, the end of the report, and what the store has of resource 7.
+type Row = (u64, u8, &'static [u8], Option<&'static [u8]>);
+
+// The calls of the store are list, begin, append, append and commit.
+const ROWS: &[Row] = &[
+    (9, 0, b"\ndone\n", Some(b"abcde")),
+    (1, 5, b"\nstore fault\n", None),
+    (2, 5, b"\nstore fault\n", None),
+    (3, 5, b"\nstore fault\n", None),
+    (4, 5, b"\nstore fault\n", None),
+    (5, 5, b"\nstore fault\n", None),
+];
+
+fn ends_so(rt: &impl Abort, alloc: Global, row: &Row) -> Result<(), AllocError> {
+    let (fail, status, end, stored) = *row;
+    let mut store = empty_store(alloc, fail)?;
+    let content = frames(alloc, PacketType::ClientStream, UPLOAD)?;
+    let ran = run_storing(alloc, "replay", content, &mut store)?;
+    status_is(rt, "replay", fail, ran.status, status);
+    is_so(rt, "replay", fail, ran.output.bytes().ends_with(end));
+    stores(rt, "replay", fail, &store, 7, stored);
     Ok(())
 }
 
-// The calls of the store are list, begin, append, append and commit.
 #[test]
 fn an_upload_ends_in_the_store(rt: HostRuntime) -> Result<(), AllocError> {
-    ends_so(&rt, rt.alloc(), 9, 0, b"\ndone\n", b"abcde")?;
-    for fail in 1..=5 {
-        ends_so(&rt, rt.alloc(), fail, 5, b"\nstore fault\n", b"")?;
+    for row in ROWS {
+        ends_so(&rt, rt.alloc(), row)?;
     }
     Ok(())
 }

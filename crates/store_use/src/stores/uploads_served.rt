@@ -1,14 +1,15 @@
 //! What a client is answered that uploads in one go, goes on with an upload that was cut, opens two sessions at once or
 //! opens one twice, and what the store has then.
 
-use self::Says::{Asks, Completed, Confirmation, Data, OldStart, Rest, Seen, Start, StartAck};
-use super::checks::{is_so, stores, stores_none, told};
-use super::{Ran, empty_store, run_storing, write_chunk, write_packet};
+use self::Step::*;
+use super::checks::{is_found, is_so, stores, told};
+use super::says::Says::{self, *};
+use super::says::frames;
+use super::{Ran, empty_store, run_storing};
 use link_io::MemStore;
 use rpc_packet::PacketType;
 use std::alloc::{AllocError, Global};
 use std::process::Abort;
-use transfer_chunk::ChunkRef;
 
 // What a client sends that uploads `hello, store` and a newline as resource 7 in two chunks: `examples/upload/recording`.
 const RECORDING: &str =
@@ -28,105 +29,21 @@ out 7ea503080110011d7bc8d65b25860563d43801e08d10477e
 done
 ";
 
-// A chunk of a session, which is the first number of each.
-enum Says {
-    // START of a resource, from an offset on; and one of version 1.
-    Start(u32, u32, u64),
-    OldStart(u32, u32),
-    // START_ACK with an offset, and its confirmation.
-    StartAck(u32, u64),
-    Confirmation(u32),
-    // DATA at an offset behind which more comes, and the last.
-    Data(u32, u64, &'static [u8]),
-    Rest(u32, u64, &'static [u8]),
-    // PARAMETERS_RETRANSMIT of chunks of 256 bytes: the offset, and the end of the window.
-    Asks(u32, u64, u32),
-    // COMPLETION with a status, and its acknowledgment.
-    Completed(u32, u32),
-    Seen(u32),
+// What is done with a store, and what it then has.
+#[derive(Clone, Copy)]
+enum Step {
+    // `replay raw` of what a client says so, behind its REQUEST, ends with this status and answers with just these chunks.
+    Replays(&'static [Says], u8, &'static [Says]),
+    // The store has these bytes of a resource, or none.
+    Stores(u32, Option<&'static [u8]>),
+    // The store has these bytes of an upload of resource 7 that was cut, or none.
+    Leaves(Option<&'static [u8]>),
 }
 
-// A chunk of this type of a session.
-fn of(ctype: u64, session: u32) -> ChunkRef<'static> {
-    ChunkRef {
-        ctype: Some(ctype),
-        session: Some(session),
-        ..ChunkRef::empty()
-    }
-}
-
-fn opening(session: u32, resource: u32, initial: u64, version: u32) -> ChunkRef<'static> {
-    ChunkRef {
-        ctype: Some(1),
-        resource: Some(resource),
-        version: Some(version),
-        desired: Some(session),
-        initial,
-        ..ChunkRef::empty()
-    }
-}
-
-fn part(
-    session: u32,
-    offset: u64,
-    bytes: &'static [u8],
-    remaining: Option<u64>,
-) -> ChunkRef<'static> {
-    ChunkRef {
-        offset,
-        bytes,
-        remaining,
-        ..of(0, session)
-    }
-}
-
-// START_ACK, or its confirmation.
-fn agreed(ctype: u64, session: u32, initial: u64) -> ChunkRef<'static> {
-    ChunkRef {
-        version: Some(2),
-        initial,
-        ..of(ctype, session)
-    }
-}
-
-fn chunk(says: &Says) -> ChunkRef<'static> {
-    match *says {
-        Start(session, resource, initial) => opening(session, resource, initial, 2),
-        OldStart(session, resource) => opening(session, resource, 0, 1),
-        StartAck(session, initial) => agreed(6, session, initial),
-        Confirmation(session) => agreed(7, session, 0),
-        Data(session, offset, bytes) => part(session, offset, bytes, None),
-        Rest(session, offset, bytes) => part(session, offset, bytes, Some(0)),
-        Asks(session, offset, window_end) => ChunkRef {
-            offset,
-            window_end,
-            max_chunk: Some(256),
-            ..of(2, session)
-        },
-        Completed(session, status) => ChunkRef {
-            status: Some(status),
-            ..of(4, session)
-        },
-        Seen(session) => of(5, session),
-    }
-}
-
-// The frames of messages that are these chunks.
-fn frames(alloc: Global, ptype: PacketType, says: &[Says]) -> Result<Vec<u8>, AllocError> {
-    let mut stream = Vec::new(alloc);
-    if ptype == PacketType::ClientStream {
-        write_packet(alloc, PacketType::Request, b"", &mut stream)?;
-    }
-    for each in says {
-        write_chunk(alloc, ptype, &chunk(each), &mut stream)?;
-    }
-    Ok(stream)
-}
-
-// `replay raw` of what a client says so, behind its REQUEST, ends with this status and answers with just these chunks.
 fn is_answered(
     rt: &impl Abort,
     alloc: Global,
+    step: u64,
     store: &mut MemStore,
     says: &[Says],
     status: u8,
@@ -135,18 +52,43 @@ fn is_answered(
     let content = frames(alloc, PacketType::ClientStream, says)?;
     let ran = run_storing(alloc, "replay raw", content, store)?;
     let wanted = frames(alloc, PacketType::ServerStream, answers)?;
-    told(rt, "replay raw", &ran, status, &wanted);
+    told(rt, "replay raw", step, &ran, status, &wanted);
     Ok(())
 }
 
-// The store has these bytes of an upload of resource 7 that was cut, or none.
-fn left(rt: &impl Abort, store: &MemStore, wanted: Option<&[u8]>) {
-    let is_left = match (store.left(7), wanted) {
-        (Some(bytes), Some(wanted)) => bytes.as_slice() == wanted,
-        (None, None) => true,
-        _ => false,
-    };
-    is_so(rt, "left", is_left);
+fn take(
+    rt: &impl Abort,
+    alloc: Global,
+    number: u64,
+    store: &mut MemStore,
+    step: Step,
+) -> Result<(), AllocError> {
+    match step {
+        Replays(says, status, answers) => {
+            is_answered(rt, alloc, number, store, says, status, answers)?;
+        }
+        Stores(resource, wanted) => stores(rt, "stored", number, store, resource, wanted),
+        Leaves(wanted) => is_so(rt, "left", number, is_found(store.left(7), wanted)),
+    }
+    Ok(())
+}
+
+fn take_all(
+    rt: &impl Abort,
+    alloc: Global,
+    store: &mut MemStore,
+    steps: &[Step],
+) -> Result<(), AllocError> {
+    for (number, step) in steps.iter().enumerate() {
+        take(rt, alloc, number as u64, store, *step)?;
+    }
+    Ok(())
+}
+
+// The steps over an empty store, whose call with this number fails.
+fn follow(rt: &impl Abort, alloc: Global, fail: u64, steps: &[Step]) -> Result<(), AllocError> {
+    let mut store = empty_store(alloc, fail)?;
+    take_all(rt, alloc, &mut store, steps)
 }
 
 const CUT: &[Says] = &[Start(1, 7, 0), Confirmation(1), Data(1, 0, b"abc")];
@@ -162,16 +104,18 @@ const GOING_ON: &[Says] = &[
 
 const RESUMED: &[Says] = &[StartAck(1, 3), Asks(1, 3, 1_027), Completed(1, 0)];
 
+const CUT_AND_RESUMED: &[Step] = &[
+    Replays(CUT, 0, ASKED),
+    Stores(7, None),
+    Leaves(Some(b"abc")),
+    Replays(GOING_ON, 0, RESUMED),
+    Stores(7, Some(b"abcde")),
+    Leaves(None),
+];
+
 #[test]
 fn a_cut_upload_goes_on_where_it_was_left(rt: HostRuntime) -> Result<(), AllocError> {
-    let mut store = empty_store(rt.alloc(), &[])?;
-    is_answered(&rt, rt.alloc(), &mut store, CUT, 0, ASKED)?;
-    stores_none(&rt, &store, 7);
-    left(&rt, &store, Some(b"abc"));
-    is_answered(&rt, rt.alloc(), &mut store, GOING_ON, 0, RESUMED)?;
-    stores(&rt, &store, 7, b"abcde");
-    left(&rt, &store, None);
-    Ok(())
+    follow(&rt, rt.alloc(), 0, CUT_AND_RESUMED)
 }
 
 const BOTH: &[Says] = &[
@@ -193,13 +137,15 @@ const BOTH_ANSWERED: &[Says] = &[
     Completed(2, 0),
 ];
 
+const AT_ONCE: &[Step] = &[
+    Replays(BOTH, 0, BOTH_ANSWERED),
+    Stores(7, Some(b"seven")),
+    Stores(8, Some(b"eight!")),
+];
+
 #[test]
 fn two_sessions_go_on_at_once(rt: HostRuntime) -> Result<(), AllocError> {
-    let mut store = empty_store(rt.alloc(), &[])?;
-    is_answered(&rt, rt.alloc(), &mut store, BOTH, 0, BOTH_ANSWERED)?;
-    stores(&rt, &store, 7, b"seven");
-    stores(&rt, &store, 8, b"eight!");
-    Ok(())
+    follow(&rt, rt.alloc(), 0, AT_ONCE)
 }
 
 // The second START is answered as the first; those of another resource and of an open upload are ignored, until the
@@ -225,13 +171,15 @@ const TWICE_ANSWERED: &[Says] = &[
     Completed(1, 0),
 ];
 
+const STARTED_TWICE: &[Step] = &[
+    Replays(TWICE, 0, TWICE_ANSWERED),
+    Stores(7, Some(b"abcde")),
+    Stores(8, None),
+];
+
 #[test]
 fn a_second_start_opens_nothing(rt: HostRuntime) -> Result<(), AllocError> {
-    let mut store = empty_store(rt.alloc(), &[])?;
-    is_answered(&rt, rt.alloc(), &mut store, TWICE, 0, TWICE_ANSWERED)?;
-    stores(&rt, &store, 7, b"abcde");
-    stores_none(&rt, &store, 8);
-    Ok(())
+    follow(&rt, rt.alloc(), 0, STARTED_TWICE)
 }
 
 const OLD: &[Says] = &[OldStart(1, 7), Rest(1, 0, b"abc")];
@@ -239,12 +187,11 @@ const OLD: &[Says] = &[OldStart(1, 7), Rest(1, 0, b"abc")];
 // UNIMPLEMENTED, and then FAILED_PRECONDITION of a session that isn't there.
 const OLD_ANSWERED: &[Says] = &[Completed(1, 12), Completed(1, 9)];
 
+const REFUSED: &[Step] = &[Replays(OLD, 0, OLD_ANSWERED), Stores(7, None)];
+
 #[test]
 fn a_start_of_version_1_is_refused(rt: HostRuntime) -> Result<(), AllocError> {
-    let mut store = empty_store(rt.alloc(), &[])?;
-    is_answered(&rt, rt.alloc(), &mut store, OLD, 0, OLD_ANSWERED)?;
-    stores_none(&rt, &store, 7);
-    Ok(())
+    follow(&rt, rt.alloc(), 0, REFUSED)
 }
 
 const WHOLE: &[Says] = &[
@@ -255,12 +202,11 @@ const WHOLE: &[Says] = &[
 ];
 
 // The list, the begin and the first append go well.
+const STORE_FAULT: &[Step] = &[Replays(WHOLE, 5, ASKED), Stores(7, None)];
+
 #[test]
 fn no_end_is_told_where_the_store_fails(rt: HostRuntime) -> Result<(), AllocError> {
-    let mut store = empty_store(rt.alloc(), &[4])?;
-    is_answered(&rt, rt.alloc(), &mut store, WHOLE, 5, ASKED)?;
-    stores_none(&rt, &store, 7);
-    Ok(())
+    follow(&rt, rt.alloc(), 4, STORE_FAULT)
 }
 
 fn run_recording(alloc: Global, store: &mut MemStore) -> Result<Ran, AllocError> {
@@ -270,9 +216,9 @@ fn run_recording(alloc: Global, store: &mut MemStore) -> Result<Ran, AllocError>
 
 #[test]
 fn the_stored_recording_has_its_report(rt: HostRuntime) -> Result<(), AllocError> {
-    let mut store = empty_store(rt.alloc(), &[])?;
+    let mut store = empty_store(rt.alloc(), 0)?;
     let ran = run_recording(rt.alloc(), &mut store)?;
-    told(&rt, "the recording", &ran, 0, REPORT);
-    stores(&rt, &store, 7, b"hello, store\n");
+    told(&rt, "the recording", 0, &ran, 0, REPORT);
+    stores(&rt, "stored", 0, &store, 7, Some(b"hello, store\n"));
     Ok(())
 }
