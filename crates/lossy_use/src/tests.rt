@@ -100,6 +100,52 @@ fn ends_well(rt: &impl Abort, alloc: Global, script: &str, size: u64) -> Result<
     Ok(())
 }
 
+/// The script with this text at its `#`.
+fn filled(rt: &impl Abort, alloc: Global, script: &str, text: &str) -> Result<String, AllocError> {
+    let Some((front, back)) = script.split_once('#') else {
+        panic!(rt; "no place in {script}")
+    };
+    format!(in alloc; "{front}{text}{back}")
+}
+
+/// The transfer of a script ends OK with all bytes, where this text stands at the script's `#`.
+fn ends_well_with(
+    rt: &impl Abort,
+    alloc: Global,
+    script: &str,
+    text: &str,
+    size: u64,
+) -> Result<(), AllocError> {
+    let script = filled(rt, alloc, script, text)?;
+    ends_well(rt, alloc, script.as_str(), size)
+}
+
+fn ends_well_at(
+    rt: &impl Abort,
+    alloc: Global,
+    script: &str,
+    number: u32,
+    size: u64,
+) -> Result<(), AllocError> {
+    let text = format!(in alloc; "{number}")?;
+    ends_well_with(rt, alloc, script, text.as_str(), size)
+}
+
+/// So it does where each number from the first to the last stands there.
+fn ends_well_at_each(
+    rt: &impl Abort,
+    alloc: Global,
+    script: &str,
+    first: u32,
+    last: u32,
+    size: u64,
+) -> Result<(), AllocError> {
+    for number in first..=last {
+        ends_well_at(rt, alloc, script, number, size)?;
+    }
+    Ok(())
+}
+
 /// It is so of a script's run.
 fn is_so(rt: &impl Abort, script: &str, fact: bool) {
     assert!(rt; fact, "{script}");

@@ -1,9 +1,8 @@
 //! Up to three chunk frames of a short transfer are lost, and it ends OK.
 
-use super::ends_well;
+use super::{ends_well_at_each, ends_well_with};
 use std::alloc::{AllocError, Global};
 use std::process::Abort;
-use std::test::Fail;
 
 /// The resource has three chunks, of which the last is short.
 const SIZE: u64 = 600;
@@ -17,74 +16,60 @@ const LAST: u32 = 14;
 /// The frames of a read that carry its pieces and what follows them, behind its confirmation, which is frame 4.
 const FIRST_PIECE: u32 = 5;
 
+// A read's confirmation is frame 4, which isn't sent again.
 #[test]
-fn a_read_ends_well_without_any_one_chunk(rt: HostRuntime) -> Result<(), Fail> {
-    let alloc = rt.alloc();
-    for lost in (FIRST..=LAST).filter(|lost| *lost != 4) {
-        let script = format!(in alloc; "server 7 {SIZE} 1\ndrop {lost}\nread 7 0\n")?;
-        ends_well(&rt, alloc, script.as_str(), SIZE)?;
-    }
-    Ok(())
+fn a_read_ends_well_without_any_one_chunk(rt: HostRuntime) -> Result<(), AllocError> {
+    let script = "server 7 600 1\ndrop #\nread 7 0\n";
+    ends_well_at_each(&rt, rt.alloc(), script, FIRST, 3, SIZE)?;
+    ends_well_at_each(&rt, rt.alloc(), script, FIRST_PIECE, LAST, SIZE)
 }
 
 #[test]
-fn a_write_ends_well_without_any_one_chunk(rt: HostRuntime) -> Result<(), Fail> {
-    let alloc = rt.alloc();
-    for lost in FIRST..=LAST {
-        let script = format!(in alloc; "client 7 {SIZE} 1\ndrop {lost}\nwrite 7 0\n")?;
-        ends_well(&rt, alloc, script.as_str(), SIZE)?;
-    }
-    Ok(())
+fn a_write_ends_well_without_any_one_chunk(rt: HostRuntime) -> Result<(), AllocError> {
+    let script = "client 7 600 1\ndrop #\nwrite 7 0\n";
+    ends_well_at_each(&rt, rt.alloc(), script, FIRST, LAST, SIZE)
 }
 
-// The read without these pieces.
-fn read_ends_well(
+// The transfer without these frames, whose lines stand at the script's `#`.
+fn ends_well_without(
     rt: &impl Abort,
     alloc: Global,
+    script: &str,
     first: u32,
     second: u32,
     third: u32,
 ) -> Result<(), AllocError> {
     let drops = drops(alloc, first, second, third)?;
-    let script = format!(in alloc; "server 7 {SIZE} 1\n{drops}read 7 0\n")?;
-    ends_well(rt, alloc, script.as_str(), SIZE)
+    ends_well_with(rt, alloc, script, drops.as_str(), SIZE)
 }
 
-#[test]
-fn a_read_ends_well_without_any_pieces(rt: HostRuntime) -> Result<(), Fail> {
-    for first in FIRST_PIECE..=LAST {
+// The transfer without any three frames from this one on.
+fn ends_well_without_any(
+    rt: &impl Abort,
+    alloc: Global,
+    script: &str,
+    from: u32,
+) -> Result<(), AllocError> {
+    for first in from..=LAST {
         for second in first..=LAST {
             for third in second..=LAST {
-                read_ends_well(&rt, rt.alloc(), first, second, third)?;
+                ends_well_without(rt, alloc, script, first, second, third)?;
             }
         }
     }
     Ok(())
 }
 
-// The write without these chunks.
-fn write_ends_well(
-    rt: &impl Abort,
-    alloc: Global,
-    first: u32,
-    second: u32,
-    third: u32,
-) -> Result<(), AllocError> {
-    let drops = drops(alloc, first, second, third)?;
-    let script = format!(in alloc; "client 7 {SIZE} 1\n{drops}write 7 0\n")?;
-    ends_well(rt, alloc, script.as_str(), SIZE)
+#[test]
+fn a_read_ends_well_without_any_pieces(rt: HostRuntime) -> Result<(), AllocError> {
+    let script = "server 7 600 1\n#read 7 0\n";
+    ends_well_without_any(&rt, rt.alloc(), script, FIRST_PIECE)
 }
 
 #[test]
-fn a_write_ends_well_without_any_three_chunks(rt: HostRuntime) -> Result<(), Fail> {
-    for first in FIRST..=LAST {
-        for second in first..=LAST {
-            for third in second..=LAST {
-                write_ends_well(&rt, rt.alloc(), first, second, third)?;
-            }
-        }
-    }
-    Ok(())
+fn a_write_ends_well_without_any_three_chunks(rt: HostRuntime) -> Result<(), AllocError> {
+    let script = "client 7 600 1\n#write 7 0\n";
+    ends_well_without_any(&rt, rt.alloc(), script, FIRST)
 }
 
 // The lines of these losses, each frame once: a single frame and pairs are among the triples.

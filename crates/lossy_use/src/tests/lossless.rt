@@ -3,7 +3,6 @@
 use super::{is_so, is_stored, is_whole, told};
 use std::alloc::{AllocError, Global};
 use std::process::Abort;
-use std::test::Fail;
 
 /// The sizes of a chunk in bytes.
 const CHUNKS: &[u64] = &[1, 16, 100, 256];
@@ -96,8 +95,28 @@ fn keeps_promise(alloc: Global, row: &Row, script: &str) -> Result<bool, AllocEr
     )
 }
 
-// The read of a row keeps the promise.
-fn reads(rt: &impl Abort, alloc: Global, row: &Row) -> Result<(), AllocError> {
+/// The end that has the resource, the end where an upload was cut, and what is asked of the transfer.
+struct Way {
+    owner: &'static str,
+    other: &'static str,
+    asks: &'static str,
+}
+
+const READ: Way = Way {
+    owner: "server",
+    other: "client",
+    asks: "read",
+};
+
+const WRITE: Way = Way {
+    owner: "client",
+    other: "server",
+    asks: "write",
+};
+
+// The transfer of a row keeps the promise.
+fn keeps(rt: &impl Abort, alloc: Global, way: &Way, row: &Row) -> Result<(), AllocError> {
+    let Way { owner, other, asks } = way;
     let Row {
         chunk,
         window,
@@ -105,43 +124,29 @@ fn reads(rt: &impl Abort, alloc: Global, row: &Row) -> Result<(), AllocError> {
         offset,
     } = row;
     let script = format!(in alloc;
-        "chunk {chunk}\nwindow {window}\nserver 7 {size} 1\nleft client 7 {size} 1\nread 7 {offset}\n"
+        "chunk {chunk}\nwindow {window}\n{owner} 7 {size} 1\nleft {other} 7 {size} 1\n{asks} 7 {offset}\n"
     )?;
     let keeps = keeps_promise(alloc, row, script.as_str())?;
     is_so(rt, script.as_str(), keeps);
     Ok(())
 }
 
+// So does the transfer of each row.
+fn all_keep(rt: &impl Abort, alloc: Global, way: &Way, rows: &[Row]) -> Result<(), AllocError> {
+    for row in rows {
+        keeps(rt, alloc, way, row)?;
+    }
+    Ok(())
+}
+
 #[test]
-fn each_read_ends_well(rt: HostRuntime) -> Result<(), Fail> {
+fn each_read_ends_well(rt: HostRuntime) -> Result<(), AllocError> {
     let rows = rows(rt.alloc())?;
     assert_eq!(rt; rows.len(), 324);
-    for row in &rows {
-        reads(&rt, rt.alloc(), row)?;
-    }
-    Ok(())
-}
-
-// The write of a row keeps the promise.
-fn writes(rt: &impl Abort, alloc: Global, row: &Row) -> Result<(), AllocError> {
-    let Row {
-        chunk,
-        window,
-        size,
-        offset,
-    } = row;
-    let script = format!(in alloc;
-        "chunk {chunk}\nwindow {window}\nclient 7 {size} 1\nleft server 7 {size} 1\nwrite 7 {offset}\n"
-    )?;
-    let keeps = keeps_promise(alloc, row, script.as_str())?;
-    is_so(rt, script.as_str(), keeps);
-    Ok(())
+    all_keep(&rt, rt.alloc(), &READ, &rows)
 }
 
 #[test]
-fn each_write_ends_well(rt: HostRuntime) -> Result<(), Fail> {
-    for row in &rows(rt.alloc())? {
-        writes(&rt, rt.alloc(), row)?;
-    }
-    Ok(())
+fn each_write_ends_well(rt: HostRuntime) -> Result<(), AllocError> {
+    all_keep(&rt, rt.alloc(), &WRITE, &rows(rt.alloc())?)
 }

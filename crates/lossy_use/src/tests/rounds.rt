@@ -1,12 +1,15 @@
 //! Losses round by round: what lies between two turns of time is a round, and one that loses no chunk among the first four is enough.
 
-use super::{ends_well, is_so, is_stored, told};
+use super::{ends_well_with, filled, is_so, is_stored, told};
 use link_script::{Report, ReportLine};
 use link_world::Outcome;
 use rpc_ids::Status;
 use std::alloc::{AllocError, Global};
 use std::process::Abort;
 use std::test::Fail;
+
+/// No burst is longer, in frames.
+const MOST: u32 = 12;
 
 /// The resource has sixteen chunks, all of which go out in one round.
 const LONG: u64 = 4000;
@@ -140,21 +143,27 @@ fn is_told(report: &Report, status: Status, size: u64) -> bool {
     }
 }
 
-// The transfer of a row ends as it says.
-fn ends_so(rt: &impl Abort, alloc: Global, row: &Row) -> Result<(), AllocError> {
-    let outcome = told(alloc, row.script)?;
+// The transfer of a script ends so.
+fn ends_so(
+    rt: &impl Abort,
+    alloc: Global,
+    script: &str,
+    status: Status,
+    length: u64,
+) -> Result<(), AllocError> {
+    let outcome = told(alloc, script)?;
     is_so(
         rt,
-        row.script,
-        outcome.is_some_and(|outcome| ended_so(&outcome, row.status, row.length)),
+        script,
+        outcome.is_some_and(|outcome| ended_so(&outcome, status, length)),
     );
     Ok(())
 }
 
-// So does each of these rows.
+// The transfer of each row ends as it says.
 fn all_end_so(rt: &impl Abort, alloc: Global, rows: &[Row]) -> Result<(), AllocError> {
     for row in rows {
-        ends_so(rt, alloc, row)?;
+        ends_so(rt, alloc, row.script, row.status, row.length)?;
     }
     Ok(())
 }
@@ -187,26 +196,40 @@ fn burst(alloc: Global, first: u32, many: u32) -> Result<String, AllocError> {
     Ok(lines)
 }
 
-#[test]
-fn a_read_survives_a_burst_in_one_round(rt: HostRuntime) -> Result<(), Fail> {
-    let alloc = rt.alloc();
-    for many in 1..=12 {
-        let drops = burst(alloc, FIRST_READ, many)?;
-        let script = format!(in alloc; "window 16\nserver 7 {LONG} 1\n{drops}read 7 0\n")?;
-        ends_well(&rt, alloc, script.as_str(), LONG)?;
+// Where so many frames from the first on are lost, whose lines stand at the script's `#`, the transfer ends OK.
+fn survives(
+    rt: &impl Abort,
+    alloc: Global,
+    script: &str,
+    first: u32,
+    many: u32,
+) -> Result<(), AllocError> {
+    let drops = burst(alloc, first, many)?;
+    ends_well_with(rt, alloc, script, drops.as_str(), LONG)
+}
+
+fn survives_each(
+    rt: &impl Abort,
+    alloc: Global,
+    script: &str,
+    first: u32,
+) -> Result<(), AllocError> {
+    for many in 1..=MOST {
+        survives(rt, alloc, script, first, many)?;
     }
     Ok(())
 }
 
 #[test]
-fn a_write_survives_a_burst_in_one_round(rt: HostRuntime) -> Result<(), Fail> {
-    let alloc = rt.alloc();
-    for many in 1..=12 {
-        let drops = burst(alloc, FIRST_WRITE, many)?;
-        let script = format!(in alloc; "window 16\nclient 7 {LONG} 1\n{drops}write 7 0\n")?;
-        ends_well(&rt, alloc, script.as_str(), LONG)?;
-    }
-    Ok(())
+fn a_read_survives_a_burst_in_one_round(rt: HostRuntime) -> Result<(), AllocError> {
+    let script = "window 16\nserver 7 4000 1\n#read 7 0\n";
+    survives_each(&rt, rt.alloc(), script, FIRST_READ)
+}
+
+#[test]
+fn a_write_survives_a_burst_in_one_round(rt: HostRuntime) -> Result<(), AllocError> {
+    let script = "window 16\nclient 7 4000 1\n#write 7 0\n";
+    survives_each(&rt, rt.alloc(), script, FIRST_WRITE)
 }
 
 // Three frames of a burst are the pieces, and each further one is the ask of a round.
@@ -223,33 +246,33 @@ fn burst_ends_so(
     rt: &impl Abort,
     alloc: Global,
     script: &str,
+    first: u32,
     many: u32,
 ) -> Result<(), AllocError> {
-    let status = short_status(many);
+    let drops = burst(alloc, first, many)?;
+    let script = filled(rt, alloc, script, drops.as_str())?;
     let length = if many <= 5 { SHORT } else { 0 };
-    let outcome = told(alloc, script)?;
-    is_so(
-        rt,
-        script,
-        outcome.is_some_and(|outcome| ended_so(&outcome, status, length)),
-    );
+    ends_so(rt, alloc, script.as_str(), short_status(many), length)
+}
+
+fn each_burst_ends_so(
+    rt: &impl Abort,
+    alloc: Global,
+    script: &str,
+    first: u32,
+) -> Result<(), AllocError> {
+    for many in 1..=MOST {
+        burst_ends_so(rt, alloc, script, first, many)?;
+    }
     Ok(())
 }
 
 #[test]
-fn a_burst_over_the_rounds_is_survived_up_to_the_third(rt: HostRuntime) -> Result<(), Fail> {
-    let alloc = rt.alloc();
-    for many in 1..=12 {
-        let drops = burst(alloc, FIRST_READ, many)?;
-        let script = format!(in alloc; "server 7 {SHORT} 1\n{drops}read 7 0\n")?;
-        burst_ends_so(&rt, alloc, script.as_str(), many)?;
-    }
-    for many in 1..=12 {
-        let drops = burst(alloc, FIRST_WRITE, many)?;
-        let script = format!(in alloc; "client 7 {SHORT} 1\n{drops}write 7 0\n")?;
-        burst_ends_so(&rt, alloc, script.as_str(), many)?;
-    }
-    Ok(())
+fn a_burst_over_the_rounds_is_survived_up_to_the_third(rt: HostRuntime) -> Result<(), AllocError> {
+    let read = "server 7 600 1\n#read 7 0\n";
+    let write = "client 7 600 1\n#write 7 0\n";
+    each_burst_ends_so(&rt, rt.alloc(), read, FIRST_READ)?;
+    each_burst_ends_so(&rt, rt.alloc(), write, FIRST_WRITE)
 }
 
 /// One loss, by which 64 pieces of a wide window are thrown away, and two asks more: 66 chunks above the bound.
