@@ -1,14 +1,46 @@
 //! What an errand does and says, step by step.
+use crate::checks::{count_is, end_is, is_so, number_is};
+use Come::*;
+use Step::*;
 use bytes::Bytes;
 use live_client::asks::{CallErrand, Errand, TaskErrand, Utterance};
 use rpc_handlers::{Event, Out};
 use rpc_ids::Status;
-use std::alloc::AllocError;
+use std::alloc::{AllocError, Global};
 use std::collections::VecDeque;
 use std::process::Abort;
 use std::test::Fail;
 use task_core::bells::Bells;
 use transfer_client::WriteTask;
+
+/// What comes to a call.
+#[derive(Clone, Copy)]
+enum Come {
+    Message,
+    End(Status),
+}
+
+/// What comes to a call that is cancelled at two messages, and what is asked of it.
+#[derive(Clone, Copy)]
+enum Step {
+    /// The call takes it.
+    Takes(Come),
+    /// The call doesn't take it.
+    Ignores(Come),
+    /// Whether the call is to be cancelled. Where it is, it is cancelled.
+    IsCut(bool),
+    /// So the call has ended, if it has.
+    Ended(Option<Status>),
+    /// The call has kept so many messages.
+    Keeps(usize),
+}
+
+fn event_of(come: Come) -> Event {
+    match come {
+        Message => Event::Message(Bytes::from_static(b"1")),
+        End(status) => Event::Ended(status),
+    }
+}
 
 // Whether the call took the event.
 fn took(call: &mut CallErrand, event: Event) -> Result<bool, AllocError> {
@@ -19,15 +51,9 @@ fn took(call: &mut CallErrand, event: Event) -> Result<bool, AllocError> {
     Ok(true)
 }
 
-fn takes(
-    rt: &impl Abort,
-    call: &mut CallErrand,
-    event: Event,
-    wanted: bool,
-) -> Result<(), AllocError> {
-    let is_taken = took(call, event)?;
-    assert_eq!(rt; is_taken, wanted);
-    Ok(())
+fn takes(rt: &impl Abort, call: &mut CallErrand, come: Come, wanted: bool, row: usize) {
+    let is_taken = took(call, event_of(come));
+    assert_eq!(rt; is_taken, Ok(wanted), "row {row}");
 }
 
 // Cancels the call where it is to be cancelled, which answers this.
@@ -39,50 +65,53 @@ fn cut_with(call: &mut CallErrand, status: Status) -> bool {
     true
 }
 
-fn is_cut(rt: &impl Abort, call: &mut CallErrand, wanted: bool) {
-    let is_cut = cut_with(call, Status::Cancelled);
-    assert_eq!(rt; is_cut, wanted);
+fn step_holds(rt: &impl Abort, call: &mut CallErrand, step: Step, row: usize) {
+    match step {
+        Takes(come) => takes(rt, call, come, true, row),
+        Ignores(come) => takes(rt, call, come, false, row),
+        IsCut(wanted) => is_so(rt, cut_with(call, Status::Cancelled) == wanted, row),
+        Ended(end) => end_is(rt, call.end(), end, row),
+        Keeps(count) => count_is(rt, call.messages.len(), count, row),
+    }
 }
 
-fn end_is(rt: &impl Abort, end: Option<Status>, wanted: Option<Status>) {
-    assert_eq!(rt; end, wanted);
+// A new call goes through these steps.
+fn follows(rt: &impl Abort, alloc: Global, steps: &[Step]) {
+    let mut call = CallErrand::new(alloc, VecDeque::new(alloc), 2, None);
+    for (row, step) in steps.iter().enumerate() {
+        step_holds(rt, &mut call, *step, row);
+    }
 }
 
-fn count_is(rt: &impl Abort, count: usize, wanted: usize) {
-    assert_eq!(rt; count, wanted);
-}
-
-fn message() -> Event {
-    Event::Message(Bytes::from_static(b"1"))
-}
+const TO_ITS_LIMIT: &[Step] = &[
+    Takes(Message),
+    IsCut(false),
+    Takes(Message),
+    Ignores(Message),
+    IsCut(true),
+    Ended(Some(Status::Cancelled)),
+    Keeps(2),
+    IsCut(false),
+];
 
 #[test]
-fn a_call_is_cut_at_its_limit(rt: HostRuntime) -> Result<(), Fail> {
-    let alloc = rt.alloc();
-    let mut call = CallErrand::new(alloc, VecDeque::new(alloc), 2, None);
-    takes(&rt, &mut call, message(), true)?;
-    is_cut(&rt, &mut call, false);
-    takes(&rt, &mut call, message(), true)?;
-    takes(&rt, &mut call, message(), false)?;
-    is_cut(&rt, &mut call, true);
-    end_is(&rt, call.end(), Some(Status::Cancelled));
-    count_is(&rt, call.messages.len(), 2);
-    is_cut(&rt, &mut call, false);
-    Ok(())
+fn a_call_is_cut_at_its_limit(rt: HostRuntime) {
+    follows(&rt, rt.alloc(), TO_ITS_LIMIT);
 }
 
+const TO_ITS_END: &[Step] = &[
+    Takes(Message),
+    Ended(None),
+    Takes(End(Status::Okay)),
+    Ended(Some(Status::Okay)),
+    Ignores(Message),
+    IsCut(false),
+    Keeps(1),
+];
+
 #[test]
-fn a_call_ends_with_its_call(rt: HostRuntime) -> Result<(), Fail> {
-    let alloc = rt.alloc();
-    let mut call = CallErrand::new(alloc, VecDeque::new(alloc), 2, None);
-    takes(&rt, &mut call, message(), true)?;
-    end_is(&rt, call.end(), None);
-    takes(&rt, &mut call, Event::Ended(Status::Okay), true)?;
-    end_is(&rt, call.end(), Some(Status::Okay));
-    takes(&rt, &mut call, message(), false)?;
-    is_cut(&rt, &mut call, false);
-    count_is(&rt, call.messages.len(), 1);
-    Ok(())
+fn a_call_ends_with_its_call(rt: HostRuntime) {
+    follows(&rt, rt.alloc(), TO_ITS_END);
 }
 
 #[test]
@@ -92,9 +121,13 @@ fn a_call_says_what_it_was_given(rt: HostRuntime) -> Result<(), Fail> {
     given.push_back(Utterance::Says(Out::Say(Bytes::from_static(b"1"))))?;
     given.push_back(Utterance::Completes)?;
     let mut call = CallErrand::new(alloc, given, 2, None);
-    says(&rt, call.next_out(), true);
-    is_so(&rt, matches!(call.next_out(), Some(Utterance::Completes)));
-    is_so(&rt, call.next_out().is_none());
+    says(&rt, call.next_out(), true, 0);
+    is_so(
+        &rt,
+        matches!(call.next_out(), Some(Utterance::Completes)),
+        1,
+    );
+    is_so(&rt, call.next_out().is_none(), 2);
     Ok(())
 }
 
@@ -106,17 +139,8 @@ fn is_say(out: Option<Utterance>) -> bool {
     }
 }
 
-fn says(rt: &impl Abort, out: Option<Utterance>, wanted: bool) {
-    let is_said = is_say(out);
-    assert_eq!(rt; is_said, wanted);
-}
-
-fn is_so(rt: &impl Abort, fact: bool) {
-    assert!(rt; fact);
-}
-
-fn offset_is(rt: &impl Abort, offset: u64, wanted: u64) {
-    assert_eq!(rt; offset, wanted);
+fn says(rt: &impl Abort, out: Option<Utterance>, wanted: bool, row: usize) {
+    is_so(rt, is_say(out) == wanted, row);
 }
 
 #[test]
@@ -125,15 +149,15 @@ fn a_task_asks_and_ends_with_its_call(rt: HostRuntime) -> Result<(), Fail> {
     let (bells, ear, _ringers) = Bells::with(alloc, 1, 1)?;
     let task = WriteTask::new(alloc, 1, 7, Bytes::from_static(b"0123"), 0);
     let mut errand = TaskErrand::new(alloc, task, ear)?;
-    says(&rt, errand.next_out(), false);
+    says(&rt, errand.next_out(), false, 0);
     errand.go_on(&bells, 5)?;
-    says(&rt, errand.next_out(), true);
-    says(&rt, errand.next_out(), false);
-    end_is(&rt, errand.end(), None);
+    says(&rt, errand.next_out(), true, 1);
+    says(&rt, errand.next_out(), false, 2);
+    end_is(&rt, errand.end(), None, 3);
     errand.hear(Event::Ended(Status::Aborted))?;
     errand.go_on(&bells, 6)?;
-    end_is(&rt, errand.end(), Some(Status::Aborted));
-    is_so(&rt, !errand.cuts());
-    offset_is(&rt, errand.task().offset(), 0);
+    end_is(&rt, errand.end(), Some(Status::Aborted), 4);
+    is_so(&rt, !errand.cuts(), 5);
+    number_is(&rt, errand.task().offset(), 0, 6);
     Ok(())
 }

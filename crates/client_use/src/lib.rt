@@ -6,6 +6,8 @@ mod asks;
 #[cfg(test)]
 mod bells;
 #[cfg(test)]
+mod checks;
+#[cfg(test)]
 mod live;
 #[cfg(test)]
 mod tasks;

@@ -18,8 +18,12 @@ use transfer_base::Ask;
 use transfer_words::{WordRef, text_of};
 
 mod calls;
+mod facts;
 mod frames;
 mod silence;
+
+use facts::Fact::{self, *};
+use facts::hold;
 
 // The resource that is fetched and sent.
 const RESOURCE: u32 = 7;
@@ -152,35 +156,60 @@ const TAKEN: &[WordRef<'static>] = &[
     WordRef::Completion(Status::Okay),
 ];
 
-// What it did over this input with an empty store.
-fn does<R: Threads + Wait + Sync, C: Clock + Send>(
-    rt: &R,
-    alloc: Global,
-    input: Vec<u8>,
-    clock: &mut C,
-    ask: LiveAsk,
-) -> Result<Live, Fail>
-    requires { CanAsk ask }
-{
-    let mut link_in = MemSource::new(input, Vec::new(alloc));
-    let mut link_out = MemSink::new(Vec::new(alloc), Vec::new(alloc));
-    does_over(rt, alloc, &mut link_in, &mut link_out, clock, ask)
-}
-
-fn does_over<R: Threads + Wait + Sync, I: Source + Send, O: Sink + Send, C: Clock + Send>(
+// Of what a client does over these ends of a link and by this clock, with an empty store, these facts hold.
+fn does_over<R: Threads + Wait + Sync + Abort, I: Source + Send, O: Sink + Send, C: Clock + Send>(
     rt: &R,
     alloc: Global,
     link_in: &mut I,
     link_out: &mut O,
     clock: &mut C,
     ask: LiveAsk,
-) -> Result<Live, Fail>
+    facts: &[Fact],
+) -> Result<(), Fail>
     requires ask { CanAsk ask }
     requires open { O.finished link_out.old ≡ false }
 {
     let mut store = MemStore::new(alloc, Fulls::new(alloc), Fulls::new(alloc), Vec::new(alloc))?;
     let did = live(rt, alloc, link_in, link_out, &mut store, clock, ask)?;
-    Ok(did)
+    hold(rt, &did, facts);
+    Ok(())
+}
+
+// The same over this input, whose reads with these numbers fail, and an output whose writes with these numbers fail.
+fn does_failing<R: Threads + Wait + Sync + Abort>(
+    rt: &R,
+    alloc: Global,
+    link: (Vec<u8>, &[u64], &[u64]),
+    ask: LiveAsk,
+    facts: &[Fact],
+) -> Result<(), Fail>
+    requires { CanAsk ask }
+{
+    let (input, reads, writes) = link;
+    let mut link_in = MemSource::new(input, Vec::from_slice(alloc, reads)?);
+    let mut link_out = MemSink::new(Vec::new(alloc), Vec::from_slice(alloc, writes)?);
+    does_over(
+        rt,
+        alloc,
+        &mut link_in,
+        &mut link_out,
+        &mut Still::new(),
+        ask,
+        facts,
+    )
+}
+
+// The same over this input, where nothing fails.
+fn does<R: Threads + Wait + Sync + Abort>(
+    rt: &R,
+    alloc: Global,
+    input: Vec<u8>,
+    ask: LiveAsk,
+    facts: &[Fact],
+) -> Result<(), Fail>
+    requires { CanAsk ask }
+{
+    does_failing(rt, alloc, (input, &[], &[]), ask, facts)
 }
 
 fn fetch(offset: u64) -> LiveAsk
@@ -200,22 +229,6 @@ fn watch(limit: u32) -> LiveAsk
     LiveAsk::Watch { n: 2, limit }
 }
 
-fn why_is(rt: &impl Abort, why: Why, wanted: Why) {
-    assert_eq!(rt; why, wanted);
-}
-
-fn end_is(rt: &impl Abort, end: Option<Status>, wanted: Option<Status>) {
-    assert_eq!(rt; end, wanted);
-}
-
-fn offset_is(rt: &impl Abort, offset: u64, wanted: u64) {
-    assert_eq!(rt; offset, wanted);
-}
-
-fn count_is(rt: &impl Abort, count: usize, wanted: usize) {
-    assert_eq!(rt; count, wanted);
-}
-
 // The store has these bytes of the resource.
 fn stores(rt: &impl Abort, store: &MemStore, wanted: &[u8]) -> Result<(), Fail> {
     match store.full(RESOURCE) {
@@ -225,25 +238,43 @@ fn stores(rt: &impl Abort, store: &MemStore, wanted: &[u8]) -> Result<(), Fail> 
     Ok(())
 }
 
-#[test]
-fn a_resource_is_fetched(rt: HostRuntime) -> Result<(), Fail> {
-    let alloc = rt.alloc();
-    let mut link_in = MemSource::new(told(alloc, READ, FETCHED)?, Vec::new(alloc));
+const TEN_BYTES: &[Fact] = &[
+    Stopped(Why::Settled),
+    Ended(Status::Okay),
+    From(0),
+    Length(10),
+];
+
+// A fetch over this input, whose store is in the test's hands.
+fn fetches_into<R: Threads + Wait + Sync + Abort>(
+    rt: &R,
+    alloc: Global,
+    input: Vec<u8>,
+    store: &mut MemStore,
+    facts: &[Fact],
+) -> Result<(), Fail> {
+    let mut link_in = MemSource::new(input, Vec::new(alloc));
     let mut link_out = MemSink::new(Vec::new(alloc), Vec::new(alloc));
-    let mut store = MemStore::new(alloc, Fulls::new(alloc), Fulls::new(alloc), Vec::new(alloc))?;
+    let clock = &mut Still::new();
     let did = live(
-        &rt,
+        rt,
         alloc,
         &mut link_in,
         &mut link_out,
-        &mut store,
-        &mut Still::new(),
+        store,
+        clock,
         fetch(0),
     )?;
-    why_is(&rt, did.why, Why::Settled);
-    end_is(&rt, did.ended, Some(Status::Okay));
-    offset_is(&rt, did.from, 0);
-    offset_is(&rt, did.length, 10);
+    hold(rt, &did, facts);
+    Ok(())
+}
+
+#[test]
+fn a_resource_is_fetched(rt: HostRuntime) -> Result<(), Fail> {
+    let alloc = rt.alloc();
+    let input = told(alloc, READ, FETCHED)?;
+    let mut store = MemStore::new(alloc, Fulls::new(alloc), Fulls::new(alloc), Vec::new(alloc))?;
+    fetches_into(&rt, alloc, input, &mut store, TEN_BYTES)?;
     stores(&rt, &store, b"0123456789")
 }
 
@@ -255,117 +286,102 @@ fn a_resource_is_sent(rt: HostRuntime) -> Result<(), Fail> {
         offset: 0,
         bytes: Bytes::from_static(b"0123456789"),
     };
-    let input = told(alloc, WRITE, TAKEN)?;
-    let did = does(&rt, alloc, input, &mut Still::new(), ask)?;
-    why_is(&rt, did.why, Why::Settled);
-    end_is(&rt, did.ended, Some(Status::Okay));
-    offset_is(&rt, did.from, 0);
-    offset_is(&rt, did.length, 10);
-    Ok(())
+    does(&rt, alloc, told(alloc, WRITE, TAKEN)?, ask, TEN_BYTES)
 }
 
-// A board that closes behind this input, over which nothing of a resource came, is unavailable.
-fn is_unavailable<R: Threads + Wait + Sync + Abort>(
-    rt: &R,
-    alloc: Global,
-    input: Vec<u8>,
-) -> Result<(), Fail> {
-    let did = does(rt, alloc, input, &mut Still::new(), fetch(3))?;
-    why_is(rt, did.why, Why::Settled);
-    end_is(rt, did.ended, Some(Status::Unavailable));
-    offset_is(rt, did.length, 0);
-    Ok(())
-}
+// Nothing of a resource came.
+const UNAVAILABLE: &[Fact] = &[Stopped(Why::Settled), Ended(Status::Unavailable), Length(0)];
 
 #[test]
 fn a_board_that_closes_is_unavailable(rt: HostRuntime) -> Result<(), Fail> {
     let alloc = rt.alloc();
-    let whole = told(alloc, READ, FETCHED)?;
-    let cut = Vec::from_slice(alloc, &whole[..whole.len() / 2])?;
-    is_unavailable(&rt, alloc, Vec::new(alloc))?;
-    is_unavailable(&rt, alloc, cut)
+    let mut half = told(alloc, READ, FETCHED)?;
+    half.truncate(half.len() / 2);
+    does(&rt, alloc, Vec::new(alloc), fetch(3), UNAVAILABLE)?;
+    does(&rt, alloc, half, fetch(3), UNAVAILABLE)
 }
+
+const ALL_OF_IT: &[Fact] = &[
+    Stopped(Why::Settled),
+    Ended(Status::Unavailable),
+    Length(10),
+];
 
 #[test]
 fn a_board_that_closes_behind_the_last_chunk_has_sent_all_of_it(
     rt: HostRuntime,
 ) -> Result<(), Fail> {
-    let alloc = rt.alloc();
-    let input = told(alloc, READ, UNACKNOWLEDGED)?;
-    let did = does(&rt, alloc, input, &mut Still::new(), fetch(0))?;
-    why_is(&rt, did.why, Why::Settled);
-    end_is(&rt, did.ended, Some(Status::Unavailable));
-    offset_is(&rt, did.length, 10);
-    Ok(())
+    let input = told(rt.alloc(), READ, UNACKNOWLEDGED)?;
+    does(&rt, rt.alloc(), input, fetch(0), ALL_OF_IT)
 }
+
+const TWO_TO_THE_END: &[Fact] = &[Stopped(Why::Settled), Ended(Status::Okay), Kept(2)];
 
 #[test]
 fn a_stream_is_watched_to_its_end(rt: HostRuntime) -> Result<(), Fail> {
-    let alloc = rt.alloc();
-    let input = counted(alloc, 2, true)?;
-    let did = does(&rt, alloc, input, &mut Still::new(), watch(64))?;
-    why_is(&rt, did.why, Why::Settled);
-    end_is(&rt, did.ended, Some(Status::Okay));
-    count_is(&rt, did.messages.len(), 2);
-    Ok(())
+    let input = counted(rt.alloc(), 2, true)?;
+    does(&rt, rt.alloc(), input, watch(64), TWO_TO_THE_END)
 }
 
-// A watch of a stream of so many messages ends at its limit.
-fn is_cancelled_at<R: Threads + Wait + Sync + Abort>(
+const ONE_AND_CANCELLED: &[Fact] = &[Stopped(Why::Settled), Kept(1), Ended(Status::Cancelled)];
+
+const SIXTY_THREE_AND_CANCELLED: &[Fact] = &[
+    Stopped(Why::Settled),
+    Kept(63),
+    Ended(Status::Cancelled),
+];
+
+const SIXTY_FOUR_AND_CANCELLED: &[Fact] = &[
+    Stopped(Why::Settled),
+    Kept(64),
+    Ended(Status::Cancelled),
+];
+
+// A watch of a stream of so many messages, whose end isn't told, up to a limit.
+fn watches<R: Threads + Wait + Sync + Abort>(
     rt: &R,
-    alloc: Global,
     messages: u8,
     limit: u32,
+    alloc: Global,
+    facts: &[Fact],
 ) -> Result<(), Fail>
     requires { (0 < limit) × (limit ≤ 64) }
 {
     let input = counted(alloc, messages, false)?;
-    let did = does(rt, alloc, input, &mut Still::new(), watch(limit))?;
-    why_is(rt, did.why, Why::Settled);
-    count_is(rt, did.messages.len(), limit as usize);
-    end_is(rt, did.ended, Some(Status::Cancelled));
-    Ok(())
+    does(rt, alloc, input, watch(limit), facts)
 }
 
 #[test]
 fn a_watch_is_cancelled_at_its_limit(rt: HostRuntime) -> Result<(), Fail> {
-    is_cancelled_at(&rt, rt.alloc(), 1, 1)?;
-    is_cancelled_at(&rt, rt.alloc(), 64, 63)?;
-    is_cancelled_at(&rt, rt.alloc(), 64, 64)
+    watches(&rt, 1, 1, rt.alloc(), ONE_AND_CANCELLED)?;
+    watches(&rt, 64, 63, rt.alloc(), SIXTY_THREE_AND_CANCELLED)?;
+    watches(&rt, 64, 64, rt.alloc(), SIXTY_FOUR_AND_CANCELLED)
 }
+
+const A_FAULT_BEHIND_ONE: &[Fact] = &[Stopped(Why::Source), Ended(Status::Unavailable), Kept(1)];
 
 #[test]
 fn a_fault_of_the_source_ends_the_input(rt: HostRuntime) -> Result<(), Fail> {
-    let alloc = rt.alloc();
-    let mut link_in = MemSource::new(counted(alloc, 1, false)?, Vec::from_slice(alloc, &[2])?);
-    let mut link_out = MemSink::new(Vec::new(alloc), Vec::new(alloc));
-    let did = does_over(
+    let input = counted(rt.alloc(), 1, false)?;
+    does_failing(
         &rt,
-        alloc,
-        &mut link_in,
-        &mut link_out,
-        &mut Still::new(),
+        rt.alloc(),
+        (input, &[2], &[]),
         watch(64),
-    )?;
-    why_is(&rt, did.why, Why::Source);
-    end_is(&rt, did.ended, Some(Status::Unavailable));
-    count_is(&rt, did.messages.len(), 1);
-    Ok(())
+        A_FAULT_BEHIND_ONE,
+    )
 }
+
+const A_FAULT_OF_THE_SINK: &[Fact] = &[Stopped(Why::Sink)];
 
 #[test]
 fn a_fault_of_the_sink_halts(rt: HostRuntime) -> Result<(), Fail> {
-    let alloc = rt.alloc();
-    let mut link_in = MemSource::new(counted(alloc, 1, true)?, Vec::new(alloc));
-    let mut link_out = MemSink::new(Vec::new(alloc), Vec::from_slice(alloc, &[1])?);
-    let did = does_over(
+    let input = counted(rt.alloc(), 1, true)?;
+    does_failing(
         &rt,
-        alloc,
-        &mut link_in,
-        &mut link_out,
-        &mut Still::new(),
+        rt.alloc(),
+        (input, &[], &[1]),
         watch(64),
-    )?;
-    why_is(&rt, did.why, Why::Sink);
-    Ok(())
+        A_FAULT_OF_THE_SINK,
+    )
 }

@@ -1,9 +1,13 @@
 ghost use Rattle.std.specs.Prelude.{◌≡◌, ⊤, Ok, IfOk};
 ghost use Rattle.task_core.specs.Tasks.{Keeps};
 
+mod crew;
 mod memory;
 mod ringing;
 
+use crate::checks::number_is;
+use crew::Crew;
+use crew::Step::{self, *};
 use rpc_handlers::Out;
 use rpc_ids::Status;
 use std::alloc::AllocError;
@@ -72,98 +76,98 @@ fn taken<T: Drop>(added: Result<usize, (T, TaskRefused)>) -> Result<usize, Fail>
     }
 }
 
-fn is_so(rt: &impl Abort, fact: bool) {
-    assert!(rt; fact);
+fn stop_is(rt: &impl Abort, stop: Result<Stop, AllocError>, wanted: Stop, row: usize) {
+    assert_eq!(rt; stop, Ok(wanted), "row {row}");
 }
 
-fn stop_is(rt: &impl Abort, stop: Stop, wanted: Stop) {
-    assert_eq!(rt; stop, wanted);
-}
-
-fn key_is(rt: &impl Abort, key: Option<usize>, wanted: Option<usize>) {
-    assert_eq!(rt; key, wanted);
-}
-
-fn end_is(rt: &impl Abort, end: Option<Status>, wanted: Option<Status>) {
-    assert_eq!(rt; end, wanted);
-}
-
-fn name_is(rt: &impl Abort, name: u32, wanted: u32) {
-    assert_eq!(rt; name, wanted);
+fn key_is(rt: &impl Abort, key: Option<usize>, wanted: Option<usize>, row: usize) {
+    assert_eq!(rt; key, wanted, "row {row}");
 }
 
 fn cause_is(rt: &impl Abort, cause: TaskRefused, wanted: TaskRefused) {
     assert_eq!(rt; cause, wanted);
 }
 
+const TO_ITS_MAIL: &[Step] = &[
+    FirstIs(0),
+    Runs(1, Stop::Stalled),
+    Says(Some(0)),
+    Says(None),
+    Ended(None),
+    Closes(Status::Okay),
+    Runs(8, Stop::AllDone),
+    Says(Some(0)),
+    Says(None),
+    Ended(Some(Status::Okay)),
+];
+
 #[test]
 fn mail_wakes_a_task_and_ends_it(rt: HostRuntime) -> Result<(), Fail> {
-    let mut tasks = Dispatcher::new(rt.alloc())?;
-    let key = taken(tasks.add(waits(0)))?;
-    key_is(&rt, Some(key), Some(0));
-    stop_is(&rt, tasks.run_until_stalled(1)?, Stop::Stalled);
-    key_is(&rt, speaker(&mut tasks), Some(0));
-    key_is(&rt, speaker(&mut tasks), None);
-    end_is(&rt, tasks.result(key), None);
-    tasks.post(key, Mail::Closed(Status::Okay))?;
-    stop_is(&rt, tasks.run_until_stalled(8)?, Stop::AllDone);
-    key_is(&rt, speaker(&mut tasks), Some(0));
-    key_is(&rt, speaker(&mut tasks), None);
-    end_is(&rt, tasks.result(key), Some(Status::Okay));
+    let mut crew = Crew::of(rt.alloc(), waits(0))?;
+    crew.follow(&rt, TO_ITS_MAIL);
     Ok(())
 }
+
+const BEHIND_ITS_END: &[Step] = &[
+    Runs(8, Stop::AllDone),
+    Says(Some(0)),
+    WakesFirst,
+    Closes(Status::Aborted),
+    Runs(8, Stop::AllDone),
+    Says(None),
+    Ended(Some(Status::Okay)),
+];
 
 #[test]
 fn an_ended_task_is_left_alone(rt: HostRuntime) -> Result<(), Fail> {
-    let mut tasks = Dispatcher::new(rt.alloc())?;
-    let key = taken(tasks.add(sleeps(0, 0)))?;
-    stop_is(&rt, tasks.run_until_stalled(8)?, Stop::AllDone);
-    key_is(&rt, speaker(&mut tasks), Some(0));
-    tasks.wake(key);
-    tasks.post(key, Mail::Closed(Status::Aborted))?;
-    stop_is(&rt, tasks.run_until_stalled(8)?, Stop::AllDone);
-    key_is(&rt, speaker(&mut tasks), None);
-    end_is(&rt, tasks.result(key), Some(Status::Okay));
+    let mut crew = Crew::of(rt.alloc(), sleeps(0, 0))?;
+    crew.follow(&rt, BEHIND_ITS_END);
     Ok(())
 }
+
+const TO_THE_MOMENT: &[Step] = &[
+    Runs(8, Stop::Stalled),
+    Says(Some(0)),
+    Says(Some(1)),
+    Says(Some(2)),
+    Advances(1999),
+    Runs(8, Stop::Stalled),
+    Says(None),
+    Advances(2000),
+    Runs(8, Stop::Stalled),
+    Says(Some(0)),
+    Says(Some(2)),
+    Says(None),
+];
 
 #[test]
 fn a_timer_comes_at_its_moment(rt: HostRuntime) -> Result<(), Fail> {
-    let mut tasks = Dispatcher::new(rt.alloc())?;
-    taken(tasks.add(sleeps(0, 2000)))?;
-    taken(tasks.add(sleeps(1, 2500)))?;
-    taken(tasks.add(sleeps(2, 2000)))?;
-    stop_is(&rt, tasks.run_until_stalled(8)?, Stop::Stalled);
-    key_is(&rt, speaker(&mut tasks), Some(0));
-    key_is(&rt, speaker(&mut tasks), Some(1));
-    key_is(&rt, speaker(&mut tasks), Some(2));
-    tasks.advance(1999);
-    stop_is(&rt, tasks.run_until_stalled(8)?, Stop::Stalled);
-    key_is(&rt, speaker(&mut tasks), None);
-    tasks.advance(2000);
-    stop_is(&rt, tasks.run_until_stalled(8)?, Stop::Stalled);
-    key_is(&rt, speaker(&mut tasks), Some(0));
-    key_is(&rt, speaker(&mut tasks), Some(2));
-    key_is(&rt, speaker(&mut tasks), None);
+    let mut crew = Crew::of(rt.alloc(), sleeps(0, 2000))?;
+    crew.add(sleeps(1, 2500))?;
+    crew.add(sleeps(2, 2000))?;
+    crew.follow(&rt, TO_THE_MOMENT);
     Ok(())
 }
 
+const WOKEN_TWICE: &[Step] = &[
+    Runs(1, Stop::Budget),
+    Runs(1, Stop::Stalled),
+    WakesLast,
+    WakesFirst,
+    WakesFirst,
+    Runs(8, Stop::Stalled),
+    Says(Some(0)),
+    Says(Some(1)),
+    Says(Some(0)),
+    Says(Some(1)),
+    Says(None),
+];
+
 #[test]
 fn two_wakes_are_one_poll(rt: HostRuntime) -> Result<(), Fail> {
-    let mut tasks = Dispatcher::new(rt.alloc())?;
-    let key = taken(tasks.add(waits(0)))?;
-    let other = taken(tasks.add(waits(1)))?;
-    stop_is(&rt, tasks.run_until_stalled(1)?, Stop::Budget);
-    stop_is(&rt, tasks.run_until_stalled(1)?, Stop::Stalled);
-    tasks.wake(other);
-    tasks.wake(key);
-    tasks.wake(key);
-    stop_is(&rt, tasks.run_until_stalled(8)?, Stop::Stalled);
-    key_is(&rt, speaker(&mut tasks), Some(0));
-    key_is(&rt, speaker(&mut tasks), Some(1));
-    key_is(&rt, speaker(&mut tasks), Some(0));
-    key_is(&rt, speaker(&mut tasks), Some(1));
-    key_is(&rt, speaker(&mut tasks), None);
+    let mut crew = Crew::of(rt.alloc(), waits(0))?;
+    crew.add(waits(1))?;
+    crew.follow(&rt, WOKEN_TWICE);
     Ok(())
 }
 
@@ -176,7 +180,7 @@ fn the_last_of_too_many_comes_back(rt: HostRuntime) -> Result<(), Fail> {
     match tasks.add(waits(1024)) {
         Ok(key) => Err(Fail::new(format_args!("taken in under {key}"))),
         Err((task, why)) => {
-            name_is(&rt, task.name, 1024);
+            number_is(&rt, u64::from(task.name), 1024, 0);
             cause_is(&rt, why, TaskRefused::Full);
             Ok(())
         }

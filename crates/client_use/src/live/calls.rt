@@ -2,11 +2,12 @@
 ghost use Rattle.std.specs.Prelude.{◌≢◌, ◌<◌, ◌≤◌, IfOk};
 ghost use Rattle.live_client.specs.Ask.{CanAsk};
 
-use super::{does, end_is, why_is};
+use super::does;
+use super::facts::Fact::{self, *};
 use bytes::Bytes;
 use demo_services::ids::{CHAT, COUNT, DEMO, ECHO, SUM};
-use link_io::{Still, Why};
-use live_client::{Live, LiveAsk, Messages, Opening};
+use link_io::Why;
+use live_client::{LiveAsk, Messages, Opening};
 use rpc_frames::write_frame;
 use rpc_ids::{Kind, Status};
 use rpc_packet::{CallName, Packet, PacketType};
@@ -118,65 +119,113 @@ pub(super) fn stream(
     })
 }
 
-fn messages_are(rt: &impl Abort, messages: &[Bytes], wanted: &[&[u8]]) {
-    let same = messages.len() == wanted.len()
-        && messages
-            .iter()
-            .zip(wanted.iter())
-            .all(|(message, want)| message.as_slice() == *want);
-    assert!(rt; same);
-}
-
-// It ended so, with these messages.
-fn ends(rt: &impl Abort, did: Live, end: Status, wanted: &[&[u8]]) {
-    why_is(rt, did.why, Why::Settled);
-    end_is(rt, did.ended, Some(end));
-    messages_are(rt, &did.messages, wanted);
-}
-
-fn echoes<R: Threads + Wait + Sync + Abort>(
+// Of what a client does that was asked this, and is answered so in the one call of a method, these facts hold.
+fn calls<R: Threads + Wait + Sync + Abort>(
     rt: &R,
     alloc: Global,
-    rows: &[Answer],
-    end: Status,
-    wanted: &[&[u8]],
+    method: u32,
+    says: &[Answer],
+    ask: LiveAsk,
+    facts: &[Fact],
+) -> Result<(), Fail>
+    requires { CanAsk ask }
+{
+    does(rt, alloc, answers(alloc, method, says)?, ask, facts)
+}
+
+/// What the board says in a call of Echo, and what holds of the call then.
+type Case = (&'static [Answer], &'static [Fact]);
+
+fn each_echoes<R: Threads + Wait + Sync + Abort>(
+    rt: &R,
+    alloc: Global,
+    cases: &[Case],
 ) -> Result<(), Fail> {
-    let input = answers(alloc, ECHO, rows)?;
-    let did = does(rt, alloc, input, &mut Still::new(), echo(alloc))?;
-    ends(rt, did, end, wanted);
+    for (says, facts) in cases {
+        calls(rt, alloc, ECHO, says, echo(alloc), facts)?;
+    }
     Ok(())
 }
 
+const KEPT: &[Case] = &[
+    (
+        ECHOED,
+        &[
+            Stopped(Why::Settled),
+            Ended(Status::Okay),
+            Messages(&[b"abc"]),
+        ],
+    ),
+    (
+        EMPTY,
+        &[Stopped(Why::Settled), Ended(Status::Okay), Messages(&[b""])],
+    ),
+];
+
 #[test]
 fn a_unary_call_keeps_its_response(rt: HostRuntime) -> Result<(), Fail> {
-    echoes(&rt, rt.alloc(), ECHOED, Status::Okay, &[b"abc"])?;
-    echoes(&rt, rt.alloc(), EMPTY, Status::Okay, &[b""])
+    each_echoes(&rt, rt.alloc(), KEPT)
 }
+
+const ENDED: &[Case] = &[
+    (
+        UNKNOWN,
+        &[
+            Stopped(Why::Settled),
+            Ended(Status::NotFound),
+            Messages(&[]),
+        ],
+    ),
+    (
+        REFUSED,
+        &[
+            Stopped(Why::Settled),
+            Ended(Status::InvalidArgument),
+            Messages(&[]),
+        ],
+    ),
+    (
+        STREAMED,
+        &[
+            Stopped(Why::Settled),
+            Ended(Status::InvalidArgument),
+            Messages(&[]),
+        ],
+    ),
+    (
+        &[],
+        &[
+            Stopped(Why::Settled),
+            Ended(Status::Unavailable),
+            Messages(&[]),
+        ],
+    ),
+];
 
 #[test]
 fn a_unary_call_ends_as_the_board_says(rt: HostRuntime) -> Result<(), Fail> {
-    echoes(&rt, rt.alloc(), UNKNOWN, Status::NotFound, &[])?;
-    echoes(&rt, rt.alloc(), REFUSED, Status::InvalidArgument, &[])?;
-    echoes(&rt, rt.alloc(), STREAMED, Status::InvalidArgument, &[])?;
-    echoes(&rt, rt.alloc(), &[], Status::Unavailable, &[])
+    each_echoes(&rt, rt.alloc(), ENDED)
 }
+
+const IN_ORDER: &[Fact] = &[
+    Stopped(Why::Settled),
+    Ended(Status::Okay),
+    Messages(&[b"1", b"", b"3"]),
+];
 
 #[test]
 fn a_stream_is_kept_in_order(rt: HostRuntime) -> Result<(), Fail> {
     let alloc = rt.alloc();
-    let input = answers(alloc, COUNT, COUNTED)?;
-    let did = does(&rt, alloc, input, &mut Still::new(), count(alloc, 65_536))?;
-    ends(&rt, did, Status::Okay, &[b"1", b"", b"3"]);
-    Ok(())
+    let ask = count(alloc, 65_536);
+    calls(&rt, alloc, COUNT, COUNTED, ask, IN_ORDER)
 }
+
+const UP_TO_THE_LIMIT: &[Fact] = &[Messages(&[b"1", b""])];
 
 #[test]
 fn a_call_is_cancelled_at_its_limit(rt: HostRuntime) -> Result<(), Fail> {
     let alloc = rt.alloc();
-    let input = answers(alloc, COUNT, COUNTED)?;
-    let did = does(&rt, alloc, input, &mut Still::new(), count(alloc, 2))?;
-    messages_are(&rt, &did.messages, &[b"1", b""]);
-    Ok(())
+    calls(&rt, alloc, COUNT, COUNTED, count(alloc, 2), UP_TO_THE_LIMIT)
 }
 
 // The sum of what was streamed, and two answers to it.
@@ -188,16 +237,23 @@ const CHATTED: &[Answer] = &[
     (PacketType::Response, 0, b""),
 ];
 
+const A_SUM: &[Fact] = &[
+    Stopped(Why::Settled),
+    Ended(Status::Okay),
+    Messages(&[b"\x00\x02"]),
+];
+
+const A_CHAT: &[Fact] = &[
+    Stopped(Why::Settled),
+    Ended(Status::Okay),
+    Messages(&[b"\x01\x02", b"\xFF"]),
+];
+
 #[test]
 fn a_stream_of_messages_is_answered(rt: HostRuntime) -> Result<(), Fail> {
     let alloc = rt.alloc();
-    let input = answers(alloc, SUM, SUMMED)?;
     let ask = stream(alloc, SUM, Kind::ClientStream, None)?;
-    let did = does(&rt, alloc, input, &mut Still::new(), ask)?;
-    ends(&rt, did, Status::Okay, &[b"\x00\x02"]);
-    let input = answers(alloc, CHAT, CHATTED)?;
+    calls(&rt, alloc, SUM, SUMMED, ask, A_SUM)?;
     let ask = stream(alloc, CHAT, Kind::Bidi, None)?;
-    let did = does(&rt, alloc, input, &mut Still::new(), ask)?;
-    ends(&rt, did, Status::Okay, &[b"\x01\x02", b"\xFF"]);
-    Ok(())
+    calls(&rt, alloc, CHAT, CHATTED, ask, A_CHAT)
 }

@@ -87,7 +87,7 @@ fn asked(alloc: Global, method: u32, words: &[WordRef<'static>]) -> Result<Vec<u
 }
 
 // The link of a client that was asked this, once it has read this input.
-fn writes<R: Threads + Wait + Sync>(
+fn writes<R: Threads + Wait + Sync + Abort>(
     rt: &R,
     alloc: Global,
     input: Vec<u8>,
@@ -104,6 +104,7 @@ fn writes<R: Threads + Wait + Sync>(
         &mut link_out,
         &mut Still::new(),
         ask,
+        &[],
     )?;
     Ok(link_out)
 }

@@ -1,20 +1,26 @@
 //! A board that never answers, and one that closes once this end has said that nothing more comes.
-ghost use Rattle.std.specs.Prelude.{None};
+ghost use Rattle.std.specs.Prelude.{◌≡◌, None, false};
+ghost use Rattle.live_client.specs.Ask.{CanAsk};
 
 use super::calls::stream;
+use super::facts::Fact::{self, *};
+use super::facts::why_is;
 use super::frames::bytes_are;
-use super::{FETCHED, does_over, end_is, fetch, offset_is, say_status, told, why_is};
+use super::{FETCHED, does_over, fetch, say_status, told};
+use crate::checks::number_is;
 use bytes::Bytes;
 use demo_services::ids::{DEMO, READ, SUM};
 use link_io::{Failed, Fulls, MemSink, MemSource, MemStore, Sink, Source, StepClock, Still, Why};
-use live_client::live;
+use live_client::{LiveAsk, live};
 use rpc_ids::{Kind, Status};
 use rpc_packet::PacketType;
+use std::alloc::{AllocError, Global};
 use std::process::Abort;
+use std::sync::Wait;
 use std::sync::atomic::{AtomicU64, Ordering};
 use std::test::Fail;
-use std::time::Duration;
-use std::{thread, time};
+use std::thread::{self, Threads};
+use std::time::{self, Duration};
 
 // A turn is a millisecond.
 const TURNS: u32 = 10_000;
@@ -80,32 +86,55 @@ impl<'a> Sink for Telling<'a> {
     }
 }
 
+// The ends of a link over which this comes, of which the source awaits that the sink is finished.
+fn ends_of<'a, R>(
+    rt: &'a R,
+    alloc: Global,
+    input: Vec<u8>,
+    finished: &'a AtomicU64,
+) -> (Patient<'a, R>, Telling<'a>)
+    ensures { result.1.inner.finished ≡ false }
+{
+    let link_in = Patient {
+        rt,
+        inner: MemSource::new(input, Vec::new(alloc)),
+        finished,
+    };
+    let link_out = Telling {
+        inner: MemSink::new(Vec::new(alloc), Vec::new(alloc)),
+        finished,
+    };
+    (link_in, link_out)
+}
+
+// Of what a client does whose board never answers, by this clock, these facts hold. What it says.
+fn says_unanswered<R: Threads + Wait + Sync + time::Clock + Abort>(
+    rt: &R,
+    alloc: Global,
+    clock: &mut StepClock,
+    ask: LiveAsk,
+    facts: &[Fact],
+) -> Result<Vec<u8>, Fail>
+    requires { CanAsk ask }
+{
+    let finished = AtomicU64::new(0);
+    let (mut link_in, mut link_out) = ends_of(rt, alloc, Vec::new(alloc), &finished);
+    does_over(rt, alloc, &mut link_in, &mut link_out, clock, ask, facts)?;
+    Ok(Vec::from_slice(alloc, link_out.inner.bytes())?)
+}
+
+const TOO_LATE: &[Fact] = &[
+    Stopped(Why::Settled),
+    Ended(Status::DeadlineExceeded),
+    Length(0),
+];
+
 #[test]
 fn a_board_that_never_answers_meets_the_deadline(rt: HostRuntime) -> Result<(), Fail> {
     let alloc = rt.alloc();
-    let finished = AtomicU64::new(0);
-    let mut link_in = Patient {
-        rt: &rt,
-        inner: MemSource::new(Vec::new(alloc), Vec::new(alloc)),
-        finished: &finished,
-    };
-    let mut link_out = Telling {
-        inner: MemSink::new(Vec::new(alloc), Vec::new(alloc)),
-        finished: &finished,
-    };
     let moments = [0, 2_000, 4_000, 6_000, 8_000, 10_000];
     let mut clock = StepClock::new(Vec::from_slice(alloc, &moments)?);
-    let did = does_over(
-        &rt,
-        alloc,
-        &mut link_in,
-        &mut link_out,
-        &mut clock,
-        fetch(0),
-    )?;
-    why_is(&rt, did.why, Why::Settled);
-    end_is(&rt, did.ended, Some(Status::DeadlineExceeded));
-    offset_is(&rt, did.length, 0);
+    says_unanswered(&rt, alloc, &mut clock, fetch(0), TOO_LATE)?;
     Ok(())
 }
 
@@ -115,19 +144,23 @@ fn a_board_that_never_answers_meets_the_deadline(rt: HostRuntime) -> Result<(), 
 fn a_board_hears_that_a_store_failed(rt: HostRuntime) -> Result<(), Fail> {
     let alloc = rt.alloc();
     let finished = AtomicU64::new(0);
-    let mut link_in = Patient {
-        rt: &rt,
-        inner: MemSource::new(told(alloc, READ, FETCHED)?, Vec::new(alloc)),
-        finished: &finished,
-    };
-    let mut link_out = Telling {
-        inner: MemSink::new(Vec::new(alloc), Vec::new(alloc)),
-        finished: &finished,
-    };
+    fails_to_store(&rt, alloc, told(alloc, READ, FETCHED)?, &finished)?;
+    number_is(&rt, finished.load(Ordering::SeqCst), 1, 0);
+    Ok(())
+}
+
+// A fetch over this input, for which the store fails at once.
+fn fails_to_store<R: Threads + Wait + Sync + time::Clock + Abort>(
+    rt: &R,
+    alloc: Global,
+    input: Vec<u8>,
+    finished: &AtomicU64,
+) -> Result<(), Fail> {
+    let (mut link_in, mut link_out) = ends_of(rt, alloc, input, finished);
     let fails = Vec::from_slice(alloc, &[1])?;
     let mut store = MemStore::new(alloc, Fulls::new(alloc), Fulls::new(alloc), fails)?;
     let did = live(
-        &rt,
+        rt,
         alloc,
         &mut link_in,
         &mut link_out,
@@ -135,13 +168,8 @@ fn a_board_hears_that_a_store_failed(rt: HostRuntime) -> Result<(), Fail> {
         &mut Still::new(),
         fetch(0),
     )?;
-    why_is(&rt, did.why, Why::Store);
-    is_finished(&rt, &finished);
+    why_is(rt, did.why, Why::Store, 0);
     Ok(())
-}
-
-fn is_finished(rt: &impl Abort, finished: &AtomicU64) {
-    assert_eq!(rt; finished.load(Ordering::SeqCst), 1);
 }
 
 // What a call of Sum says that streams two messages and is cancelled then.
@@ -153,31 +181,25 @@ const SAID: &[(PacketType, &[u8], u32)] = &[
     (PacketType::ClientError, b"", 1),
 ];
 
+fn said(alloc: Global) -> Result<Vec<u8>, AllocError> {
+    let mut stream = Vec::new(alloc);
+    for &(ptype, payload, status) in SAID {
+        let payload = Bytes::copy_from_slice(alloc, payload)?;
+        say_status(alloc, DEMO, SUM, ptype, payload, status, &mut stream)?;
+    }
+    Ok(stream)
+}
+
+const CANCELLED: &[Fact] = &[Stopped(Why::Settled), Ended(Status::Cancelled)];
+
 // The board never answers. The call says all in order, and is cancelled once its time has passed, and not before.
 #[test]
 fn a_call_is_cancelled_when_its_time_has_passed(rt: HostRuntime) -> Result<(), Fail> {
     let alloc = rt.alloc();
-    let finished = AtomicU64::new(0);
-    let mut link_in = Patient {
-        rt: &rt,
-        inner: MemSource::new(Vec::new(alloc), Vec::new(alloc)),
-        finished: &finished,
-    };
-    let mut link_out = Telling {
-        inner: MemSink::new(Vec::new(alloc), Vec::new(alloc)),
-        finished: &finished,
-    };
     let moments = [5, 5, 5, 5, 5, 5, 5, 5, 1_004, 1_005];
     let mut clock = StepClock::new(Vec::from_slice(alloc, &moments)?);
     let ask = stream(alloc, SUM, Kind::ClientStream, Some(1_000))?;
-    let did = does_over(&rt, alloc, &mut link_in, &mut link_out, &mut clock, ask)?;
-    why_is(&rt, did.why, Why::Settled);
-    end_is(&rt, did.ended, Some(Status::Cancelled));
-    let mut wanted = Vec::new(alloc);
-    for &(ptype, payload, status) in SAID {
-        let payload = Bytes::copy_from_slice(alloc, payload)?;
-        say_status(alloc, DEMO, SUM, ptype, payload, status, &mut wanted)?;
-    }
-    bytes_are(&rt, link_out.inner.bytes(), wanted.as_slice());
+    let says = says_unanswered(&rt, alloc, &mut clock, ask, CANCELLED)?;
+    bytes_are(&rt, &says, &said(alloc)?);
     Ok(())
 }

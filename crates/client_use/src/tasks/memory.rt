@@ -1,7 +1,8 @@
 //! Polls that find too little memory.
 ghost use Rattle.std.specs.Prelude.{⊤};
 
-use crate::tasks::{end_is, is_so, stop_is, taken};
+use crate::checks::{end_is, is_so};
+use crate::tasks::{stop_is, taken};
 use rpc_handlers::Out;
 use rpc_ids::Status;
 use std::alloc::AllocError;
@@ -31,8 +32,8 @@ impl Task for Starved {
 fn a_poll_that_finds_no_memory_is_made_again(rt: HostRuntime) -> Result<(), Fail> {
     let mut tasks = Dispatcher::new(rt.alloc())?;
     let key = taken(tasks.add(Starved { was_short: false }))?;
-    is_so(&rt, tasks.run_until_stalled(8).is_err());
-    stop_is(&rt, tasks.run_until_stalled(8)?, Stop::AllDone);
-    end_is(&rt, tasks.result(key), Some(Status::Okay));
+    is_so(&rt, tasks.run_until_stalled(8).is_err(), 0);
+    stop_is(&rt, tasks.run_until_stalled(8), Stop::AllDone, 1);
+    end_is(&rt, tasks.result(key), Some(Status::Okay), 2);
     Ok(())
 }

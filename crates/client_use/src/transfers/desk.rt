@@ -1,4 +1,5 @@
 //! A task of session 1 on a dispatcher of its own, followed row by row.
+use crate::checks::end_is;
 use bytes::Bytes;
 use rpc_handlers::Out;
 use rpc_ids::Status;
@@ -40,10 +41,8 @@ pub enum Step {
 /// At a moment, in milliseconds, this comes, if anything does, and the task says and does that.
 pub type Row = (u64, Option<Step>, &'static [Step]);
 
-/// A task has ended so.
-pub fn end_is(rt: &impl Abort, end: Option<Status>, wanted: Option<Status>) {
-    assert_eq!(rt; end, wanted);
-}
+/// Rows, and how the task has ended behind them, if it has.
+pub type Phase = (&'static [Row], Option<Status>);
 
 /// A task, and the moment.
 #[derive(Drop)]
@@ -85,6 +84,15 @@ impl<T: Task + Drop> Desk<T> {
             if !self.does(row)? {
                 return Err(Fail::new(format_args!("row {number}")));
             }
+        }
+        Ok(())
+    }
+
+    /// The task goes through these phases.
+    pub fn goes_through(&mut self, rt: &impl Abort, phases: &[Phase]) -> Result<(), Fail> {
+        for (number, (rows, end)) in phases.iter().enumerate() {
+            self.follow(rows)?;
+            end_is(rt, self.result(), *end, number);
         }
         Ok(())
     }

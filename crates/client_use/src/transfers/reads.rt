@@ -1,9 +1,11 @@
 //! A read of resource 7, `0123456789`, in chunks of 4 bytes and windows of 4 chunks at first.
 ghost use Rattle.std.specs.Prelude.{◌≤◌};
 
-use crate::transfers::desk::{Desk, Row, SESSION, Step, end_is};
+use crate::checks::end_is;
+use crate::transfers::desk::{Desk, Phase, Row, SESSION, Step};
 use rpc_ids::Status;
 use std::alloc::Global;
+use std::process::Abort;
 use std::test::Fail;
 use transfer_base::Tuning;
 use transfer_client::ReadTask;
@@ -28,21 +30,20 @@ fn read_from(alloc: Global, offset: u64, chunk: u32) -> Result<Desk<ReadTask>, F
     Desk::open(alloc, ReadTask::new(alloc, SESSION, 7, offset, tuning))
 }
 
-// How a read of these rows has ended.
-fn end_of(alloc: Global, offset: u64, rows: &[Row]) -> Result<Option<Status>, Fail>
+// A read from this offset goes through these phases.
+fn goes(rt: &impl Abort, alloc: Global, offset: u64, phases: &[Phase]) -> Result<(), Fail>
     requires { offset ≤ 16777216 }
 {
     let mut desk = read_from(alloc, offset, 4)?;
-    desk.follow(rows)?;
-    Ok(desk.result())
+    desk.goes_through(rt, phases)
 }
 
-// How a read has ended that came to its data phase, and then to these rows.
-fn end_behind_opening(alloc: Global, rows: &[Row]) -> Result<Option<Status>, Fail> {
-    let mut desk = read_from(alloc, 0, 4)?;
-    desk.follow(OPENING)?;
-    desk.follow(rows)?;
-    Ok(desk.result())
+// The same of each of these reads from the start.
+fn each_goes(rt: &impl Abort, alloc: Global, reads: &[&[Phase]]) -> Result<(), Fail> {
+    for phases in reads {
+        goes(rt, alloc, 0, phases)?;
+    }
+    Ok(())
 }
 
 const WHOLE: &[Row] = &[
@@ -70,25 +71,26 @@ const ACKNOWLEDGED: &[Row] = &[(2_020, Some(Step::CompletionAck), &[])];
 
 const CUT: &[Row] = &[(2_020, Some(Step::Closed(Status::Unavailable)), &[])];
 
+const A_READ: &[Phase] = &[
+    (OPENING, None),
+    (WHOLE, None),
+    (ACKNOWLEDGED, Some(Status::Okay)),
+];
+
 #[test]
 fn a_read(rt: HostRuntime) -> Result<(), Fail> {
-    let mut desk = read_from(rt.alloc(), 0, 4)?;
-    desk.follow(OPENING)?;
-    desk.follow(WHOLE)?;
-    end_is(&rt, desk.result(), None);
-    desk.follow(ACKNOWLEDGED)?;
-    end_is(&rt, desk.result(), Some(Status::Okay));
-    Ok(())
+    goes(&rt, rt.alloc(), 0, A_READ)
 }
+
+const A_READ_CUT_OFF: &[Phase] = &[
+    (OPENING, None),
+    (WHOLE, None),
+    (CUT, Some(Status::Unavailable)),
+];
 
 #[test]
 fn the_call_ends_behind_the_commit(rt: HostRuntime) -> Result<(), Fail> {
-    let mut desk = read_from(rt.alloc(), 0, 4)?;
-    desk.follow(OPENING)?;
-    desk.follow(WHOLE)?;
-    desk.follow(CUT)?;
-    end_is(&rt, desk.result(), Some(Status::Unavailable));
-    Ok(())
+    goes(&rt, rt.alloc(), 0, A_READ_CUT_OFF)
 }
 
 const SPANS: &[Row] = &[
@@ -145,12 +147,14 @@ const FOREIGN: &[Row] = &[
     (5_500, None, &[START]),
 ];
 
+const ACTIVITY: &[&[Phase]] = &[
+    &[(UNANSWERED, Some(Status::DeadlineExceeded))],
+    &[(FOREIGN, None)],
+];
+
 #[test]
 fn only_chunks_of_the_session_are_activity(rt: HostRuntime) -> Result<(), Fail> {
-    let late = Some(Status::DeadlineExceeded);
-    end_is(&rt, end_of(rt.alloc(), 0, UNANSWERED)?, late);
-    end_is(&rt, end_of(rt.alloc(), 0, FOREIGN)?, None);
-    Ok(())
+    each_goes(&rt, rt.alloc(), ACTIVITY)
 }
 
 const BEFORE: &[Row] = &[
@@ -172,12 +176,14 @@ const BEHIND: &[Row] = &[
     ),
 ];
 
+const FROM_BEFORE: &[Phase] = &[(BEFORE, None)];
+
+const FROM_BEHIND: &[Phase] = &[(BEHIND, Some(Status::OutOfRange))];
+
 #[test]
 fn an_offset_is_agreed(rt: HostRuntime) -> Result<(), Fail> {
-    let past = Some(Status::OutOfRange);
-    end_is(&rt, end_of(rt.alloc(), 8, BEFORE)?, None);
-    end_is(&rt, end_of(rt.alloc(), 8, BEHIND)?, past);
-    Ok(())
+    goes(&rt, rt.alloc(), 8, FROM_BEFORE)?;
+    goes(&rt, rt.alloc(), 8, FROM_BEHIND)
 }
 
 const MISSING: &[Row] = &[
@@ -190,13 +196,14 @@ const CUT_OFF: &[Row] = &[
     (0, Some(Step::Closed(Status::Okay)), &[]),
 ];
 
+const ENDS_OF_AN_OPENING: &[&[Phase]] = &[
+    &[(MISSING, Some(Status::NotFound))],
+    &[(CUT_OFF, Some(Status::Aborted))],
+];
+
 #[test]
 fn an_opening_ends(rt: HostRuntime) -> Result<(), Fail> {
-    let missing = Some(Status::NotFound);
-    let cut = Some(Status::Aborted);
-    end_is(&rt, end_of(rt.alloc(), 0, MISSING)?, missing);
-    end_is(&rt, end_of(rt.alloc(), 0, CUT_OFF)?, cut);
-    Ok(())
+    each_goes(&rt, rt.alloc(), ENDS_OF_AN_OPENING)
 }
 
 // A COMPLETION without a status.
@@ -233,17 +240,16 @@ const TOO_MUCH: &[Row] = &[
     (8_000, None, &[]),
 ];
 
+const ENDS_OF_A_DATA_PHASE: &[&[Phase]] = &[
+    &[(OPENING, None), (COMPLETED, Some(Status::Unknown))],
+    &[(OPENING, None), (CLOSED, Some(Status::Cancelled))],
+    &[(OPENING, None), (SILENT, Some(Status::DeadlineExceeded))],
+    &[(OPENING, None), (TOO_MUCH, Some(Status::Internal))],
+];
+
 #[test]
 fn a_data_phase_ends(rt: HostRuntime) -> Result<(), Fail> {
-    let unknown = Some(Status::Unknown);
-    let cut = Some(Status::Cancelled);
-    let late = Some(Status::DeadlineExceeded);
-    let internal = Some(Status::Internal);
-    end_is(&rt, end_behind_opening(rt.alloc(), COMPLETED)?, unknown);
-    end_is(&rt, end_behind_opening(rt.alloc(), CLOSED)?, cut);
-    end_is(&rt, end_behind_opening(rt.alloc(), SILENT)?, late);
-    end_is(&rt, end_behind_opening(rt.alloc(), TOO_MUCH)?, internal);
-    Ok(())
+    each_goes(&rt, rt.alloc(), ENDS_OF_A_DATA_PHASE)
 }
 
 // A piece behind the end isn't taken.
@@ -267,6 +273,6 @@ fn all_mail_is_taken_up_to_the_end(rt: HostRuntime) -> Result<(), Fail> {
     desk.post(Step::Piece(0, b"0123"))?;
     desk.post(Step::Completion(Status::Cancelled))?;
     desk.follow(ALL_AT_ONCE)?;
-    end_is(&rt, desk.result(), Some(Status::Cancelled));
+    end_is(&rt, desk.result(), Some(Status::Cancelled), 0);
     Ok(())
 }

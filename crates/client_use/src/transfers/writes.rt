@@ -1,10 +1,11 @@
 //! A write of resource 7, `0123456789`, which the service asks for in chunks of 4 bytes.
 ghost use Rattle.std.specs.Prelude.{◌≤◌};
 
-use crate::transfers::desk::{Desk, Row, SESSION, Step, end_is};
+use crate::transfers::desk::{Desk, Phase, Row, SESSION, Step};
 use bytes::Bytes;
 use rpc_ids::Status;
 use std::alloc::Global;
+use std::process::Abort;
 use std::test::Fail;
 use transfer_client::WriteTask;
 
@@ -31,23 +32,21 @@ const SENT: &[Row] = &[
     ),
 ];
 
-// How a write has ended from this offset on, after these rows.
-fn end_of(alloc: Global, offset: u64, rows: &[Row]) -> Result<Option<Status>, Fail>
+// A write from this offset goes through these phases.
+fn goes(rt: &impl Abort, alloc: Global, offset: u64, phases: &[Phase]) -> Result<(), Fail>
     requires { offset ≤ 10 }
 {
     let bytes = Bytes::from_static(b"0123456789");
     let mut desk = Desk::open(alloc, WriteTask::new(alloc, SESSION, 7, bytes, offset))?;
-    desk.follow(rows)?;
-    Ok(desk.result())
+    desk.goes_through(rt, phases)
 }
 
-// How a write has ended that had sent all, and then came to these rows.
-fn end_behind_pieces(alloc: Global, rows: &[Row]) -> Result<Option<Status>, Fail> {
-    let bytes = Bytes::from_static(b"0123456789");
-    let mut desk = Desk::open(alloc, WriteTask::new(alloc, SESSION, 7, bytes, 0))?;
-    desk.follow(SENT)?;
-    desk.follow(rows)?;
-    Ok(desk.result())
+// The same of each of these writes from the start.
+fn each_goes(rt: &impl Abort, alloc: Global, writes: &[&[Phase]]) -> Result<(), Fail> {
+    for phases in writes {
+        goes(rt, alloc, 0, phases)?;
+    }
+    Ok(())
 }
 
 // A lost piece is sent again.
@@ -78,17 +77,16 @@ const PAST_THE_END: &[Row] = &[(
     &[Step::Completion(Status::OutOfRange)],
 )];
 
+const ENDS_OF_A_DATA_PHASE: &[&[Phase]] = &[
+    &[(SENT, None), (WHOLE, Some(Status::Okay))],
+    &[(SENT, None), (CUT, Some(Status::Aborted))],
+    &[(SENT, None), (SILENT, Some(Status::DeadlineExceeded))],
+    &[(SENT, None), (PAST_THE_END, Some(Status::OutOfRange))],
+];
+
 #[test]
 fn a_data_phase_ends(rt: HostRuntime) -> Result<(), Fail> {
-    let whole = Some(Status::Okay);
-    let cut = Some(Status::Aborted);
-    let late = Some(Status::DeadlineExceeded);
-    let past = Some(Status::OutOfRange);
-    end_is(&rt, end_behind_pieces(rt.alloc(), WHOLE)?, whole);
-    end_is(&rt, end_behind_pieces(rt.alloc(), CUT)?, cut);
-    end_is(&rt, end_behind_pieces(rt.alloc(), SILENT)?, late);
-    end_is(&rt, end_behind_pieces(rt.alloc(), PAST_THE_END)?, past);
-    Ok(())
+    each_goes(&rt, rt.alloc(), ENDS_OF_A_DATA_PHASE)
 }
 
 const RESUMED: &[Row] = &[
@@ -111,11 +109,14 @@ const NOTHING_MORE: &[Row] = &[
     ),
 ];
 
+const FROM_BEFORE: &[Phase] = &[(RESUMED, None)];
+
+const FROM_THE_END: &[Phase] = &[(NOTHING_MORE, None)];
+
 #[test]
 fn an_offset_is_agreed(rt: HostRuntime) -> Result<(), Fail> {
-    end_is(&rt, end_of(rt.alloc(), 8, RESUMED)?, None);
-    end_is(&rt, end_of(rt.alloc(), 10, NOTHING_MORE)?, None);
-    Ok(())
+    goes(&rt, rt.alloc(), 8, FROM_BEFORE)?;
+    goes(&rt, rt.alloc(), 10, FROM_THE_END)
 }
 
 const UNANSWERED: &[Row] = &[
@@ -150,13 +151,15 @@ const ASKED_EARLY: &[Row] = &[
     (3_500, Some(AGREED), &[CONFIRMS]),
 ];
 
+const OPENINGS: &[&[Phase]] = &[
+    &[(UNANSWERED, Some(Status::DeadlineExceeded))],
+    &[(UNASKED, Some(Status::DeadlineExceeded))],
+    &[(ASKED_EARLY, None)],
+];
+
 #[test]
 fn an_opening_asks_and_confirms_four_times(rt: HostRuntime) -> Result<(), Fail> {
-    let late = Some(Status::DeadlineExceeded);
-    end_is(&rt, end_of(rt.alloc(), 0, UNANSWERED)?, late);
-    end_is(&rt, end_of(rt.alloc(), 0, UNASKED)?, late);
-    end_is(&rt, end_of(rt.alloc(), 0, ASKED_EARLY)?, None);
-    Ok(())
+    each_goes(&rt, rt.alloc(), OPENINGS)
 }
 
 const BEHIND: &[Row] = &[
@@ -183,13 +186,13 @@ const CUT_OFF: &[Row] = &[
     (0, Some(Step::Closed(Status::Unavailable)), &[]),
 ];
 
+const ENDS_OF_AN_OPENING: &[&[Phase]] = &[
+    &[(BEHIND, Some(Status::OutOfRange))],
+    &[(FULL, Some(Status::ResourceExhausted))],
+    &[(CUT_OFF, Some(Status::Unavailable))],
+];
+
 #[test]
 fn an_opening_ends(rt: HostRuntime) -> Result<(), Fail> {
-    let past = Some(Status::OutOfRange);
-    let full = Some(Status::ResourceExhausted);
-    let cut = Some(Status::Unavailable);
-    end_is(&rt, end_of(rt.alloc(), 0, BEHIND)?, past);
-    end_is(&rt, end_of(rt.alloc(), 0, FULL)?, full);
-    end_is(&rt, end_of(rt.alloc(), 0, CUT_OFF)?, cut);
-    Ok(())
+    each_goes(&rt, rt.alloc(), ENDS_OF_AN_OPENING)
 }
