@@ -5,7 +5,7 @@ ghost use Rattle.live_client.specs.Ask.{CanAsk};
 use bytes::Bytes;
 use demo_services::ids::{COUNT, DEMO, READ, TRANSFER, WRITE};
 use link_io::{Clock, Fulls, MemSink, MemSource, MemStore, Sink, Source, Still, Why};
-use live_client::{Live, LiveAsk, live};
+use live_client::{LiveAsk, live};
 use rpc_frames::write_frame;
 use rpc_ids::Status;
 use rpc_packet::{CallName, Packet, PacketType};
