@@ -1,34 +1,22 @@
-use bytes::Bytes;
+//! Routes, a router that takes frames and gives them, and pumps over links in memory.
+
+use frame_router::Port::*;
 use frame_router::*;
-use hdlc_frame::encode_ui;
 use link_io::{MemSink, MemSource, Why};
 use std::alloc::{AllocError, Global};
 use std::process::Abort;
 use std::test::Fail;
 
 mod parts;
+mod steps;
+
+use steps::Step::*;
+use steps::{Step, follows};
 
 // A frame with address 123 and no payload, and one with address 82, as other encoders write them.
 const TO_123: &[u8] = &[0x7E, 0xF7, 0x03, 0x3F, 0x34, 0x2D, 0x83, 0x7E];
 
 const TO_82: &[u8] = &[0x7E, 0xA5, 0x03, 0xE9, 0x0B, 0xA0, 0x0B, 0x7E];
-
-// A router that knows one address.
-fn router_with(alloc: Global, address: u32, port: Port) -> Result<Router, AllocError> {
-    let mut routes = Routes::new(alloc);
-    let _ = routes.add(address, port);
-    Router::new(alloc, routes)
-}
-
-// Feeds all of these bytes.
-fn feed_all(router: &mut Router, from: Port, bytes: &[u8]) -> Result<(), AllocError> {
-    let mut rest = bytes;
-    for _ in 0..bytes.len() {
-        let taken = router.feed(from, rest)?;
-        rest = &rest[taken..];
-    }
-    Ok(())
-}
 
 fn counts(passed: u64, home: u64, lost: u64) -> Tally {
     Tally {
@@ -53,20 +41,6 @@ fn adds(
 
 fn finds(rt: &impl Abort, routes: &Routes, address: u32, want: Option<Port>) {
     assert_eq!(rt; routes.find(address), want);
-}
-
-// All octets of a frame are taken.
-fn feeds(rt: &impl Abort, router: &mut Router, from: Port, frame: &[u8]) {
-    assert_eq!(rt; router.feed(from, frame), Ok(frame.len()));
-}
-
-// The frame that goes out next.
-fn gives(rt: &impl Abort, router: &mut Router, to: Port, want: Option<&'static [u8]>) {
-    let want = match want {
-        Some(frame) => Some(Bytes::from_static(frame)),
-        None => None,
-    };
-    assert_eq!(rt; router.next(to), want);
 }
 
 fn tally_is(rt: &impl Abort, tally: Tally, want: Tally) {
@@ -94,19 +68,22 @@ fn an_address_has_one_route_and_65_are_too_many(rt: HostRuntime) -> Result<(), F
     Ok(())
 }
 
+const PASSES_OR_IS_LOST: &[Step] = &[
+    Takes(Left, TO_123),
+    Takes(Left, TO_82),
+    Gives(Left, None),
+    Gives(Right, Some(TO_123)),
+    Gives(Right, None),
+    Counted(Left, 1, 0, 1),
+    Counted(Right, 0, 0, 0),
+    Takes(Right, TO_123),
+    Counted(Right, 0, 1, 0),
+    Gives(Left, None),
+];
+
 #[test]
 fn a_frame_passes_and_one_without_a_route_is_lost(rt: HostRuntime) -> Result<(), Fail> {
-    let mut router = router_with(rt.alloc(), 123, Port::Right)?;
-    feeds(&rt, &mut router, Port::Left, TO_123);
-    feeds(&rt, &mut router, Port::Left, TO_82);
-    gives(&rt, &mut router, Port::Left, None);
-    gives(&rt, &mut router, Port::Right, Some(TO_123));
-    gives(&rt, &mut router, Port::Right, None);
-    tally_is(&rt, router.tally(Port::Left), counts(1, 0, 1));
-    tally_is(&rt, router.tally(Port::Right), counts(0, 0, 0));
-    feeds(&rt, &mut router, Port::Right, TO_123);
-    tally_is(&rt, router.tally(Port::Right), counts(0, 1, 0));
-    gives(&rt, &mut router, Port::Left, None);
+    follows(&rt, rt.alloc(), Right, PASSES_OR_IS_LOST)?;
     Ok(())
 }
 
@@ -118,18 +95,16 @@ const BAD_ESCAPE: &[u8] = &[0xF7, 0x7D, 0x7E, 0x01, 0x7E];
 // A control octet of its own, with a check sequence that fits.
 const OTHER_CONTROL: &[u8] = &[0xF7, 0x13, 0x5B, 0x24, 0x9A, 0x9E, 0x7E];
 
+const SEGMENTS: &[Step] = &[
+    Comes(Left, BAD_CHECK),
+    Comes(Left, BAD_ESCAPE),
+    Comes(Left, OTHER_CONTROL),
+    Refused(Left, 1, 3),
+];
+
 #[test]
 fn each_kind_of_segment_is_counted_once(rt: HostRuntime) -> Result<(), Fail> {
-    let mut router = router_with(rt.alloc(), 123, Port::Right)?;
-    feed_all(&mut router, Port::Left, BAD_CHECK)?;
-    feed_all(&mut router, Port::Left, BAD_ESCAPE)?;
-    feed_all(&mut router, Port::Left, OTHER_CONTROL)?;
-    let want = Tally {
-        other: 1,
-        bad: 3,
-        ..counts(0, 0, 0)
-    };
-    tally_is(&rt, router.tally(Port::Left), want);
+    follows(&rt, rt.alloc(), Right, SEGMENTS)?;
     Ok(())
 }
 
@@ -138,71 +113,55 @@ const LONG: &[u8] = &[
     0x7E, 0xF6, 0x00, 0x00, 0x00, 0x01, 0x03, 0x5C, 0x3B, 0x1B, 0xF2, 0x7E,
 ];
 
+const LONG_AND_SHORT: &[Step] = &[Comes(Right, LONG), Gives(Left, Some(TO_123))];
+
 #[test]
 fn a_long_spelling_of_an_address_goes_on_in_the_shortest(rt: HostRuntime) -> Result<(), Fail> {
-    let mut router = router_with(rt.alloc(), 123, Port::Left)?;
-    feed_all(&mut router, Port::Right, LONG)?;
-    gives(&rt, &mut router, Port::Left, Some(TO_123));
+    follows(&rt, rt.alloc(), Left, LONG_AND_SHORT)?;
     Ok(())
 }
 
-// Feeds a frame so often.
-fn feed_often(router: &mut Router, frame: &[u8], count: u32) -> Result<(), AllocError> {
-    for _ in 0..count {
-        feed_all(router, Port::Left, frame)?;
-    }
-    Ok(())
-}
-
-// The last of so many frames that go out.
-fn last_of(router: &mut Router, count: u32) -> Option<Bytes> {
-    let mut last = None;
-    for _ in 0..count {
-        last = router.next(Port::Right);
-    }
-    last
-}
+const UNTIL_257: &[Step] = &[
+    Comes(Left, TO_123),
+    ComesOften(255, b"second"),
+    Comes(Left, TO_123),
+    Passed(Left, 256),
+    Full(Left, 1),
+    Gives(Right, Some(TO_123)),
+    Comes(Left, TO_123),
+    Passed(Left, 257),
+    LastOf(256, Some(TO_123)),
+    Gives(Right, None),
+];
 
 #[test]
 fn frame_257_is_dropped_where_none_was_taken(rt: HostRuntime) -> Result<(), Fail> {
-    let mut router = router_with(rt.alloc(), 123, Port::Right)?;
-    let mut second = Vec::new(rt.alloc());
-    encode_ui(123, b"second", &mut second)?;
-    feed_all(&mut router, Port::Left, TO_123)?;
-    feed_often(&mut router, second.as_slice(), 255)?;
-    feed_all(&mut router, Port::Left, TO_123)?;
-    number_is(&rt, router.tally(Port::Left).passed, 256);
-    number_is(&rt, router.tally(Port::Left).full, 1);
-    gives(&rt, &mut router, Port::Right, Some(TO_123));
-    feed_all(&mut router, Port::Left, TO_123)?;
-    number_is(&rt, router.tally(Port::Left).passed, 257);
-    let last = last_of(&mut router, 256);
-    assert_eq!(rt; last, Some(Bytes::from_static(TO_123)));
-    gives(&rt, &mut router, Port::Right, None);
+    follows(&rt, rt.alloc(), Right, UNTIL_257)?;
     Ok(())
 }
 
-// Pumps these bytes from the left, over a sink whose calls of these numbers fail.
+// These frames, one behind the other.
+fn joined(alloc: Global, frames: &[&[u8]]) -> Result<Vec<u8>, AllocError> {
+    let mut bytes = Vec::new(alloc);
+    for frame in frames {
+        bytes.extend_from_slice(frame)?;
+    }
+    Ok(bytes)
+}
+
+// Pumps these bytes from the left, over a source and a sink whose calls of these numbers fail.
 fn pumped(
     alloc: Global,
     bytes: Vec<u8>,
-    read_fails: Vec<u64>,
-    write_fails: Vec<u64>,
+    read_fails: &[u64],
+    write_fails: &[u64],
 ) -> Result<(Pumped, MemSink), AllocError> {
     let mut routes = Routes::new(alloc);
-    let _ = routes.add(123, Port::Right);
-    let mut link_in = MemSource::new(bytes, read_fails);
-    let mut link_out = MemSink::new(Vec::new(alloc), write_fails);
-    let pumped = pump(alloc, &routes, Port::Left, &mut link_in, &mut link_out)?;
+    let _ = routes.add(123, Right);
+    let mut link_in = MemSource::new(bytes, Vec::from_slice(alloc, read_fails)?);
+    let mut link_out = MemSink::new(Vec::new(alloc), Vec::from_slice(alloc, write_fails)?);
+    let pumped = pump(alloc, &routes, Left, &mut link_in, &mut link_out)?;
     Ok((pumped, link_out))
-}
-
-// Three frames, of which the first and the last pass.
-fn three_frames(alloc: Global) -> Result<Vec<u8>, AllocError> {
-    let mut bytes = Vec::from_slice(alloc, TO_123)?;
-    bytes.extend_from_slice(TO_82)?;
-    bytes.extend_from_slice(TO_123)?;
-    Ok(bytes)
 }
 
 // A pump ended so, read so much and counted so.
@@ -216,63 +175,76 @@ fn wrote(rt: &impl Abort, link_out: &MemSink, want: &[u8]) {
     assert_eq!(rt; link_out.bytes(), want);
 }
 
+// Three frames, of which the first and the last pass.
+const THREE_FRAMES: &[&[u8]] = &[TO_123, TO_82, TO_123];
+
 const TWICE: &[u8] = &[
     0x7E, 0xF7, 0x03, 0x3F, 0x34, 0x2D, 0x83, 0x7E, 0x7E, 0xF7, 0x03, 0x3F, 0x34, 0x2D, 0x83, 0x7E,
 ];
 
-#[test]
-fn a_pump_writes_what_passes_and_finishes(rt: HostRuntime) -> Result<(), Fail> {
-    let alloc = rt.alloc();
-    let frames = three_frames(alloc)?;
-    let (done, link_out) = pumped(alloc, frames, Vec::new(alloc), Vec::new(alloc))?;
-    ended(&rt, &done, Why::Settled, 24, counts(2, 0, 1));
-    wrote(&rt, &link_out, TWICE);
-    Ok(())
-}
+// What comes, the reads and the calls of the sink that fail, why the pump ends, how much it read, the frames that it counted as passed
+// and as lost and the bad segments, and what it wrote.
+type Row = (
+    &'static [&'static [u8]],
+    &'static [u64],
+    &'static [u64],
+    Why,
+    u64,
+    (u64, u64, u64),
+    &'static [u8],
+);
 
-// The call of this number fails.
-fn fails_to_write(
-    rt: &impl Abort,
-    alloc: Global,
-    number: u64,
-    tally: Tally,
-    want: &[u8],
-) -> Result<(), Fail> {
-    let fails = vec![in alloc; number; 1]?;
-    let frames = three_frames(alloc)?;
-    let (done, link_out) = pumped(alloc, frames, Vec::new(alloc), fails)?;
-    ended(rt, &done, Why::Sink, 24, tally);
+fn pumps(rt: &impl Abort, alloc: Global, row: &Row) -> Result<(), AllocError> {
+    let &(frames, read_fails, write_fails, why, read, (passed, lost, bad), want) = row;
+    let bytes = joined(alloc, frames)?;
+    let (done, link_out) = pumped(alloc, bytes, read_fails, write_fails)?;
+    let tally = Tally {
+        bad,
+        ..counts(passed, 0, lost)
+    };
+    ended(rt, &done, why, read, tally);
     wrote(rt, &link_out, want);
     Ok(())
 }
 
+const PASSES_AND_FINISHES: Row = (THREE_FRAMES, &[], &[], Why::Settled, 24, (2, 1, 0), TWICE);
+
 #[test]
-fn what_came_before_a_frame_that_fails_is_counted(rt: HostRuntime) -> Result<(), Fail> {
-    let alloc = rt.alloc();
-    // a segment that is too short, a frame without a route, and one that passes
-    let mut bytes = Vec::from_slice(alloc, &[0x7E, 0x01, 0x7E])?;
-    bytes.extend_from_slice(TO_82)?;
-    bytes.extend_from_slice(TO_123)?;
-    let first = vec![in alloc; 1; 1]?;
-    let (done, link_out) = pumped(alloc, bytes, Vec::new(alloc), first)?;
-    let tally = Tally {
-        bad: 1,
-        ..counts(0, 0, 1)
-    };
-    assert_eq!(rt; (done.why, done.read, done.tally), (Why::Sink, 19, tally));
-    assert_eq!(rt; link_out.bytes().len(), 0);
+fn a_pump_writes_what_passes_and_finishes(rt: HostRuntime) -> Result<(), Fail> {
+    pumps(&rt, rt.alloc(), &PASSES_AND_FINISHES)?;
     Ok(())
 }
 
+// A segment that is too short, a frame without a route, and one that passes.
+const SHORT_LOST_AND_PASSED: &[&[u8]] = &[&[0x7E, 0x01, 0x7E], TO_82, TO_123];
+
+const COUNTS_BEFORE_A_FAULT: Row = (
+    SHORT_LOST_AND_PASSED,
+    &[],
+    &[1],
+    Why::Sink,
+    19,
+    (0, 1, 1),
+    &[],
+);
+
+#[test]
+fn what_came_before_a_frame_that_fails_is_counted(rt: HostRuntime) -> Result<(), Fail> {
+    pumps(&rt, rt.alloc(), &COUNTS_BEFORE_A_FAULT)?;
+    Ok(())
+}
+
+const FAULTS: &[Row] = &[
+    (THREE_FRAMES, &[1], &[], Why::Source, 0, (0, 0, 0), &[]),
+    // Both frames that pass go out by the first call, and the second is the finish.
+    (THREE_FRAMES, &[], &[1], Why::Sink, 24, (0, 0, 0), &[]),
+    (THREE_FRAMES, &[], &[2], Why::Sink, 24, (2, 1, 0), TWICE),
+];
+
 #[test]
 fn a_pump_tells_which_end_failed(rt: HostRuntime) -> Result<(), Fail> {
-    let alloc = rt.alloc();
-    let first = vec![in alloc; 1; 1]?;
-    let frames = three_frames(alloc)?;
-    let (done, link_out) = pumped(alloc, frames, first, Vec::new(alloc))?;
-    ended(&rt, &done, Why::Source, 0, counts(0, 0, 0));
-    wrote(&rt, &link_out, &[]);
-    // Both frames that pass go out by the first call, and the second is the finish.
-    fails_to_write(&rt, alloc, 1, counts(0, 0, 0), &[])?;
-    fails_to_write(&rt, alloc, 2, counts(2, 0, 1), TWICE)
+    for row in FAULTS {
+        pumps(&rt, rt.alloc(), row)?;
+    }
+    Ok(())
 }

@@ -1,7 +1,7 @@
 //! Sinks that take a part of what a pump writes at once.
 ghost use Rattle.std.specs.Prelude.{◌≡◌, false, None};
 
-use super::{counts, ended, number_is, three_frames};
+use super::{THREE_FRAMES, counts, ended, joined, number_is};
 use frame_router::*;
 use link_io::{Failed, MemSource, Sink, Why};
 use std::alloc::{AllocError, Global};
@@ -70,7 +70,7 @@ impl Sink for Narrow {
 fn pumped(alloc: Global, step: usize, fail: u64) -> Result<(Pumped, Narrow), AllocError> {
     let mut routes = Routes::new(alloc);
     let _ = routes.add(123, Port::Right);
-    let mut link_in = MemSource::new(three_frames(alloc)?, Vec::new(alloc));
+    let mut link_in = MemSource::new(joined(alloc, THREE_FRAMES)?, Vec::new(alloc));
     let mut link_out = Narrow::new(alloc, step, fail);
     let done = pump(alloc, &routes, Port::Left, &mut link_in, &mut link_out)?;
     Ok((done, link_out))
