@@ -7,7 +7,9 @@ mod threads;
 
 use std::alloc::Global;
 use std::process::Abort;
+use std::sync::Wait;
 use std::test::Fail;
+use std::thread::Threads;
 use sums::Sums;
 use threads::crew;
 use turn_cell::{Busy, Pass, Turn};
@@ -88,13 +90,58 @@ fn holds(rt: &impl Abort, pass: &Pass<Sums>, want: bool) {
     assert_eq!(rt; pass.holds(), want);
 }
 
+// One pass takes the lock and gives it back. Meanwhile it alone holds it, and the other finds it busy at this word.
+fn holds_alone<R: Abort + Wait>(
+    rt: &R,
+    turn: &Turn<Sums>,
+    holder: &mut Pass<Sums>,
+    other: &mut Pass<Sums>,
+    word: u64,
+)
+    requires holder { (holder.old.table ≡ turn.now.table) × (holder.old.view.holds ≡ false) }
+    requires other { (other.old.table ≡ turn.now.table) × (other.old.view.holds ≡ false) }
+    ensures holder { (holder.new.table ≡ turn.now.table) × (holder.new.view.holds ≡ false) }
+    ensures other { (other.new.table ≡ turn.now.table) × (other.new.view.holds ≡ false) }
+{
+    let held = turn.take(rt, holder);
+    holds(rt, holder, true);
+    holds(rt, other, false);
+    is_busy(rt, turn, other, word);
+    turn.give(holder, held);
+}
+
+// The same, and the pass that holds the lock adds a number.
+fn adds_alone<R: Abort + Wait>(
+    rt: &R,
+    turn: &Turn<Sums>,
+    holder: &mut Pass<Sums>,
+    other: &mut Pass<Sums>,
+    word: u64,
+    number: u64,
+)
+    requires holder { (holder.old.table ≡ turn.now.table) × (holder.old.view.holds ≡ false) }
+    requires other { (other.old.table ≡ turn.now.table) × (other.old.view.holds ≡ false) }
+    ensures holder { (holder.new.table ≡ turn.now.table) × (holder.new.view.holds ≡ false) }
+    ensures other { (other.new.table ≡ turn.now.table) × (other.new.view.holds ≡ false) }
+{
+    let mut held = turn.take(rt, holder);
+    is_busy(rt, turn, other, word);
+    let added = held.value().add(holder.number(), number);
+    assert!(rt; added);
+    turn.give(holder, held);
+}
+
+// These entries were made, in order.
+fn entries_are(rt: &impl Abort, sums: &Sums, want: &[(u32, u64)]) {
+    assert_eq!(rt; sums.entries(), want);
+}
+
 #[test]
 fn two_of_three_passes_add_one_entry_each(rt: HostRuntime) -> Result<(), Fail> {
     let (turn, mut passes) = opened(&rt, rt.alloc(), 3);
     adds(&rt, &turn, &mut passes, 0, 10);
     adds(&rt, &turn, &mut passes, 2, 20);
-    let sums = turn.close(passes);
-    assert_eq!(rt; sums.entries(), [(0, 10), (2, 20)].as_slice());
+    entries_are(&rt, &turn.close(passes), &[(0, 10), (2, 20)]);
     Ok(())
 }
 
@@ -103,23 +150,11 @@ fn a_held_lock_is_busy_and_its_word_counts_the_entries(rt: HostRuntime) -> Resul
     let (turn, passes) = opened(&rt, rt.alloc(), 2);
     let (mut first, mut second) = pair(&turn, passes);
     assert!(rt; first.number() == 0 && second.number() == 1);
-
-    let held = turn.take(&rt, &mut first);
-    holds(&rt, &first, true);
-    holds(&rt, &second, false);
-    is_busy(&rt, &turn, &mut second, 1);
-    turn.give(&mut first, held);
-
+    holds_alone(&rt, &turn, &mut first, &mut second, 1);
     // Nothing was added, so the word is as before.
-    let mut held = turn.take(&rt, &mut first);
-    is_busy(&rt, &turn, &mut second, 1);
-    assert!(rt; held.value().add(0, 7));
-    turn.give(&mut first, held);
-
+    adds_alone(&rt, &turn, &mut first, &mut second, 1, 7);
     // One entry was added: the word was 2, and is 3 while the second pass holds.
-    let held = turn.take(&rt, &mut second);
-    is_busy(&rt, &turn, &mut first, 3);
-    turn.give(&mut second, held);
+    holds_alone(&rt, &turn, &mut second, &mut first, 3);
     holds(&rt, &first, false);
     holds(&rt, &second, false);
     Ok(())
@@ -141,7 +176,18 @@ fn in_order(entries: &[(u32, u64)], seat: u32) -> Option<u64> {
 
 // The thousand entries of this pass are there, in order.
 fn has_a_thousand(rt: &impl Abort, entries: &[(u32, u64)], seat: u32) {
-    assert_eq!(rt; in_order(entries, seat), Some(1000));
+    assert_eq!(rt; in_order(entries, seat), Some(1000), "pass {seat}");
+}
+
+// The same of each of four passes.
+fn each_has_a_thousand(rt: &impl Abort, entries: &[(u32, u64)]) {
+    for seat in 0..4 {
+        has_a_thousand(rt, entries, seat);
+    }
+}
+
+fn number_is(rt: &impl Abort, number: u64, want: u64) {
+    assert_eq!(rt; number, want);
 }
 
 fn sum_of(entries: &[(u32, u64)]) -> u64 {
@@ -152,16 +198,19 @@ fn sum_of(entries: &[(u32, u64)]) -> u64 {
     sum
 }
 
+// What four passes add, each in a thread of its own.
+fn sums_of_four<R: Abort + Threads + Wait + Sync>(rt: &R, alloc: Global) -> Sums {
+    let (turn, passes) = opened(rt, alloc, 4);
+    let passes = crew(rt, &turn, passes);
+    turn.close(passes)
+}
+
 #[test]
 fn four_threads_add_a_thousand_entries_each(rt: HostRuntime) -> Result<(), Fail> {
-    let (turn, passes) = opened(&rt, rt.alloc(), 4);
-    let passes = crew(&rt, &turn, passes);
-    let sums = turn.close(passes);
-    assert_eq!(rt; sums.entries().len(), 4000);
-    assert_eq!(rt; sum_of(sums.entries()), 4 * 499_500);
-    has_a_thousand(&rt, sums.entries(), 0);
-    has_a_thousand(&rt, sums.entries(), 1);
-    has_a_thousand(&rt, sums.entries(), 2);
-    has_a_thousand(&rt, sums.entries(), 3);
+    let sums = sums_of_four(&rt, rt.alloc());
+    let entries = sums.entries();
+    number_is(&rt, entries.len() as u64, 4000);
+    number_is(&rt, sum_of(entries), 4 * 499_500);
+    each_has_a_thousand(&rt, entries);
     Ok(())
 }
