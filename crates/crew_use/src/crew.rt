@@ -1,13 +1,13 @@
 //! Sessions over links in memory, with handlers and gates of their own.
 ghost use mathlib.Core.Bool.{false≢true};
-ghost use Rattle.std.specs.Prelude.{◌≡◌, ◌<◌, ◌≤◌, if◌then◌else◌, [], None, Some, false};
+ghost use Rattle.std.specs.Prelude.{◌≡◌, ◌<◌, ◌≤◌, if◌then◌else◌, [], IfOk, None, Some, false};
 ghost use Rattle.rpc_handlers.specs.HandlerRule.{empty_memo};
 ghost use Rattle.rpc_ids.specs.declared.status.Status.TheVariants.{Okay};
 
 use bytes::Bytes;
 use link_io::{Clock, Fulls, MemSink, MemSource, MemStore, Sink, Source, Still, Why};
 use rpc_channel::Channels;
-use rpc_crew::{Free, Gate, Session, session};
+use rpc_crew::{Free, Gate, session};
 use rpc_frames::write_frame;
 use rpc_handlers::{Acts, Answer, End, Event, Handler, Maker, Memo, Outs, Parts, Words};
 use rpc_ids::{Kind, MethodRef, Registry, Status, hash_name};
@@ -173,6 +173,30 @@ fn frames(written: &[u8]) -> u32 {
     flags / 2
 }
 
+// What a session told.
+#[derive(Clone, Copy)]
+struct Told {
+    why: Why,
+    // How many items were written, how many frames came, and how many entries its journal has.
+    done: u64,
+    heard: u64,
+    entries: u64,
+    // The first moment of its clock.
+    began: u64,
+}
+
+// A sink in memory whose writes of these numbers fail.
+fn sink(alloc: Global, fails: &[u64]) -> Result<MemSink, AllocError>
+    ensures { IfOk result (λ s. s.finished ≡ false) }
+{
+    Ok(MemSink::new(Vec::new(alloc), Vec::from_slice(alloc, fails)?))
+}
+
+// A source in memory that never fails.
+fn source(alloc: Global, stream: Vec<u8>) -> MemSource {
+    MemSource::new(stream, Vec::new(alloc))
+}
+
 // Serves a link by these handlers, on channel 1, with an empty store.
 fn serve_echoes<
     R: Threads + Wait + Sync,
@@ -188,7 +212,7 @@ fn serve_echoes<
     workers: u32,
     clock: &mut C,
     gate: &G,
-) -> Result<Session, Fail>
+) -> Result<Told, Fail>
     requires workers { (0 < workers) × (workers ≤ 16) }
     requires open { O.finished link_out.old ≡ false }
 {
@@ -224,7 +248,7 @@ fn serve_by<
     workers: u32,
     clock: &mut C,
     gate: &G,
-) -> Result<Session, Fail>
+) -> Result<Told, Fail>
 where
     M::H: Send,
     requires workers { (0 < workers) × (workers ≤ 16) }
@@ -235,7 +259,13 @@ where
     let did = session(
         rt, alloc, link_in, link_out, &mut store, channels, registry, maker, workers, clock, gate,
     )?;
-    Ok(did)
+    Ok(Told {
+        why: did.why,
+        done: did.done,
+        heard: did.counts.valid,
+        entries: did.journal.len(),
+        began: did.began,
+    })
 }
 
 // Serves a link that brings so many Echo calls, and whose reads of these numbers fail.
@@ -247,7 +277,7 @@ fn serve_calls<R: Threads + Wait + Sync, O: Sink + Send, G: Gate + Sync>(
     link_out: &mut O,
     workers: u32,
     gate: &G,
-) -> Result<Session, Fail>
+) -> Result<Told, Fail>
     requires workers { (0 < workers) × (workers ≤ 16) }
     requires open { O.finished link_out.old ≡ false }
 {
@@ -265,18 +295,18 @@ fn serve_calls<R: Threads + Wait + Sync, O: Sink + Send, G: Gate + Sync>(
 }
 
 // The session ended so, and so many items were written.
-fn ended(rt: &impl Abort, did: &Session, why: Why, done: u64) {
+fn ended(rt: &impl Abort, did: Told, why: Why, done: u64) {
     why_is(rt, did, why);
     number_is(rt, did.done, done);
 }
 
-fn why_is(rt: &impl Abort, did: &Session, why: Why) {
+fn why_is(rt: &impl Abort, did: Told, why: Why) {
     assert_eq!(rt; did.why, why);
 }
 
 // So many frames came.
-fn heard(rt: &impl Abort, did: &Session, frames: u64) {
-    number_is(rt, did.counts.valid, frames);
+fn heard(rt: &impl Abort, did: Told, frames: u64) {
+    number_is(rt, did.heard, frames);
 }
 
 // So many frames were written.
@@ -299,10 +329,10 @@ fn word_is(rt: &impl Abort, word: &AtomicU64, want: u64) {
 #[test]
 fn four_hundred_calls_settle(rt: HostRuntime) -> Result<(), Fail> {
     let alloc = rt.alloc();
-    let mut link_out = MemSink::new(Vec::new(alloc), Vec::new(alloc));
+    let mut link_out = sink(alloc, &[])?;
     let did = serve_calls(&rt, alloc, 400, &[], &mut link_out, 1, &Free)?;
-    ended(&rt, &did, Why::Settled, 400);
-    heard(&rt, &did, 400);
+    ended(&rt, did, Why::Settled, 400);
+    heard(&rt, did, 400);
     wrote(&rt, &link_out, 400);
     Ok(())
 }
@@ -311,10 +341,10 @@ fn four_hundred_calls_settle(rt: HostRuntime) -> Result<(), Fail> {
 #[test]
 fn the_second_write_fails(rt: HostRuntime) -> Result<(), Fail> {
     let alloc = rt.alloc();
-    let mut link_out = MemSink::new(Vec::new(alloc), Vec::from_slice(alloc, &[2])?);
+    let mut link_out = sink(alloc, &[2])?;
     let did = serve_calls(&rt, alloc, 400, &[], &mut link_out, 1, &Free)?;
     let written = frames(link_out.bytes());
-    ended(&rt, &did, Why::Sink, u64::from(written));
+    ended(&rt, did, Why::Sink, u64::from(written));
     some_came(&rt, written);
     Ok(())
 }
@@ -322,9 +352,9 @@ fn the_second_write_fails(rt: HostRuntime) -> Result<(), Fail> {
 #[test]
 fn what_came_before_a_fault_of_the_source_is_served(rt: HostRuntime) -> Result<(), Fail> {
     let alloc = rt.alloc();
-    let mut link_out = MemSink::new(Vec::new(alloc), Vec::new(alloc));
+    let mut link_out = sink(alloc, &[])?;
     let did = serve_calls(&rt, alloc, 1, &[2], &mut link_out, 4, &Free)?;
-    ended(&rt, &did, Why::Source, 1);
+    ended(&rt, did, Why::Source, 1);
     wrote(&rt, &link_out, 1);
     Ok(())
 }

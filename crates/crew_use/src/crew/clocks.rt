@@ -1,20 +1,52 @@
 //! The time goes on while a write waits, and behind the last run.
-ghost use Rattle.std.specs.Prelude.{None};
+ghost use Rattle.std.specs.Prelude.{◌<◌, ◌≤◌, None};
 
-use super::{STAY, calls_of, echo_calls, ended, serve_echoes, turn_until, word_is, wrote};
+use super::{
+    STAY, calls_of, echo_calls, ended, serve_echoes, sink, source, turn_until, word_is, wrote,
+};
 use link_io::{Clock, Failed, MemSink, MemSource, Sink, Source, Why};
 use rpc_crew::Free;
+use std::alloc::Global;
+use std::process::Abort;
+use std::sync::Wait;
 use std::sync::atomic::{AtomicU64, Ordering};
 use std::test::Fail;
+use std::thread::Threads;
 use std::time;
 
 // The first Tick comes so many milliseconds behind the start.
 const TICK: u64 = 500;
 
+// What the ends of a link and its clock count: how often the clock was asked, whether a write is over, and how often
+// somebody waited in vain.
+struct Signs {
+    asked: AtomicU64,
+    written: AtomicU64,
+    late: AtomicU64,
+}
+
+impl Drop for Signs {
+    fn drop(self) {
+        let Self {
+            asked: _,
+            written: _,
+            late: _,
+        } = self;
+    }
+}
+
+fn no_signs() -> Signs {
+    Signs {
+        asked: AtomicU64::new(0),
+        written: AtomicU64::new(0),
+        late: AtomicU64::new(0),
+    }
+}
+
 // A clock that counts how often it was asked. It stands still so often, and is at the moment of a Tick from then on.
 #[derive(Drop)]
 struct Asked<'a> {
-    times: &'a AtomicU64,
+    signs: &'a Signs,
     still: u64,
     last: u64,
 }
@@ -23,7 +55,7 @@ impl<'a> Clock for Asked<'a> {
     ghost last = { λ c. c.last };
 
     fn now(&mut self) -> u64 {
-        let times = self.times.fetch_add(1, Ordering::SeqCst);
+        let times = self.signs.asked.fetch_add(1, Ordering::SeqCst);
         if times >= self.still && self.last < TICK {
             self.last = TICK;
         }
@@ -37,8 +69,7 @@ struct AfterWrite<'a, R> {
     rt: &'a R,
     inner: MemSource,
     begun: bool,
-    written: &'a AtomicU64,
-    late: &'a AtomicU64,
+    signs: &'a Signs,
 }
 
 impl<'a, R: time::Clock> Source for AfterWrite<'a, R> {
@@ -48,7 +79,7 @@ impl<'a, R: time::Clock> Source for AfterWrite<'a, R> {
 
     fn read(&mut self, buf: &mut [u8]) -> Result<usize, Failed> {
         if self.begun {
-            turn_until(self.rt, self.written, 1, self.late);
+            turn_until(self.rt, &self.signs.written, 1, &self.signs.late);
         }
         self.begun = true;
         self.inner.read(buf)
@@ -61,9 +92,7 @@ struct AfterTime<'a, R> {
     rt: &'a R,
     inner: MemSink,
     begun: bool,
-    asked: &'a AtomicU64,
-    written: &'a AtomicU64,
-    late: &'a AtomicU64,
+    signs: &'a Signs,
 }
 
 impl<'a, R: time::Clock> Sink for AfterTime<'a, R> {
@@ -76,11 +105,12 @@ impl<'a, R: time::Clock> Sink for AfterTime<'a, R> {
     fn write(&mut self, bytes: &[u8]) -> Result<usize, Failed> {
         if !self.begun {
             self.begun = true;
-            let least = self.asked.load(Ordering::SeqCst).saturating_add(1_000);
-            turn_until(self.rt, self.asked, least, self.late);
+            let asked = self.signs.asked.load(Ordering::SeqCst);
+            let least = asked.saturating_add(1_000);
+            turn_until(self.rt, &self.signs.asked, least, &self.signs.late);
         }
         let count = self.inner.write(bytes);
-        self.written.store(1, Ordering::SeqCst);
+        self.signs.written.store(1, Ordering::SeqCst);
         count
     }
 
@@ -93,44 +123,55 @@ impl<'a, R: time::Clock> Sink for AfterTime<'a, R> {
     }
 }
 
+// A session over this source settles, writes so many frames, and nobody waits in vain. Its clock stands still so often.
+fn settles_in_time<R: Abort + Threads + Wait + Sync + time::Clock, I: Source + Send>(
+    rt: &R,
+    alloc: Global,
+    link_in: &mut I,
+    signs: &Signs,
+    workers: u32,
+    still: u64,
+    count: u32,
+) -> Result<(), Fail>
+    requires workers { (0 < workers) × (workers ≤ 16) }
+{
+    let mut clock = Asked {
+        signs,
+        still,
+        last: 0,
+    };
+    let mut link_out = AfterTime {
+        rt,
+        inner: sink(alloc, &[])?,
+        begun: false,
+        signs,
+    };
+    let did = serve_echoes(
+        rt,
+        alloc,
+        link_in,
+        &mut link_out,
+        workers,
+        &mut clock,
+        &Free,
+    )?;
+    ended(rt, did, Why::Settled, u64::from(count));
+    wrote(rt, &link_out.inner, count);
+    word_is(rt, &signs.late, 0);
+    Ok(())
+}
+
 #[test]
 fn the_clock_is_asked_while_a_write_waits(rt: HostRuntime) -> Result<(), Fail> {
     let alloc = rt.alloc();
-    let times = AtomicU64::new(0);
-    let written = AtomicU64::new(0);
-    let late = AtomicU64::new(0);
+    let signs = no_signs();
     let mut link_in = AfterWrite {
         rt: &rt,
-        inner: MemSource::new(echo_calls(alloc, 1)?, Vec::new(alloc)),
+        inner: source(alloc, echo_calls(alloc, 1)?),
         begun: false,
-        written: &written,
-        late: &late,
+        signs: &signs,
     };
-    let mut link_out = AfterTime {
-        rt: &rt,
-        inner: MemSink::new(Vec::new(alloc), Vec::new(alloc)),
-        begun: false,
-        asked: &times,
-        written: &written,
-        late: &late,
-    };
-    let did = serve_echoes(
-        &rt,
-        alloc,
-        &mut link_in,
-        &mut link_out,
-        1,
-        &mut Asked {
-            times: &times,
-            still: u64::MAX,
-            last: 0,
-        },
-        &Free,
-    )?;
-    ended(&rt, &did, Why::Settled, 1);
-    wrote(&rt, &link_out.inner, 1);
-    word_is(&rt, &late, 0);
-    Ok(())
+    settles_in_time(&rt, alloc, &mut link_in, &signs, 1, u64::MAX, 1)
 }
 
 // A call stays open behind the end of the input, and nothing is left to run while the first write waits. The Tick that comes then is
@@ -138,34 +179,8 @@ fn the_clock_is_asked_while_a_write_waits(rt: HostRuntime) -> Result<(), Fail> {
 #[test]
 fn a_tick_behind_the_last_run_is_run(rt: HostRuntime) -> Result<(), Fail> {
     let alloc = rt.alloc();
-    let times = AtomicU64::new(0);
-    let written = AtomicU64::new(0);
-    let late = AtomicU64::new(0);
     let mut stream = calls_of(alloc, STAY, 1)?;
     stream.extend_from_slice(&echo_calls(alloc, 600)?)?;
-    let mut link_out = AfterTime {
-        rt: &rt,
-        inner: MemSink::new(Vec::new(alloc), Vec::new(alloc)),
-        begun: false,
-        asked: &times,
-        written: &written,
-        late: &late,
-    };
-    let did = serve_echoes(
-        &rt,
-        alloc,
-        &mut MemSource::new(stream, Vec::new(alloc)),
-        &mut link_out,
-        2,
-        &mut Asked {
-            times: &times,
-            still: 600,
-            last: 0,
-        },
-        &Free,
-    )?;
-    ended(&rt, &did, Why::Settled, 600);
-    wrote(&rt, &link_out.inner, 600);
-    word_is(&rt, &late, 0);
-    Ok(())
+    let mut link_in = source(alloc, stream);
+    settles_in_time(&rt, alloc, &mut link_in, &no_signs(), 2, 600, 600)
 }

@@ -1,8 +1,8 @@
 //! Runs in a chosen order, and many at a time.
 ghost use Rattle.std.specs.Prelude.{◌<◌, ◌≤◌};
 
-use super::{ended, serve_calls, turn_until, word_is};
-use link_io::{MemSink, Why};
+use super::{ended, serve_calls, sink, turn_until, word_is};
+use link_io::Why;
 use rpc_crew::Gate;
 use std::alloc::Global;
 use std::process::Abort;
@@ -21,9 +21,9 @@ fn all_pass<R: Abort + Threads + Wait + Sync, G: Gate + Sync>(
 ) -> Result<(), Fail>
     requires { (0 < count) × (count ≤ 16) }
 {
-    let mut link_out = MemSink::new(Vec::new(alloc), Vec::new(alloc));
+    let mut link_out = sink(alloc, &[])?;
     let did = serve_calls(rt, alloc, count, &[], &mut link_out, count, gate)?;
-    ended(rt, &did, Why::Settled, u64::from(count));
+    ended(rt, did, Why::Settled, u64::from(count));
     Ok(())
 }
 

@@ -1,7 +1,7 @@
 //! What the other end of a link hears of a halt.
 ghost use Rattle.std.specs.Prelude.{None};
 
-use super::{echo_calls, ended, serve_echoes, turn_until, word_is, wrote};
+use super::{echo_calls, ended, serve_echoes, sink, source, turn_until, word_is, wrote};
 use link_io::{Failed, MemSink, MemSource, Sink, Source, Still, Why};
 use rpc_crew::Free;
 use std::sync::atomic::{AtomicU64, Ordering};
@@ -68,12 +68,12 @@ fn a_client_hears_that_a_write_failed(rt: HostRuntime) -> Result<(), Fail> {
     let late = AtomicU64::new(0);
     let mut link_in = Patient {
         rt: &rt,
-        inner: MemSource::new(echo_calls(alloc, 2)?, Vec::new(alloc)),
+        inner: source(alloc, echo_calls(alloc, 2)?),
         finished: &finished,
         late: &late,
     };
     let mut link_out = Telling {
-        inner: MemSink::new(Vec::new(alloc), Vec::from_slice(alloc, &[1])?),
+        inner: sink(alloc, &[1])?,
         finished: &finished,
     };
     let did = serve_echoes(
@@ -85,7 +85,7 @@ fn a_client_hears_that_a_write_failed(rt: HostRuntime) -> Result<(), Fail> {
         &mut Still::new(),
         &Free,
     )?;
-    ended(&rt, &did, Why::Sink, 0);
+    ended(&rt, did, Why::Sink, 0);
     wrote(&rt, &link_out.inner, 0);
     word_is(&rt, &finished, 1);
     word_is(&rt, &late, 0);

@@ -1,7 +1,7 @@
 //! A sink that takes one frame at a call, so that a write can fail between any two frames.
 ghost use Rattle.std.specs.Prelude.{◌≡◌, ◌<◌, ◌≤◌, None, length};
 
-use super::{ended, serve_calls, wrote};
+use super::{ended, serve_calls, sink, wrote};
 use link_io::{Failed, MemSink, Sink, Why};
 use rpc_crew::Free;
 use std::test::Fail;
@@ -49,10 +49,10 @@ impl Sink for OneFrame {
 fn two_frames_are_written_where_the_third_write_fails(rt: HostRuntime) -> Result<(), Fail> {
     let alloc = rt.alloc();
     let mut link_out = OneFrame {
-        inner: MemSink::new(Vec::new(alloc), Vec::from_slice(alloc, &[3])?),
+        inner: sink(alloc, &[3])?,
     };
     let did = serve_calls(&rt, alloc, 400, &[], &mut link_out, 1, &Free)?;
-    ended(&rt, &did, Why::Sink, 2);
+    ended(&rt, did, Why::Sink, 2);
     wrote(&rt, &link_out.inner, 2);
     Ok(())
 }

@@ -3,9 +3,9 @@ ghost use mathlib.Core.Bool.{false≢true};
 ghost use Rattle.std.specs.Prelude.{[], None, false};
 ghost use Rattle.rpc_handlers.specs.HandlerRule.{empty_memo};
 
-use super::{heard, no_memo, number_is, serve_by, why_is, wrote};
+use super::{heard, no_memo, number_is, serve_by, sink, source, why_is, wrote};
 use bytes::Bytes;
-use link_io::{MemSink, MemSource, Still, Why};
+use link_io::{Still, Why};
 use rpc_crew::Gate;
 use rpc_frames::write_frame;
 use rpc_handlers::{Acts, Answer, Event, Handler, Maker, Memo, Outs};
@@ -121,8 +121,8 @@ fn chat(alloc: Global, messages: u32) -> Result<Vec<u8>, AllocError> {
 fn no_packet_is_lost_where_a_queue_is_full(rt: HostRuntime) -> Result<(), Fail> {
     let alloc = rt.alloc();
     let registry = chat_alone(alloc)?;
-    let mut link_in = MemSource::new(chat(alloc, 300)?, Vec::new(alloc));
-    let mut link_out = MemSink::new(Vec::new(alloc), Vec::new(alloc));
+    let mut link_in = source(alloc, chat(alloc, 300)?);
+    let mut link_out = sink(alloc, &[])?;
     let did = serve_by(
         &rt,
         alloc,
@@ -134,10 +134,10 @@ fn no_packet_is_lost_where_a_queue_is_full(rt: HostRuntime) -> Result<(), Fail> 
         &mut Still::new(),
         &Slow { rt: &rt },
     )?;
-    why_is(&rt, &did, Why::Settled);
-    heard(&rt, &did, 301);
+    why_is(&rt, did, Why::Settled);
+    heard(&rt, did, 301);
     // Each of 301 packets arrived, and so did the end of the input; the event of each had a Start and a Finish.
-    number_is(&rt, did.journal.len(), 906);
+    number_is(&rt, did.entries, 906);
     wrote(&rt, &link_out, 0);
     Ok(())
 }
