@@ -2,10 +2,10 @@
 ghost use Rattle.std.specs.Prelude.{◌≡◌};
 ghost use Rattle.rpc_ids.specs.declared.method.Role.TheVariants.{Server};
 
-use super::desk::Method::{self, *};
 use super::desk::{Methods, arrives, letters, open_table, packet_on, served};
 use super::letters::{Letter, Letters};
 use super::plain::Plain;
+use super::steps::Method::{self, *};
 use super::turns::Gone::{self, *};
 use super::turns::Turn::*;
 use super::turns::{Goes, Turn, agree, all_go_out, same_journal, take_turn};
@@ -42,6 +42,7 @@ fn make(
     maker: &Letters,
     methods: Methods,
     change: Change,
+    step: usize,
 ) -> Result<(), AllocError>
     requires role { calls.old.setting.role ≡ Server }
     requires seed { ⟦<Letters as Maker>⟧.seed_memo maker.now ≡ calls.old.setting.seed }
@@ -52,10 +53,10 @@ fn make(
             let mut p = packet_on(channel, ptype, methods.of(method));
             p.name.call = id;
             let want = plain.arrive(&p)?;
-            arrives(rt, calls, maker, &p, want);
+            arrives(rt, calls, maker, &p, want, step);
             Ok(())
         }
-        Takes(turn) => take_turn(rt, maker.alloc, calls, plain, maker.ends, turn),
+        Takes(turn) => take_turn(rt, maker.alloc, calls, plain, maker.ends, turn, step),
     }
 }
 
@@ -72,9 +73,9 @@ fn make_all(
     requires seed { ⟦<Letters as Maker>⟧.seed_memo maker.now ≡ calls.old.setting.seed }
     ensures { calls.new.setting ≡ calls.old.setting }
 {
-    for change in changes {
-        make(rt, calls, plain, maker, methods, *change)?;
-        agree(rt, calls, plain);
+    'changes: for (step, change) in changes.iter().enumerate() {
+        make(rt, calls, plain, maker, methods, *change, step)?;
+        agree(rt, calls, plain, step);
     }
     Ok(())
 }

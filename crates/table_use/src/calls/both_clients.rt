@@ -3,12 +3,12 @@ ghost use Rattle.std.specs.Prelude.{◌≡◌};
 ghost use Rattle.rpc_handlers.specs.HandlerRule.{empty_memo};
 ghost use Rattle.rpc_ids.specs.declared.method.Role.TheVariants.{Client};
 
-use super::client_desk::Method::{self, *};
 use super::client_desk::{
     Methods, completes, from_server, hears_from, invokes, known, name_on, open_client,
 };
 use super::letters::Letter;
 use super::plain::Plain;
+use super::steps::Method::{self, *};
 use super::turns::Gone::{self, *};
 use super::turns::Turn::*;
 use super::turns::{Goes, Turn, agree, all_go_out, same_journal, take_turn};
@@ -47,6 +47,7 @@ fn make(
     plain: &mut Plain,
     methods: Methods,
     change: Change,
+    step: usize,
 ) -> Result<(), AllocError>
     requires role { calls.old.setting.role ≡ Client }
     requires seed { calls.old.setting.seed ≡ empty_memo }
@@ -55,19 +56,19 @@ fn make(
     match change {
         Asks(channel, method, id) => {
             let name = name_on(channel, methods.of(method), id);
-            invokes(rt, calls, alloc, name, false, plain.invoke(2, name)?);
+            invokes(rt, calls, alloc, name, false, plain.invoke(2, name)?, step);
             Ok(())
         }
         Completes(call) => {
-            completes(rt, calls, call, plain.done(2, call)?);
+            completes(rt, calls, call, plain.done(2, call)?, step);
             Ok(())
         }
         Comes(ptype, method, id, status) => {
             let p = from_server(ptype, methods.of(method), id, status);
-            hears_from(rt, calls, alloc, &p, plain.arrive(&p)?);
+            hears_from(rt, calls, alloc, &p, plain.arrive(&p)?, step);
             Ok(())
         }
-        Takes(turn) => take_turn(rt, alloc, calls, plain, false, turn),
+        Takes(turn) => take_turn(rt, alloc, calls, plain, false, turn, step),
     }
 }
 
@@ -84,9 +85,9 @@ fn make_all(
     requires seed { calls.old.setting.seed ≡ empty_memo }
     ensures { calls.new.setting ≡ calls.old.setting }
 {
-    for change in changes {
-        make(rt, alloc, calls, plain, methods, *change)?;
-        agree(rt, calls, plain);
+    'changes: for (step, change) in changes.iter().enumerate() {
+        make(rt, alloc, calls, plain, methods, *change, step)?;
+        agree(rt, calls, plain, step);
     }
     Ok(())
 }

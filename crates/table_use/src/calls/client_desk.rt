@@ -5,12 +5,13 @@ ghost use Rattle.rpc_ids.specs.declared.method.Role.TheVariants.{Client};
 ghost use Rattle.rpc_journal.specs.Lawful.{hears};
 
 use super::letters::Letter;
+use super::steps::Method;
 use bytes::Bytes;
 use rpc_calls::Calls;
 use rpc_channel::Channels;
 use rpc_handlers::{Maker, Nobody};
 use rpc_ids::{Kind, MethodRef, Registry, Role, Status};
-use rpc_journal::{Act, ArriveRefused, Arrived, InvokeRefused, SayRefused};
+use rpc_journal::{ArriveRefused, Arrived, InvokeRefused, SayRefused};
 use rpc_packet::{CallName, Packet, PacketType};
 use std::alloc::Global;
 use std::process::Abort;
@@ -23,16 +24,6 @@ pub struct Methods {
     pub count: MethodRef,
     pub sum: MethodRef,
     pub chat: MethodRef,
-}
-
-/// One of them, or one that the client doesn't know.
-#[derive(Clone, Copy)]
-pub enum Method {
-    Echo,
-    Count,
-    Sum,
-    Chat,
-    Unknown,
 }
 
 impl Methods {
@@ -169,16 +160,6 @@ pub fn done(rt: &impl Abort, calls: &mut Calls<Letter>, call: u32) -> Result<(),
     calls.done(2, call)
 }
 
-/// The type, the status and the length of the packet that goes out next.
-pub fn next_sent(calls: &mut Calls<Letter>) -> Option<(PacketType, Status, usize)>
-    ensures { calls.new.setting ≡ calls.old.setting }
-{
-    match calls.flush_front(1)?.act {
-        Act::Send(p) => Some((p.ptype, Status::of(p.status), p.payload.len())),
-        Act::Keep(_) | Act::LeaveCall => None,
-    }
-}
-
 /// The client asks for this call, with this answer.
 pub fn invokes(
     rt: &impl Abort,
@@ -187,11 +168,12 @@ pub fn invokes(
     name: CallName,
     ends: bool,
     want: Result<u32, InvokeRefused>,
+    step: usize,
 )
     requires { calls.old.setting.role ≡ Client }
     ensures { calls.new.setting ≡ calls.old.setting }
 {
-    assert_eq!(rt; invoke(rt, calls, alloc, name, ends), want);
+    assert_eq!(rt; invoke(rt, calls, alloc, name, ends), want, "step {step}");
 }
 
 /// The packet arrives, with this answer.
@@ -201,12 +183,13 @@ pub fn hears_from(
     alloc: Global,
     p: &Packet,
     want: Result<Arrived, ArriveRefused>,
+    step: usize,
 )
     requires role { calls.old.setting.role ≡ Client }
     requires seed { calls.old.setting.seed ≡ empty_memo }
     ensures { calls.new.setting ≡ calls.old.setting }
 {
-    assert_eq!(rt; arrive(rt, calls, alloc, p), want);
+    assert_eq!(rt; arrive(rt, calls, alloc, p), want, "step {step}");
 }
 
 /// The client ends its stream of this call, which must be there, with this answer.
@@ -215,28 +198,10 @@ pub fn completes(
     calls: &mut Calls<Letter>,
     call: u32,
     want: Result<(), SayRefused>,
+    step: usize,
 )
     requires { calls.old.setting.role ≡ Client }
     ensures { calls.new.setting ≡ calls.old.setting }
 {
-    assert_eq!(rt; done(rt, calls, call), want);
-}
-
-/// What goes out, by its type, its status and its length.
-pub type Sent = Option<(PacketType, Status, usize)>;
-
-/// The request of a call.
-pub const ITS_REQUEST: Sent = Some((PacketType::Request, Status::Okay, 1));
-
-/// A message of the client.
-pub const ITS_MESSAGE: Sent = Some((PacketType::ClientStream, Status::Okay, 1));
-
-/// The end of a stream.
-pub const ITS_COMPLETION: Sent = Some((PacketType::Completion, Status::Okay, 0));
-
-/// This goes out next.
-pub fn sends(rt: &impl Abort, calls: &mut Calls<Letter>, want: Sent)
-    ensures { calls.new.setting ≡ calls.old.setting }
-{
-    assert_eq!(rt; next_sent(calls), want);
+    assert_eq!(rt; done(rt, calls, call), want, "step {step}");
 }

@@ -4,12 +4,13 @@ ghost use Rattle.rpc_ids.specs.declared.method.Role.TheVariants.{Server};
 ghost use Rattle.rpc_journal.specs.Lawful.{hears};
 
 use super::letters::{Letter, Letters};
+use super::steps::Method;
 use bytes::Bytes;
 use rpc_calls::Calls;
 use rpc_channel::Channels;
 use rpc_handlers::Maker;
-use rpc_ids::{Kind, MethodRef, Registry, Role, Status};
-use rpc_journal::{Act, ArriveRefused, Arrived};
+use rpc_ids::{Kind, MethodRef, Registry, Role};
+use rpc_journal::{ArriveRefused, Arrived};
 use rpc_packet::{CallName, Packet, PacketType};
 use std::alloc::Global;
 use std::process::Abort;
@@ -23,22 +24,13 @@ pub struct Methods {
     pub chat: MethodRef,
 }
 
-/// One of them, or one that the server doesn't know.
-#[derive(Clone, Copy)]
-pub enum Method {
-    Echo,
-    Sum,
-    Chat,
-    Unknown,
-}
-
 impl Methods {
     pub fn of(self, method: Method) -> MethodRef {
         match method {
             Method::Echo => self.echo,
             Method::Sum => self.sum,
             Method::Chat => self.chat,
-            Method::Unknown => MethodRef {
+            Method::Count | Method::Unknown => MethodRef {
                 service: self.chat.service,
                 method: 7,
                 kind: Kind::Unary,
@@ -130,16 +122,6 @@ pub fn arrive(
     calls.arrive(0, p, maker)
 }
 
-/// The type and the status of the packet that goes out next.
-pub fn next_sent(calls: &mut Calls<Letter>) -> Option<(PacketType, Status)>
-    ensures { calls.new.setting ≡ calls.old.setting }
-{
-    match calls.flush_front(1)?.act {
-        Act::Send(p) => Some((p.ptype, Status::of(p.status))),
-        Act::Keep(_) | Act::LeaveCall => None,
-    }
-}
-
 /// The packet arrives, with this answer.
 pub fn arrives(
     rt: &impl Abort,
@@ -147,49 +129,11 @@ pub fn arrives(
     maker: &Letters,
     p: &Packet,
     want: Result<Arrived, ArriveRefused>,
+    step: usize,
 )
     requires role { calls.old.setting.role ≡ Server }
     requires seed { ⟦<Letters as Maker>⟧.seed_memo maker.now ≡ calls.old.setting.seed }
     ensures { calls.new.setting ≡ calls.old.setting }
 {
-    assert_eq!(rt; arrive(rt, calls, maker, p), want);
-}
-
-/// A request of this method opens the call of this number.
-pub fn opens(
-    rt: &impl Abort,
-    calls: &mut Calls<Letter>,
-    maker: &Letters,
-    method: MethodRef,
-    call: u32,
-)
-    requires role { calls.old.setting.role ≡ Server }
-    requires seed { ⟦<Letters as Maker>⟧.seed_memo maker.now ≡ calls.old.setting.seed }
-    ensures { calls.new.setting ≡ calls.old.setting }
-{
-    let request = packet_on(1, PacketType::Request, method);
-    arrives(rt, calls, maker, &request, Ok(Arrived::Opened(call)));
-}
-
-/// A message to the call of this method waits for the call of this number.
-pub fn queues(
-    rt: &impl Abort,
-    calls: &mut Calls<Letter>,
-    maker: &Letters,
-    method: MethodRef,
-    call: u32,
-)
-    requires role { calls.old.setting.role ≡ Server }
-    requires seed { ⟦<Letters as Maker>⟧.seed_memo maker.now ≡ calls.old.setting.seed }
-    ensures { calls.new.setting ≡ calls.old.setting }
-{
-    let message = packet_on(1, PacketType::ClientStream, method);
-    arrives(rt, calls, maker, &message, Ok(Arrived::Queued(call)));
-}
-
-/// This goes out next.
-pub fn sends(rt: &impl Abort, calls: &mut Calls<Letter>, want: Option<(PacketType, Status)>)
-    ensures { calls.new.setting ≡ calls.old.setting }
-{
-    assert_eq!(rt; next_sent(calls), want);
+    assert_eq!(rt; arrive(rt, calls, maker, p), want, "step {step}");
 }

@@ -1,44 +1,30 @@
 //! What a table takes and refuses when its journal is full.
-ghost use Rattle.std.specs.Prelude.{◌≡◌};
 
-use super::claims::{cancels, counts, length_is, ticks};
-use super::desk::{arrives, letters, open_table, opens, packet_on};
-use super::letters::{Letter, letter_of};
-use super::runs::{refuses, starts, starts_of};
-use rpc_calls::Calls;
+use super::server_steps::server_follows;
+use super::steps::Method::*;
+use super::steps::Step::*;
+use super::steps::{GOES_ON, Step};
 use rpc_ids::Status;
 use rpc_journal::{ArriveRefused, Cancelled, ReplaceRefused, StartOfRefused, StartRefused};
-use rpc_packet::PacketType;
-use std::process::Abort;
+use rpc_packet::PacketType::*;
 use std::test::Fail;
 
-// Ticks until the journal is full.
-fn fill(rt: &impl Abort, calls: &mut Calls<Letter>)
-    ensures { calls.new.setting ≡ calls.old.setting }
-{
-    for now in 0..999_999 {
-        assert!(rt; calls.tick(1, now).is_ok());
-    }
-}
+const A_FULL_JOURNAL: &[Step] = &[
+    Opens(Chat, 0),
+    TicksOften(999_999),
+    LengthIs(1_000_000),
+    Refuses(ClientStream, Chat, ArriveRefused::JournalFull),
+    Ticks(5, Err(StartRefused::JournalFull)),
+    Starts(Err(StartRefused::JournalFull)),
+    StartsCall(0, Err(StartOfRefused::JournalFull)),
+    RefusesHandler(0, b'n', ReplaceRefused::JournalFull),
+    Counts(1),
+    Cancels(2, 0, Cancelled::Quiet(Status::Cancelled)),
+    Starts(Ok(None)),
+    LengthIs(1_000_001),
+];
 
 #[test]
 fn a_full_journal_takes_only_what_is_never_refused(rt: HostRuntime) -> Result<(), Fail> {
-    let maker = letters(rt.alloc(), b'a', false);
-    let (mut calls, methods) = open_table(rt.alloc(), &maker)?;
-    opens(&rt, &mut calls, &maker, methods.chat, 0);
-    fill(&rt, &mut calls);
-    length_is(&rt, &calls, 1_000_000);
-    let message = packet_on(1, PacketType::ClientStream, methods.chat);
-    let full = Err(ArriveRefused::JournalFull);
-    arrives(&rt, &mut calls, &maker, &message, full);
-    ticks(&rt, &mut calls, 5, Err(StartRefused::JournalFull));
-    starts(&rt, &mut calls, Err(StartRefused::JournalFull));
-    starts_of(&rt, &mut calls, 0, Err(StartOfRefused::JournalFull));
-    let letter = letter_of(rt.alloc(), b'n');
-    refuses(&rt, &mut calls, 0, letter, ReplaceRefused::JournalFull);
-    counts(&rt, &calls, 1);
-    cancels(&rt, &mut calls, 2, 0, Cancelled::Quiet(Status::Cancelled));
-    starts(&rt, &mut calls, Ok(None));
-    length_is(&rt, &calls, 1_000_001);
-    Ok(())
+    server_follows(&rt, rt.alloc(), GOES_ON, A_FULL_JOURNAL)
 }

@@ -2,10 +2,15 @@
 ghost use Rattle.std.specs.Prelude.{◌≡◌};
 ghost use Rattle.rpc_ids.specs.declared.method.Role.TheVariants.{Server};
 
-use super::claims::{came_back, counts, length_is, none_waits, runs, ticks};
-use super::desk::{arrives, letters, open_table, opens, packet_on, queues, sends};
+use super::claims::{none_waits, sends, ticks};
+use super::desk::{arrives, letters, open_table, packet_on};
 use super::letters::{Letter, Letters};
-use super::runs::{ITS_END, ITS_LETTER, end_run, run_next, start_next, starts};
+use super::running::{run, run_of};
+use super::server_steps::server_follows;
+use super::steps::Method::*;
+use super::steps::Step::*;
+use super::steps::{GOES_ON, ITS_END, ITS_LETTER, Step};
+use super::taking::take_all;
 use rpc_calls::Calls;
 use rpc_handlers::Maker;
 use rpc_journal::Arrived;
@@ -19,12 +24,13 @@ fn answer(rt: &impl Abort, calls: &mut Calls<Letter>, maker: &Letters, request: 
     requires seed { ⟦<Letters as Maker>⟧.seed_memo maker.now ≡ calls.old.setting.seed }
     ensures { calls.new.setting ≡ calls.old.setting }
 {
-    arrives(rt, calls, maker, request, Ok(Arrived::Opened(call)));
-    none_waits(rt, calls, false);
-    came_back(rt, run_next(rt, calls, 2), Some(maker.letter));
-    none_waits(rt, calls, true);
-    sends(rt, calls, ITS_LETTER);
-    sends(rt, calls, ITS_END);
+    let step = call as usize;
+    arrives(rt, calls, maker, request, Ok(Arrived::Opened(call)), step);
+    none_waits(rt, calls, false, step);
+    run(rt, calls, Some(maker.letter), step);
+    none_waits(rt, calls, true, step);
+    sends(rt, calls, ITS_LETTER, step);
+    sends(rt, calls, ITS_END, step);
 }
 
 // A request arrives so often, and each time its call is answered with its end before the next one opens.
@@ -58,8 +64,9 @@ fn open_each(
 {
     for call in 0..count {
         request.name.call = call;
-        arrives(rt, calls, maker, &request, Ok(Arrived::Opened(call)));
-        came_back(rt, run_next(rt, calls, 2), None);
+        let step = call as usize;
+        arrives(rt, calls, maker, &request, Ok(Arrived::Opened(call)), step);
+        run(rt, calls, None, step);
     }
 }
 
@@ -68,9 +75,7 @@ fn run_each(rt: &impl Abort, calls: &mut Calls<Letter>, count: u32)
     ensures { calls.new.setting ≡ calls.old.setting }
 {
     for call in 0..count {
-        let running = start_next(rt, calls, 2);
-        runs(rt, &running, call);
-        came_back(rt, end_run(rt, calls, running), None);
+        run_of(rt, calls, call, None, call as usize);
     }
 }
 
@@ -80,12 +85,14 @@ fn twenty_thousand_open_calls_run_by_their_numbers(rt: HostRuntime) -> Result<()
     let (mut calls, methods) = open_table(rt.alloc(), &maker)?;
     let request = packet_on(1, PacketType::Request, methods.chat);
     open_each(&rt, &mut calls, &maker, request, 20_000);
-    ticks(&rt, &mut calls, 5, Ok(()));
-    none_waits(&rt, &calls, false);
+    ticks(&rt, &mut calls, 5, Ok(()), 0);
+    none_waits(&rt, &calls, false, 1);
     run_each(&rt, &mut calls, 20_000);
-    none_waits(&rt, &calls, true);
+    none_waits(&rt, &calls, true, 2);
     Ok(())
 }
+
+const AFTER_ALL: &[Step] = &[Counts(20_000), LengthIs(100_000), Starts(Ok(None))];
 
 #[test]
 fn twenty_thousand_calls_come_one_after_another(rt: HostRuntime) -> Result<(), Fail> {
@@ -93,45 +100,43 @@ fn twenty_thousand_calls_come_one_after_another(rt: HostRuntime) -> Result<(), F
     let (mut calls, methods) = open_table(rt.alloc(), &maker)?;
     let request = packet_on(1, PacketType::Request, methods.chat);
     answer_each(&rt, &mut calls, &maker, &request, 20_000);
-    counts(&rt, &calls, 20_000);
-    length_is(&rt, &calls, 100_000);
-    starts(&rt, &mut calls, Ok(None));
+    take_all(&rt, rt.alloc(), &mut calls, AFTER_ALL);
     Ok(())
 }
+
+const ONE_RUNS_AND_HEARS_MORE: &[Step] = &[
+    Opens(Chat, 0),
+    Opens(Sum, 1),
+    Opens(Echo, 2),
+    Runs(None),
+    Queues(Chat, 0),
+    Starts(Ok(Some(1))),
+    Starts(Ok(Some(2))),
+    NoneWaits(false),
+    Starts(Ok(Some(0))),
+    NoneWaits(true),
+    Starts(Ok(None)),
+];
 
 #[test]
 fn the_call_that_waits_longest_runs_first(rt: HostRuntime) -> Result<(), Fail> {
-    let maker = letters(rt.alloc(), b'a', false);
-    let (mut calls, methods) = open_table(rt.alloc(), &maker)?;
-    opens(&rt, &mut calls, &maker, methods.chat, 0);
-    opens(&rt, &mut calls, &maker, methods.sum, 1);
-    opens(&rt, &mut calls, &maker, methods.echo, 2);
-    came_back(&rt, run_next(&rt, &mut calls, 2), None);
-    queues(&rt, &mut calls, &maker, methods.chat, 0);
-    starts(&rt, &mut calls, Ok(Some(1)));
-    starts(&rt, &mut calls, Ok(Some(2)));
-    none_waits(&rt, &calls, false);
-    starts(&rt, &mut calls, Ok(Some(0)));
-    none_waits(&rt, &calls, true);
-    starts(&rt, &mut calls, Ok(None));
-    Ok(())
+    server_follows(&rt, rt.alloc(), GOES_ON, ONE_RUNS_AND_HEARS_MORE)
 }
+
+const TWO_HEAR_ONE_TICK: &[Step] = &[
+    Opens(Chat, 0),
+    OpensAs(2, Chat, 1),
+    Runs(None),
+    Runs(None),
+    Opens(Echo, 2),
+    Ticks(5, Ok(())),
+    Starts(Ok(Some(2))),
+    Starts(Ok(Some(0))),
+    Starts(Ok(Some(1))),
+    Starts(Ok(None)),
+];
 
 #[test]
 fn calls_that_wait_since_one_tick_run_by_their_numbers(rt: HostRuntime) -> Result<(), Fail> {
-    let maker = letters(rt.alloc(), b'a', false);
-    let (mut calls, methods) = open_table(rt.alloc(), &maker)?;
-    let mut second = packet_on(1, PacketType::Request, methods.chat);
-    second.name.call = 2;
-    opens(&rt, &mut calls, &maker, methods.chat, 0);
-    arrives(&rt, &mut calls, &maker, &second, Ok(Arrived::Opened(1)));
-    came_back(&rt, run_next(&rt, &mut calls, 2), None);
-    came_back(&rt, run_next(&rt, &mut calls, 2), None);
-    opens(&rt, &mut calls, &maker, methods.echo, 2);
-    ticks(&rt, &mut calls, 5, Ok(()));
-    starts(&rt, &mut calls, Ok(Some(2)));
-    starts(&rt, &mut calls, Ok(Some(0)));
-    starts(&rt, &mut calls, Ok(Some(1)));
-    starts(&rt, &mut calls, Ok(None));
-    Ok(())
+    server_follows(&rt, rt.alloc(), GOES_ON, TWO_HEAR_ONE_TICK)
 }

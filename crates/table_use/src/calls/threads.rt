@@ -1,10 +1,12 @@
 //! A table goes to another thread and comes back.
 ghost use Rattle.std.specs.Prelude.{◌≡◌};
 
-use super::claims::{counts, waits};
-use super::desk::{letters, open_table, opens, sends};
 use super::letters::Letter;
-use super::runs::{ITS_LETTER, run_next};
+use super::server_steps::server_behind;
+use super::steps::Method::*;
+use super::steps::Step::*;
+use super::steps::{GOES_ON, ITS_LETTER, Step};
+use super::taking::take_all;
 use rpc_calls::Calls;
 use rpc_journal::StartRefused;
 use std::test::Fail;
@@ -18,17 +20,16 @@ fn ticked(mut calls: Calls<Letter>) -> (Calls<Letter>, Result<(), StartRefused>)
     (calls, told)
 }
 
+const ONE_CALL: &[Step] = &[Opens(Chat, 0)];
+
+const BEHIND_THE_TICK: &[Step] = &[Counts(1), Waits(0, 2), Runs(None), Sends(ITS_LETTER)];
+
 #[test]
 fn a_table_works_on_two_threads(rt: HostRuntime) -> Result<(), Fail> {
-    let maker = letters(rt.alloc(), b'a', false);
-    let (mut calls, methods) = open_table(rt.alloc(), &maker)?;
-    opens(&rt, &mut calls, &maker, methods.chat, 0);
+    let calls = server_behind(&rt, rt.alloc(), GOES_ON, ONE_CALL)?;
     let (back, ()) = join(&rt, move || ticked(calls), || ());
     let (mut calls, told) = back;
     assert_eq!(rt; told, Ok(()));
-    counts(&rt, &calls, 1);
-    waits(&rt, &calls, 0, 2);
-    let _ = run_next(&rt, &mut calls, 2);
-    sends(&rt, &mut calls, ITS_LETTER);
+    take_all(&rt, rt.alloc(), &mut calls, BEHIND_THE_TICK);
     Ok(())
 }

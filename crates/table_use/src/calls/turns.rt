@@ -4,7 +4,7 @@ ghost use Rattle.std.specs.Prelude.{◌≡◌};
 use super::claims::{cancels, closes, counts, length_is, runs, status_is, ticks, waits};
 use super::letters::Letter;
 use super::plain::{Made, Plain, made_of};
-use super::runs::{end_input, end_run, start_next, starts};
+use super::running::{end_input, end_run, start_next, starts};
 use rpc_calls::Calls;
 use rpc_ids::Status;
 use rpc_journal::{Act, Journal, ReplaceRefused, check};
@@ -49,16 +49,16 @@ pub fn handler(alloc: Global, ends: bool) -> Letter {
 }
 
 // The call that is ready first runs.
-fn both_run(rt: &impl Abort, calls: &mut Calls<Letter>, want: Option<u32>)
+fn both_run(rt: &impl Abort, calls: &mut Calls<Letter>, want: Option<u32>, step: usize)
     ensures { calls.new.setting ≡ calls.old.setting }
 {
     match want {
         Some(call) => {
-            let running = start_next(rt, calls, 2);
-            runs(rt, &running, call);
+            let running = start_next(rt, calls, step);
+            runs(rt, &running, call, step);
             let _ = end_run(rt, calls, running);
         }
-        None => starts(rt, calls, Ok(None)),
+        None => starts(rt, calls, Ok(None), step),
     }
 }
 
@@ -69,6 +69,7 @@ fn replaces(
     call: u32,
     handler: Letter,
     want: Result<(), ReplaceRefused>,
+    step: usize,
 )
     ensures { calls.new.setting ≡ calls.old.setting }
 {
@@ -76,7 +77,7 @@ fn replaces(
         Ok(_) => Ok(()),
         Err((_, refusal)) => Err(refusal),
     };
-    assert_eq!(rt; got, want);
+    assert_eq!(rt; got, want, "step {step}");
 }
 
 /// The change is made to both, with the same answer.
@@ -87,52 +88,53 @@ pub fn take_turn(
     plain: &mut Plain,
     ends: bool,
     turn: Turn,
+    step: usize,
 ) -> Result<(), AllocError>
     ensures { calls.new.setting ≡ calls.old.setting }
 {
     match turn {
         Turn::Runs => {
-            both_run(rt, calls, plain.run(2, &mut handler(alloc, ends))?);
+            both_run(rt, calls, plain.run(2, &mut handler(alloc, ends))?, step);
             Ok(())
         }
         Turn::Begins => {
-            starts(rt, calls, Ok(plain.start(2)?));
+            starts(rt, calls, Ok(plain.start(2)?), step);
             Ok(())
         }
         Turn::Cancels(call) => {
-            cancels(rt, calls, 3, call, plain.cancel(3, call)?);
+            cancels(rt, calls, 3, call, plain.cancel(3, call)?, step);
             Ok(())
         }
         Turn::Ticks(now) => {
             plain.tick(now)?;
-            ticks(rt, calls, now, Ok(()));
+            ticks(rt, calls, now, Ok(()), step);
             Ok(())
         }
         Turn::InputEnds => {
             plain.end_in()?;
-            end_input(rt, calls);
+            end_input(rt, calls, step);
             Ok(())
         }
         Turn::Replaces(call) => {
             let want = plain.replace(2, call)?;
-            replaces(rt, calls, call, handler(alloc, ends), want);
+            replaces(rt, calls, call, handler(alloc, ends), want, step);
             Ok(())
         }
         Turn::Closes(channel) => {
-            closes(rt, calls, channel, plain.close_channel(2, channel)?);
+            closes(rt, calls, channel, plain.close_channel(2, channel)?, step);
             Ok(())
         }
     }
 }
 
 /// Both tell the same of their calls, and have as many entries.
-pub fn agree(rt: &impl Abort, calls: &Calls<Letter>, plain: &Plain) {
-    counts(rt, calls, plain.count());
+pub fn agree(rt: &impl Abort, calls: &Calls<Letter>, plain: &Plain, step: usize) {
+    counts(rt, calls, plain.count(), step);
     for call in 0..plain.count() {
-        status_is(rt, calls, call, plain.status(call));
-        waits(rt, calls, call, plain.waiting(call));
+        status_is(rt, calls, call, plain.status(call), step);
+        waits(rt, calls, call, plain.waiting(call), step);
     }
-    length_is(rt, calls, plain.made().len() as u64);
+    length_is(rt, calls, plain.made().len() as u64, step);
 }
 
 // What goes out next.
@@ -204,7 +206,7 @@ pub fn same_journal(
         entry_is(rt, journal, at, *made);
         at = at.saturating_add(1);
     }
-    length_is(rt, calls, at);
+    length_is(rt, calls, at, at as usize);
     let fault = check(
         alloc,
         journal,

@@ -2,7 +2,7 @@ use Rattle.std.proofs.Common.{arith}
 use Rattle.rpc_journal.specs.ChangeLaws.{AddsBySeat}
 use Rattle.rpc_journal.proofs.ChangeLemmas.{adds_by_seat}
 use Rattle.rpc_calls.proofs.RunsStand.{run_goes_on}
-use Rattle.table_use.proofs.calls.runs.replace_meanwhile.Goals as goal
+use Rattle.table_use.proofs.calls.running.replace_meanwhile.Goals as goal
 
 pub returns-clause-on : goal.returns-clause-on
 returns-clause-on c =

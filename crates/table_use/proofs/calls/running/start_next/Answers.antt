@@ -1,6 +1,6 @@
 use Rattle.rpc_journal.specs.Ran.{run_in}
 use Rattle.rpc_calls.proofs.RunsStand.{run_started}
-use Rattle.table_use.proofs.calls.runs.start_next.Goals as goal
+use Rattle.table_use.proofs.calls.running.start_next.Goals as goal
 
 pub returns-clause-on : goal.returns-clause-on
 returns-clause-on g c =
