@@ -10,9 +10,19 @@ use rpc_ids::Status;
 use rpc_journal::{Act, Cancelled, CloseRefused, StartRefused};
 use std::process::Abort;
 
+// It is so.
+fn is_so(rt: &impl Abort, fact: bool, step: usize) {
+    assert!(rt; fact, "step {step}");
+}
+
+// A count, a number or a letter is this.
+fn number_is(rt: &impl Abort, number: u64, want: u64, step: usize) {
+    assert_eq!(rt; number, want, "step {step}");
+}
+
 /// It has so many calls.
 pub fn counts(rt: &impl Abort, calls: &Calls<Letter>, want: u32, step: usize) {
-    assert_eq!(rt; calls.count(), want, "step {step}");
+    number_is(rt, u64::from(calls.count()), u64::from(want), step);
 }
 
 /// This call, which must be there, has ended so, or lives.
@@ -30,22 +40,22 @@ pub fn status_is(
 /// So many events wait for this call, which must be there.
 pub fn waits(rt: &impl Abort, calls: &Calls<Letter>, call: u32, want: u32, step: usize) {
     assert!(rt; call < calls.count(), "step {step}");
-    assert_eq!(rt; calls.waiting(call), want, "step {step}");
+    number_is(rt, u64::from(calls.waiting(call)), u64::from(want), step);
 }
 
 /// Whether no event waits.
 pub fn none_waits(rt: &impl Abort, calls: &Calls<Letter>, want: bool, step: usize) {
-    assert_eq!(rt; calls.none_waiting(), want, "step {step}");
+    is_so(rt, calls.none_waiting() == want, step);
 }
 
 /// Whether nothing is left to do.
 pub fn settles(rt: &impl Abort, calls: &Calls<Letter>, want: bool, step: usize) {
-    assert_eq!(rt; calls.settled(), want, "step {step}");
+    is_so(rt, calls.settled() == want, step);
 }
 
 /// Its journal has so many entries.
 pub fn length_is(rt: &impl Abort, calls: &Calls<Letter>, want: u64, step: usize) {
-    assert_eq!(rt; calls.journal().len(), want, "step {step}");
+    number_is(rt, calls.journal().len(), want, step);
 }
 
 /// Why it halted, or that it didn't.
@@ -113,7 +123,7 @@ pub fn closes(
 
 /// The handler is one of this letter.
 pub fn letter_is(rt: &impl Abort, letter: &Letter, want: u8, step: usize) {
-    assert_eq!(rt; letter.letter, want, "step {step}");
+    number_is(rt, u64::from(letter.letter), u64::from(want), step);
 }
 
 /// The handler came back with this letter, or didn't.
@@ -127,17 +137,17 @@ pub fn came_back(rt: &impl Abort, back: Option<Letter>, want: Option<u8>, step: 
 
 /// It is a run of this call.
 pub fn runs(rt: &impl Abort, running: &Running<Letter>, call: u32, step: usize) {
-    assert_eq!(rt; running.call_number(), call, "step {step}");
+    number_is(rt, u64::from(running.call_number()), u64::from(call), step);
 }
 
 /// This seat runs it.
 pub fn seat_is(rt: &impl Abort, running: &Running<Letter>, want: u32, step: usize) {
-    assert_eq!(rt; running.seat(), want, "step {step}");
+    number_is(rt, u64::from(running.seat()), u64::from(want), step);
 }
 
 /// It began with this entry of the journal.
 pub fn place_is(rt: &impl Abort, running: &Running<Letter>, want: u64, step: usize) {
-    assert_eq!(rt; running.place(), want, "step {step}");
+    number_is(rt, running.place(), want, step);
 }
 
 // Whether an event is what a handler hears.
@@ -151,5 +161,5 @@ fn is_heard(event: &Event, heard: Heard) -> bool {
 
 /// The handler is to hear this.
 pub fn hears(rt: &impl Abort, running: &Running<Letter>, want: Heard, step: usize) {
-    assert!(rt; is_heard(running.event(), want), "step {step}");
+    is_so(rt, is_heard(running.event(), want), step);
 }
